@@ -62,10 +62,12 @@ all_args P [] each k d lt = absurd (omega arith)
 all_args P (x ∷ xs) each zero d lt = each.0
 all_args P (x ∷ xs) each (suc k) d lt = all_args P xs each.1 k d (omega arith)
 
-arg_at : (P : Rule → Type 0) (xs : List Arg) → AllByRecursion P (map rule_of xs) → (k : ℕ) (a : Arg) → k < length xs → slice_index_or xs k a ≡ a → P (rule_of a)
+arg_at : (P : Rule → Type 0) (xs : List Arg) → AllByRecursion P (map rule_of xs) → (k : ℕ) (a : Arg) → k < length xs
+    → slice_index_or xs k a ≡ a → P (rule_of a)
 arg_at P xs each k a lt at = subst (λ (x : Arg). P (rule_of x)) at (all_args P xs each k a lt)
 
-pub rule_at : (xs : List Arg) (k : ℕ) (d : Arg) (r : Rule) → k < length xs → rule_of (slice_index_or xs k d) ≡ slice_index_or (map rule_of xs) k r
+pub rule_at : (xs : List Arg) (k : ℕ) (d : Arg) (r : Rule) → k < length xs
+    → rule_of (slice_index_or xs k d) ≡ slice_index_or (map rule_of xs) k r
 rule_at [] k d r lt = absurd (omega arith)
 rule_at (x ∷ xs) zero d r lt = refl
 rule_at (x ∷ xs) (suc k) d r lt = rule_at xs k d r (omega arith)
@@ -81,8 +83,12 @@ plain_arg : (a : Arg) → IsPlainRule (rule_of a) → IsPlainArg a
 plain_arg a is =
     let simple = both _ _ is.0 in
     let more = both _ _ (both _ _ simple.1).1 in
-    let free = both _ _ is.1 in
-    (not_true a.exclusive free.0, none_in a.conflicts.items (both _ _ free.1).0, none_in a.overrides.items simple.0, none_in a.groups.items more.0)
+    let free = both _ _ is.1 in (
+      not_true a.exclusive free.0,
+      none_in a.conflicts.items (both _ _ free.1).0,
+      none_in a.overrides.items simple.0,
+      none_in a.groups.items more.0,
+    )
 
 no_delimiter : (a : Arg) → (rule_of a).is_simple ≡ true → is_some a.val_delim ≡ false
 no_delimiter a is =
@@ -106,11 +112,13 @@ IsParsedBy id parser rule = bytes_eq rule.id id ≡ true → parser_of_value rul
 
 -- Whether `rule`, if it has this id, takes at least one value each time it is given, and doesn't count how often.
 abbrev pub TakesWords : Text → Rule → Type 0
-TakesWords id rule = bytes_eq rule.id id ≡ true → (unwrap_or rule.action Set ≡ Append) × ((unwrap_or_range rule.range).start_inclusive ≡ 1) × (rule.is_simple ≡ true)
+TakesWords id rule = bytes_eq rule.id id ≡ true
+    → (unwrap_or rule.action Set ≡ Append) × ((unwrap_or_range rule.range).start_inclusive ≡ 1) × (rule.is_simple ≡ true)
 
 -- Whether `text` was read from a text that `parser` accepts.
 abbrev pub IsAccepted : ValueParser → Text → Type 0
-IsAccepted parser text = (written : Text) × (text ≡ read_as (reading_of parser) written) × (ignore_case : Bool) × Accepts ignore_case parser written
+IsAccepted parser text = (written : Text) × (text ≡ read_as (reading_of parser) written) × (ignore_case : Bool)
+    × Accepts ignore_case parser written
 
 module _ (c : Command) (id : Text) (no_groups : groups_of c ≡ []) (named : id ≡ [] → ⊥) where
   own : (e : Entry) → e.0.now ≡ id → EntryPasses c e → e.1.is_group ≡ true → ⊥
@@ -121,24 +129,40 @@ module _ (c : Command) (id : Text) (no_groups : groups_of c ≡ []) (named : id 
         omega arith
   ]
 
-  first_accepted : (parser : ValueParser) → AllByRecursion (IsParsedBy id parser) (map rule_of (args_of c)) → (how : Reading) → how ≡ reading_of parser
-      → (vs : List (Bor Text)) → All (λ v. PassesArg c id v.now) vs → IfSome (option_map (λ v. read_as how v.now) (slice_get vs 0)) (IsAccepted parser)
+  first_accepted : (parser : ValueParser) → AllByRecursion (IsParsedBy id parser) (map rule_of (args_of c)) → (how : Reading)
+      → how ≡ reading_of parser
+      → (vs : List (Bor Text)) → All (λ v. PassesArg c id v.now) vs
+      → IfSome (option_map (λ v. read_as how v.now) (slice_get vs 0)) (IsAccepted parser)
   first_accepted parser rules how is [] all = tt
   first_accepted parser rules how is (v ∷ vs) all =
       let arg = all 0 v (omega arith) in
-      let same : parser_of_value arg.1.value_parser ≡ parser = arg_at (IsParsedBy id parser) (args_of c) rules arg.0 arg.1 arg.2 arg.3 arg.4.0 in
-      (v.now, ap (λ (h : Reading). read_as h v.now) is, arg.1.ignore_case, subst (λ (p : ValueParser). Accepts arg.1.ignore_case p v.now) same arg.4.1)
+      let same : parser_of_value arg.1.value_parser ≡ parser =
+      arg_at (IsParsedBy id parser) (args_of c) rules arg.0 arg.1 arg.2 arg.3 arg.4.0 in (
+        v.now,
+        ap (λ (h : Reading). read_as h v.now) is,
+        arg.1.ignore_case,
+        subst
+            (λ (p : ValueParser). Accepts arg.1.ignore_case p v.now) same arg.4.1,
+      )
 
-  entry_accepted : (parser : ValueParser) → AllByRecursion (IsParsedBy id parser) (map rule_of (args_of c)) → (e : Entry) → e.0.now ≡ id → EntryPasses c e
+  entry_accepted : (parser : ValueParser) → AllByRecursion (IsParsedBy id parser) (map rule_of (args_of c)) → (e : Entry) → e.0.now ≡ id
+      → EntryPasses c e
       → IfSome (option_map (λ v. read_as e.1.reading v.now) (slice_get e.1.vals.items 0)) (IsAccepted parser)
   entry_accepted parser rules e key pass =
-      let values : All (λ v. PassesArg c id v.now) e.1.vals.items = elim pass.0 [ inl group ↦ absurd (own e key pass group) | inr all ↦ subst (λ (w : Text). All (λ v. PassesArg c w v.now) e.1.vals.items) key all ] in
+      let values : All (λ v. PassesArg c id v.now) e.1.vals.items =
+      elim pass.0 [
+        | inl group ↦ absurd (own e key pass group)
+        | inr all ↦ subst
+            (λ (w : Text). All (λ v. PassesArg c w v.now) e.1.vals.items) key all
+      ] in
       let arg : HasReading c e.0.now e.1.reading = elim pass.4 [ inl group ↦ absurd (own e key pass group) | inr any ↦ any ] in
-      let same : parser_of_value arg.1.value_parser ≡ parser = arg_at (IsParsedBy id parser) (args_of c) rules arg.0 arg.1 arg.2 arg.3 (rw key at arg.4.0) in
+      let same : parser_of_value arg.1.value_parser ≡ parser =
+      arg_at (IsParsedBy id parser) (args_of c) rules arg.0 arg.1 arg.2 arg.3 (rw key at arg.4.0) in
       first_accepted parser rules e.1.reading (sym arg.4.1 ∙ ap reading_of same) e.1.vals.items values
 
   -- The text found for the id was accepted by its parser.
-  text_accepted : (parser : ValueParser) → AllByRecursion (IsParsedBy id parser) (map rule_of (args_of c)) → (f : Found) → ValuesPass c f → IfSome (one_text f id) (IsAccepted parser)
+  text_accepted : (parser : ValueParser) → AllByRecursion (IsParsedBy id parser) (map rule_of (args_of c)) → (f : Found) → ValuesPass c f
+      → IfSome (one_text f id) (IsAccepted parser)
   text_accepted parser rules f values = go (matched_of f id) refl
     where
       go : (o : Option MatchedArg) → matched_of f id ≡ o → IfSome (one_text f id) (IsAccepted parser)
@@ -148,7 +172,8 @@ module _ (c : Command) (id : Text) (no_groups : groups_of c ≡ []) (named : id 
           let is = entry_accepted parser rules e.0 ((bytes_eq-Decides e.0.0.now id).0 e.2) e.3 in
           rw (at, ← e.1) is
 
-  entry_filled : AllByRecursion (TakesWords id) (map rule_of (args_of c)) → (e : Entry) → e.0.now ≡ id → EntryPasses c e → 0 < length e.1.vals.items
+  entry_filled : AllByRecursion (TakesWords id) (map rule_of (args_of c)) → (e : Entry) → e.0.now ≡ id → EntryPasses c e
+      → 0 < length e.1.vals.items
   entry_filled rules e key pass = elim pass.1 [
     | inl group ↦ absurd (own e key pass group.0)
     | inr (inl some) ↦ some
@@ -226,14 +251,19 @@ module _ (app : App) (settings : IsPlainApp app) (old new : Command) (m : ArgMat
   pub holds : (P : Rule → Type 0) → HoldsOfBoth app P → AllByRecursion P (map rule_of (args_of new))
   holds P h = elim parse.after [
     | inl same ↦ subst (AllByRecursion P) (sym (ap (λ (a : App). a.top.rules) (same ∙ parse.begins))) h.0
-    | inr made ↦ subst (AllByRecursion P) (sym (ap (λ (a : App). a.top.rules) (made (ap is_buildable parse.begins ∙ settings.1) ∙ ap built parse.begins))) h.1
+    | inr made ↦ subst (AllByRecursion P)
+        (sym (ap (λ (a : App). a.top.rules) (made (ap is_buildable parse.begins ∙ settings.1) ∙ ap built parse.begins))) h.1
   ]
 
   pub plain_command : (groups_of old ≡ []) × ((out-Command old).has_globals ≡ false)
   plain_command = plain_settings old (ap (λ (a : App). a.top.is_plain) parse.begins ∙ settings.0)
 
   pub plain : IsPlain old
-  plain = (λ k d lt. plain_arg (slice_index_or (args_of old) k d) (all_args IsPlainRule (args_of old) (subst (AllByRecursion IsPlainRule) (sym old_rules) settings.2) k d lt), plain_command.0)
+  plain = (
+    λ k d lt. plain_arg (slice_index_or (args_of old) k d)
+        (all_args IsPlainRule (args_of old) (subst (AllByRecursion IsPlainRule) (sym old_rules) settings.2) k d lt),
+    plain_command.0,
+  )
 
   values : ValuesPass new (found_of m)
   values = (parse.parsed (parse.builds.globals ∙ plain_command.1)).values
@@ -242,14 +272,17 @@ module _ (app : App) (settings : IsPlainApp app) (old new : Command) (m : ArgMat
   groups = (parse.builds.plain plain).1
 
   -- The text of an option was accepted by its parser.
-  pub sound_text : (parser : ValueParser) (id : Text) → (id ≡ [] → ⊥) → HoldsOfBoth app (IsParsedBy id parser) → IfSome (one_of id (rows_of (found_of m))) (IsAccepted parser)
+  pub sound_text : (parser : ValueParser) (id : Text) → (id ≡ [] → ⊥) → HoldsOfBoth app (IsParsedBy id parser)
+      → IfSome (one_of id (rows_of (found_of m))) (IsAccepted parser)
   sound_text parser id named rules =
-      subst (λ (o : Option Text). IfSome o (IsAccepted parser)) (one_text-rows (found_of m) id) (text_accepted new id groups named parser (holds _ rules) (found_of m) values)
+      subst (λ (o : Option Text). IfSome o (IsAccepted parser)) (one_text-rows (found_of m) id)
+      (text_accepted new id groups named parser (holds _ rules) (found_of m) values)
 
   pub sound_flag : (id : Text) → (id ≡ [] → ⊥) → HoldsOfBoth app (IsParsedBy id vp.Bool) → IsFlag id (rows_of (found_of m))
   sound_flag id named rules = weaker _ _ _ flag_text (sound_text vp.Bool id named rules)
 
-  pub sound_number : (max : ℕ) (id : Text) → (id ≡ [] → ⊥) → HoldsOfBoth app (IsParsedBy id (vp.Signed (pos 1) (pos max))) → IsNumber max id (rows_of (found_of m))
+  pub sound_number : (max : ℕ) (id : Text) → (id ≡ [] → ⊥) → HoldsOfBoth app (IsParsedBy id (vp.Signed (pos 1) (pos max)))
+      → IsNumber max id (rows_of (found_of m))
   sound_number max id named rules = weaker _ _ _ (number_text max) (sound_text _ id named rules)
 
   pub sound_words : (id : Text) → (id ≡ [] → ⊥) → HoldsOfBoth app (TakesWords id) → is_some (matched_of (found_of m) id) ≡ true
@@ -263,7 +296,8 @@ app_after old new (inl broken) whole = absurd (whole broken)
 app_after old new (inr builds) whole = builds.2
 
 -- The fault as which an error of a parse is reported, if there is at most one kind.
-fault_is : (kinds : Kinds) → length kinds ≤ 1 → (e : Error) → HasKind kinds e → (fault_of_kind (kind_of e) ≡ OutOfMemory) ⊎ (fault_of_first kinds ≡ Some (fault_of_kind (kind_of e)))
+fault_is : (kinds : Kinds) → length kinds ≤ 1 → (e : Error) → HasKind kinds e
+    → (fault_of_kind (kind_of e) ≡ OutOfMemory) ⊎ (fault_of_first kinds ≡ Some (fault_of_kind (kind_of e)))
 fault_is kinds one e (inl memory) = inl (ap fault_of_kind memory)
 fault_is kinds one e (inr among) = inr (go kinds one among)
   where
@@ -274,18 +308,21 @@ fault_is kinds one e (inr among) = inr (go kinds one among)
     go (k ∷ l ∷ ks) one (inr more) = absurd (omega arith)
 
 -- A parse returns sound rows, or an error that is reported as the fault of the arguments.
-module _ (app : App) (Sound : List Row → Type 0) (sound : (old new : Command) (m : ArgMatches) → IsParse app old new m → Sound (rows_of (found_of m)))
+module _ (app : App) (Sound : List Row → Type 0)
+    (sound : (old new : Command) (m : ArgMatches) → IsParse app old new m → Sound (rows_of (found_of m)))
     (answer : Result ArgMatches Error) where
   pub sound_if_ok : (old new : Command) (More : ArgMatches → Type 0) → app_of old ≡ app → BuildsOrBreaks old new
       → (is_broken new ≡ true → IsErrAnd answer (λ e. kind_of e ≡ kind.OutOfMemory))
-      → IfOk answer (λ m. BuildsTo old new × ((out-Command new).has_globals ≡ false → IsParsed new (found_of m) (has_subcommand m)) × More m)
+      → IfOk answer (λ m. BuildsTo old new × ((out-Command new).has_globals ≡ false → IsParsed new (found_of m) (has_subcommand m))
+      × More m)
       → IfOk answer (λ m. Sound (rows_of (found_of m)))
   sound_if_ok old new More is after fails ok = go answer fails ok
     where
       go : (r : Result ArgMatches Error) → (is_broken new ≡ true → IsErrAnd r (λ e. kind_of e ≡ kind.OutOfMemory))
           → IfOk r (λ m. BuildsTo old new × ((out-Command new).has_globals ≡ false → IsParsed new (found_of m) (has_subcommand m)) × More m)
           → IfOk r (λ m. Sound (rows_of (found_of m)))
-      go (Ok m) whole parsed = sound old new m (record { begins = is; builds = parsed.0; after = app_after old new after whole; parsed = parsed.1 })
+      go (Ok m) whole parsed = sound old new m
+          (record { begins = is; builds = parsed.0; after = app_after old new after whole; parsed = parsed.1 })
       go (Err e) whole parsed = tt
 
 module _ (kinds : Kinds) (answer : Result ArgMatches Error) where
@@ -302,17 +339,21 @@ module _ (kinds : Kinds) (answer : Result ArgMatches Error) where
         → IfErr result (λ fault. (fault ≡ OutOfMemory) ⊎ (fault_of_first kinds ≡ Some fault))
     fault_if_err gives fails = go answer result mapped fails
       where
-        go : (a : Result ArgMatches Error) (r : Result ArgMatches WordsFault) → MatchResult a (λ m. r ≡ Ok m) (λ e. IsErrAnd r (Maps e)) → FailsBy kinds a
+        go : (a : Result ArgMatches Error) (r : Result ArgMatches WordsFault) → MatchResult a (λ m. r ≡ Ok m) (λ e. IsErrAnd r (Maps e))
+            → FailsBy kinds a
             → IfErr r (λ fault. (fault ≡ OutOfMemory) ⊎ (fault_of_first kinds ≡ Some fault))
         go (Ok m) r is among = subst (λ x. IfErr x (λ fault. (fault ≡ OutOfMemory) ⊎ (fault_of_first kinds ≡ Some fault))) (sym is) tt
         go (Err e) (Ok m) is among = absurd is
-        go (Err e) (Err f) is among = subst (λ fault. (fault ≡ OutOfMemory) ⊎ (fault_of_first kinds ≡ Some fault)) (sym (gives e f is)) (fault_is kinds one e among)
+        go (Err e) (Err f) is among = subst (λ fault. (fault ≡ OutOfMemory) ⊎ (fault_of_first kinds ≡ Some fault)) (sym (gives e f is))
+            (fault_is kinds one e among)
 
 -- What a parse by a command returns, once its error is converted: the command has the rules of `app`.
-module _ (app : App) (exact : (is_simple app ≡ true) × (is_simple_and_free app ≡ true)) (old : Command) (begins : app_of old ≡ app) (words : List Text)
+module _ (app : App) (exact : (is_simple app ≡ true) × (is_simple_and_free app ≡ true)) (old : Command) (begins : app_of old ≡ app)
+    (words : List Text)
     (answer : Result ArgMatches Error) (Maps : Error → WordsFault → Type 0) (result : Result ArgMatches WordsFault)
     (mapped : MatchResult answer (λ m. result ≡ Ok m) (λ e. IsErrAnd result (Maps e))) where
-  pub converted_entries : (A B : ArgMatches → Type 0) → IfOk answer (λ m. A m × B m × HasMatchesOf (app_of old) words m) → IfOk result (λ m. rows_of (found_of m) ≡ matches_of app words)
+  pub converted_entries : (A B : ArgMatches → Type 0) → IfOk answer (λ m. A m × B m × HasMatchesOf (app_of old) words m)
+      → IfOk result (λ m. rows_of (found_of m) ≡ matches_of app words)
   converted_entries A B found =
       map_err_if_ok answer Maps result mapped _ (IfOk-weaker answer _ (λ m. rows_of (found_of m) ≡ matches_of app words)
       (λ m has. (has.2 (ap is_simple begins ∙ exact.0)).0 ∙ ap (λ (a : App). matches_of a words) begins) found)
@@ -324,6 +365,7 @@ module _ (app : App) (exact : (is_simple app ≡ true) × (is_simple_and_free ap
     pub converted_no_fault : IfOk result (λ _. fault_of_first (fault_of app words) ≡ None)
     converted_no_fault = map_err_if_ok answer Maps result mapped _ (no_fault_if_ok (fault_of app words) answer fails)
 
-    pub converted_fault : length (fault_of app words) ≤ 1 → ((e : Error) (fault : WordsFault) → Maps e fault → fault ≡ fault_of_kind (kind_of e))
+    pub converted_fault : length (fault_of app words) ≤ 1
+        → ((e : Error) (fault : WordsFault) → Maps e fault → fault ≡ fault_of_kind (kind_of e))
         → IfErr result (λ fault. (fault ≡ OutOfMemory) ⊎ (fault_of_first (fault_of app words) ≡ Some fault))
     converted_fault one gives = fault_if_err (fault_of app words) answer one Maps result mapped gives fails

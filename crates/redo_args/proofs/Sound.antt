@@ -24,42 +24,73 @@ use Rattle.redo_args.proofs.ParseLemmas.{HoldsOfBoth, IsParse, IsParsedBy, IsPla
 
 recursive-parsed : HoldsOfBoth redo_log (IsParsedBy (codes "recursive") vp.Bool)
 unfolding redo_log
-recursive-parsed = ((λ _. refl, (other, (other, (other, (other, (other, (other, (other, (other, tt))))))))), (λ _. refl, (other, (other, (other, (other, (other, (other, (other, (other, (other, tt)))))))))))
+recursive-parsed = (
+  (λ _. refl, (other, (other, (other, (other, (other, (other, (other, (other, tt))))))))),
+  (λ _. refl, (other, (other, (other, (other, (other, (other, (other, (other, (other, tt)))))))))),
+)
 
 unchanged-parsed : HoldsOfBoth redo_log (IsParsedBy (codes "unchanged") vp.Bool)
 unfolding redo_log
-unchanged-parsed = ((other, (λ _. refl, (other, (other, (other, (other, (other, (other, (other, tt))))))))), (other, (λ _. refl, (other, (other, (other, (other, (other, (other, (other, (other, tt)))))))))))
+unchanged-parsed = (
+  (other, (λ _. refl, (other, (other, (other, (other, (other, (other, (other, tt))))))))),
+  (other, (λ _. refl, (other, (other, (other, (other, (other, (other, (other, (other, tt)))))))))),
+)
 
 details-parsed : HoldsOfBoth redo_log (IsParsedBy (codes "details") vp.Bool)
 unfolding redo_log
-details-parsed = ((other, (other, (λ _. refl, (other, (other, (other, (other, (other, (other, tt))))))))), (other, (other, (λ _. refl, (other, (other, (other, (other, (other, (other, (other, tt)))))))))))
+details-parsed = (
+  (other, (other, (λ _. refl, (other, (other, (other, (other, (other, (other, tt))))))))),
+  (other, (other, (λ _. refl, (other, (other, (other, (other, (other, (other, (other, tt)))))))))),
+)
 
 debug_locks-parsed : HoldsOfBoth redo_log (IsParsedBy (codes "debug_locks") vp.Bool)
 unfolding redo_log
-debug_locks-parsed = ((other, (other, (other, (λ _. refl, (other, (other, (other, (other, (other, tt))))))))), (other, (other, (other, (λ _. refl, (other, (other, (other, (other, (other, (other, tt)))))))))))
+debug_locks-parsed = (
+  (other, (other, (other, (λ _. refl, (other, (other, (other, (other, (other, tt))))))))),
+  (other, (other, (other, (λ _. refl, (other, (other, (other, (other, (other, (other, tt)))))))))),
+)
 
 debug_pids-parsed : HoldsOfBoth redo_log (IsParsedBy (codes "debug_pids") vp.Bool)
 unfolding redo_log
-debug_pids-parsed = ((other, (other, (other, (other, (λ _. refl, (other, (other, (other, (other, tt))))))))), (other, (other, (other, (other, (λ _. refl, (other, (other, (other, (other, (other, tt)))))))))))
+debug_pids-parsed = (
+  (other, (other, (other, (other, (λ _. refl, (other, (other, (other, (other, tt))))))))),
+  (other, (other, (other, (other, (λ _. refl, (other, (other, (other, (other, (other, tt)))))))))),
+)
 
 senders-parsed : HoldsOfBoth redo_log (IsParsedBy (codes "senders") (vp.Signed (pos 1) (pos 64)))
 unfolding redo_log
-senders-parsed = ((other, (other, (other, (other, (other, (other, (λ _. refl, (other, (other, tt))))))))), (other, (other, (other, (other, (other, (other, (λ _. refl, (other, (other, (other, tt)))))))))))
+senders-parsed = (
+  (other, (other, (other, (other, (other, (other, (λ _. refl, (other, (other, tt))))))))),
+  (other, (other, (other, (other, (other, (other, (λ _. refl, (other, (other, (other, tt)))))))))),
+)
 
 capacity-parsed : HoldsOfBoth redo_log (IsParsedBy (codes "capacity") (vp.Signed (pos 1) (pos 65536)))
 unfolding redo_log
-capacity-parsed = ((other, (other, (other, (other, (other, (other, (other, (λ _. refl, (other, tt))))))))), (other, (other, (other, (other, (other, (other, (other, (λ _. refl, (other, (other, tt)))))))))))
+capacity-parsed = (
+  (other, (other, (other, (other, (other, (other, (other, (λ _. refl, (other, tt))))))))),
+  (other, (other, (other, (other, (other, (other, (other, (λ _. refl, (other, (other, tt)))))))))),
+)
 
 target-filled : HoldsOfBoth redo_log (TakesWords (codes "target"))
 unfolding redo_log
-target-filled = ((other, (other, (other, (other, (other, (other, (other, (other, (λ _. (refl, refl, refl), tt))))))))), (other, (other, (other, (other, (other, (other, (other, (other, (λ _. (refl, refl, refl), (other, tt)))))))))))
+target-filled = (
+  (other, (other, (other, (other, (other, (other, (other, (other, (λ _. (refl, refl, refl), tt))))))))),
+  (other, (other, (other, (other, (other, (other, (other, (other, (λ _. (refl, refl, refl), (other, tt)))))))))),
+)
 
 all_plain : AllByRecursion IsPlainRule redo_log.top.rules
 unfolding redo_log
-all_plain = ((refl, refl), ((refl, refl), ((refl, refl), ((refl, refl), ((refl, refl), ((refl, refl), ((refl, refl), ((refl, refl), ((refl, refl), tt)))))))))
+all_plain = (
+  (refl, refl),
+  (
+    (refl, refl),
+    ((refl, refl), ((refl, refl), ((refl, refl), ((refl, refl), ((refl, refl), ((refl, refl), ((refl, refl), tt))))))),
+  ),
+)
 
 -- The command has nine arguments.
-settings : (redo_log.top.is_plain ≡ true) × (redo_log.top.subcommand_negates_reqs ≡ false) × (is_buildable redo_log ≡ true) × (length redo_log.top.rules ≡ 9)
+settings : (redo_log.top.is_plain ≡ true) × (redo_log.top.subcommand_negates_reqs ≡ false) × (is_buildable redo_log ≡ true)
+    × (length redo_log.top.rules ≡ 9)
 unfolding redo_log
 settings = (refl, refl, refl, refl)
 
@@ -89,14 +120,20 @@ is_exact = (refl, refl)
 pub sound : (old new : Command) (m : ArgMatches) → IsParse redo_log old new m → AreSound (rows_of (found_of m))
 sound old new m parse =
     let found = found_of m in
-    let negates : (out-Command old).subcommand_negates_reqs ≡ false = ap (λ (a : App). a.top.subcommand_negates_reqs) parse.begins ∙ settings.1 in
-    let count : length (args_of old) ≡ 9 = sym (length-map (args_of old) rule_of) ∙ ap length (old_rules redo_log plain_app old new m parse) ∙ settings.3 in
+    let negates : (out-Command old).subcommand_negates_reqs ≡ false =
+    ap (λ (a : App). a.top.subcommand_negates_reqs) parse.begins ∙ settings.1 in
+    let count : length (args_of old) ≡ 9 =
+    sym (length-map (args_of old) rule_of) ∙ ap length (old_rules redo_log plain_app old new m parse) ∙ settings.3 in
     let d = some_arg (args_of old) (omega arith) in
     let last : rule_of (slice_index_or (args_of old) 8 d) ≡ words_rule (codes "target") =
-    rule_at (args_of old) 8 d (rule_of d) (omega arith) ∙ ap (λ (rules : List Rule). slice_index_or rules 8 (rule_of d)) (old_rules redo_log plain_app old new m parse) ∙ last_rule (rule_of d) in
+    rule_at (args_of old) 8 d (rule_of d) (omega arith)
+    ∙ ap (λ (rules : List Rule). slice_index_or rules 8 (rule_of d)) (old_rules redo_log plain_app old new m parse)
+    ∙ last_rule (rule_of d) in
     let from_old : IsParsedFrom old m = record { built = new; from = parse.builds; parsed = parse.parsed } in
-    let present = required_present old m from_old (plain redo_log plain_app old new m parse) (plain_command redo_log plain_app old new m parse).1 negates 8 d (omega arith) (ap (λ (r : Rule). r.required) last) in
-    let has : is_some (matched_of found (codes "target")) ≡ true = present_has_entry found (codes "target") (rw (ap (λ (r : Rule). r.id) last) at present) in
+    let present = required_present old m from_old (plain redo_log plain_app old new m parse)
+    (plain_command redo_log plain_app old new m parse).1 negates 8 d (omega arith) (ap (λ (r : Rule). r.required) last) in
+    let has : is_some (matched_of found (codes "target")) ≡ true =
+    present_has_entry found (codes "target") (rw (ap (λ (r : Rule). r.id) last) at present) in
     let filled = sound_words redo_log plain_app old new m parse (codes "target") (λ e. cc) target-filled has in
     record {
       recursive_is = sound_flag redo_log plain_app old new m parse (codes "recursive") (λ e. cc) recursive-parsed;

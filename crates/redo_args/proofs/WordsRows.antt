@@ -34,10 +34,12 @@ abbrev jobs : List Row
 jobs =
     asks (codes "all" ∷ []) plain (codes ".") 4 64 (codes "all" ∷ []) ∷
     asks (codes "-r" ∷ codes "all" ∷ []) (options true false true false false) (codes ".") 4 64 (codes "all" ∷ []) ∷
-    asks (codes "-r" ∷ codes "-u" ∷ codes "--no-details" ∷ codes "--debug-locks" ∷ codes "--dir" ∷ codes "d" ∷ codes "--senders" ∷ codes "2" ∷ codes "--capacity" ∷ codes "1" ∷ codes "--" ∷ codes "-x" ∷ [])
+    asks (codes "-r" ∷ codes "-u" ∷ codes "--no-details" ∷ codes "--debug-locks" ∷ codes "--dir" ∷ codes "d" ∷ codes "--senders" ∷ codes "2"
+    ∷ codes "--capacity" ∷ codes "1" ∷ codes "--" ∷ codes "-x" ∷ [])
     (options true true false true false) (codes "d") 2 1 (codes "-x" ∷ []) ∷
     asks (codes "--debug-pids" ∷ codes "all" ∷ []) (options false false true false true) (codes ".") 4 64 (codes "all" ∷ []) ∷
-    asks (codes "b" ∷ codes "-ru" ∷ codes "--dir=" ∷ [] ∷ codes "--senders=64" ∷ codes "-" ∷ codes "--capacity=65536" ∷ []) (options true true true false false) [] 64 65536 (codes "b" ∷ [] ∷ codes "-" ∷ []) ∷
+    asks (codes "b" ∷ codes "-ru" ∷ codes "--dir=" ∷ [] ∷ codes "--senders=64" ∷ codes "-" ∷ codes "--capacity=65536" ∷ [])
+    (options true true true false false) [] 64 65536 (codes "b" ∷ [] ∷ codes "-" ∷ []) ∷
     []
 
 these_jobs : AllByRecursion (λ row. (fault_of_words row.words ≡ None) × (parse_parts row.words ≡ row.parts_are)) jobs

@@ -40,49 +40,68 @@ nodes = node 2 (Some (negsuc 0)) ∷ node 0 None ∷ node 1 (Some (pos 0)) ∷ n
 -- ---- targets
 
 names :
-    (name_at logs nodes 0 ≡ codes "out/b.o") × (name_at logs nodes 1 ≡ codes "all") × (name_at logs nodes 4 ≡ []) × (name_at logs nodes 5 ≡ [])
+    (name_at logs nodes 0 ≡ codes "out/b.o") × (name_at logs nodes 1 ≡ codes "all") × (name_at logs nodes 4 ≡ [])
+    × (name_at logs nodes 5 ≡ [])
     × (status_at nodes 0 ≡ Some (negsuc 0)) × (status_at nodes 1 ≡ None) × (status_at nodes 3 ≡ Some (pos 12)) × (status_at nodes 5 ≡ None)
 names = (refl, refl, refl, refl, refl, refl, refl, refl)
 
 last_parts :
-    (last_part (codes "out/sub/a.o") ≡ Some (codes "a.o")) × (last_part (codes "all") ≡ Some (codes "all")) × (last_part (codes "dir/") ≡ None) × (last_part [] ≡ None)
+    (last_part (codes "out/sub/a.o") ≡ Some (codes "a.o")) × (last_part (codes "all") ≡ Some (codes "all"))
+    × (last_part (codes "dir/") ≡ None) × (last_part [] ≡ None)
     × (after_last_slash (codes "a//") ≡ []) × (after_last_slash (codes "/b") ≡ codes "b")
 last_parts = (refl, refl, refl, refl, refl, refl)
 
 -- ---- tooltips
 
 statuses :
-    status_text None ∷ status_text (Some (pos 0)) ∷ status_text (Some (pos 1)) ∷ status_text (Some (pos 127)) ∷ status_text (Some (negsuc 0)) ∷ status_text (Some (negsuc 14)) ∷ []
+    status_text None ∷ status_text (Some (pos 0)) ∷ status_text (Some (pos 1)) ∷ status_text (Some (pos 127))
+    ∷ status_text (Some (negsuc 0)) ∷ status_text (Some (negsuc 14)) ∷ []
     ≡ codes ", not closed" ∷ [] ∷ codes ", exit 1" ∷ codes ", exit 127" ∷ codes ", exit -1" ∷ codes ", exit -15" ∷ []
 unfolding decimal_text digits
 statuses = refl
 
 durations :
-    duration_after (codes ", ") Callers 1234 ∷ duration_after (codes " in ") Recipes 125000 ∷ duration_after (codes ", ") Untimed 1234 ∷ duration_after (codes ", ") Axis 1234 ∷ []
+    duration_after (codes ", ") Callers 1234 ∷ duration_after (codes " in ") Recipes 125000 ∷ duration_after (codes ", ") Untimed 1234
+    ∷ duration_after (codes ", ") Axis 1234 ∷ []
     ≡ codes ", 1.23 s" ∷ codes " in 2 min 05 s" ∷ [] ∷ [] ∷ []
 unfolding duration_words decimal_text digits
 durations = refl
 
 -- A bar of the target at this position, or of several of which it is the first.
 abbrev bar : ℕ → ℕ → ℕ → ℕ → Bar
-bar position count began ended = record { lane = 2; x = 7; width = 350; position = position; count = count; began = began; ended = ended; failed = true }
+bar position count began ended = record {
+  lane = 2;
+  x = 7;
+  width = 350;
+  position = position;
+  count = count;
+  began = began;
+  ended = ended;
+  failed = true;
+}
 
 titles :
-    title_of logs nodes Recipes (bar 0 1 1000 2500) ∷ title_of logs nodes Callers (bar 1 1 0 60000) ∷ title_of logs nodes Recipes (bar 2 1 9 5) ∷ title_of logs nodes Untimed (bar 3 1 5 5) ∷ title_of logs nodes Recipes (bar 2 3 10 30)
+    title_of logs nodes Recipes (bar 0 1 1000 2500) ∷ title_of logs nodes Callers (bar 1 1 0 60000)
+    ∷ title_of logs nodes Recipes (bar 2 1 9 5) ∷ title_of logs nodes Untimed (bar 3 1 5 5) ∷ title_of logs nodes Recipes (bar 2 3 10 30)
     ∷ title_of logs nodes Untimed (bar 3 12 10 30) ∷ []
-    ≡ codes "out/b.o, 1.50 s, exit -1" ∷ codes "all, 1 min 00 s, not closed" ∷ codes "out/a.o, 0.00 s" ∷ codes "t, exit 12" ∷ codes "3 targets in 0.02 s, from out/a.o" ∷ codes "12 targets, from t" ∷ []
+    ≡ codes "out/b.o, 1.50 s, exit -1" ∷ codes "all, 1 min 00 s, not closed" ∷ codes "out/a.o, 0.00 s" ∷ codes "t, exit 12"
+    ∷ codes "3 targets in 0.02 s, from out/a.o" ∷ codes "12 targets, from t" ∷ []
 unfolding duration_words decimal_text digits
 titles = refl
 
 -- ---- bands
 
-lane_heights : recipe_lane_height 0 ∷ recipe_lane_height 16 ∷ recipe_lane_height 17 ∷ recipe_lane_height 40 ∷ recipe_lane_height 41 ∷ recipe_lane_height 96 ∷ [] ≡ 18 ∷ 18 ∷ 12 ∷ 12 ∷ 8 ∷ 8 ∷ []
+lane_heights : recipe_lane_height 0 ∷ recipe_lane_height 16 ∷ recipe_lane_height 17 ∷ recipe_lane_height 40 ∷ recipe_lane_height 41
+    ∷ recipe_lane_height 96 ∷ [] ≡ 18 ∷ 18 ∷ 12 ∷ 12 ∷ 8 ∷ 8 ∷ []
 lane_heights = refl
 
 bands :
-    (callers_band ≡ record { kind = Callers; top = 20; lane_height = 14 }) × (recipes_band 0 0 ≡ record { kind = Recipes; top = 26; lane_height = 18 })
-    × (recipes_band 2 20 ≡ record { kind = Recipes; top = 54; lane_height = 12 }) × (marks_band 2 20 ≡ record { kind = Untimed; top = 300; lane_height = 14 })
-    × (marks_band 24 96 ≡ record { kind = Untimed; top = 1136; lane_height = 14 }) × (height_of 2 20 1 ≡ 320) × (height_of 0 0 0 ≡ 38) × (below callers_band 3 ≡ 68)
+    (callers_band ≡ record { kind = Callers; top = 20; lane_height = 14 })
+    × (recipes_band 0 0 ≡ record { kind = Recipes; top = 26; lane_height = 18 })
+    × (recipes_band 2 20 ≡ record { kind = Recipes; top = 54; lane_height = 12 })
+    × (marks_band 2 20 ≡ record { kind = Untimed; top = 300; lane_height = 14 })
+    × (marks_band 24 96 ≡ record { kind = Untimed; top = 1136; lane_height = 14 }) × (height_of 2 20 1 ≡ 320) × (height_of 0 0 0 ≡ 38)
+    × (below callers_band 3 ≡ 68)
     × (max_caller_lanes ∷ max_recipe_lanes ∷ max_mark_lanes ∷ [] ≡ 24 ∷ 96 ∷ 1 ∷ [])
 bands = (refl, refl, refl, refl, refl, refl, refl, refl, refl)
 
@@ -92,21 +111,42 @@ abbrev wide : ℕ → Bar
 wide width = record { lane = 2; x = 7; width = width; position = 0; count = 1; began = 1000; ended = 2500; failed = true }
 
 labels :
-    (label_of (codes "out/b.o") 13 (wide 350) ≡ Some (codes "b.o")) × (label_of (codes "out/b.o") 13 (wide 349) ≡ None) × (label_of (codes "out/b.o") 12 (wide 350) ≡ None) × (label_of (codes "b/") 18 (wide 5000) ≡ None)
+    (label_of (codes "out/b.o") 13 (wide 350) ≡ Some (codes "b.o")) × (label_of (codes "out/b.o") 13 (wide 349) ≡ None)
+    × (label_of (codes "out/b.o") 12 (wide 350) ≡ None) × (label_of (codes "b/") 18 (wide 5000) ≡ None)
 labels = (refl, refl, refl, refl)
 
 drawn :
     (drawn_bar logs nodes (recipes_band 1 3) (wide 400)
-    ≡ record { target = 0; x = 7; y = 76; width = 400; height = 16; failed = true; title = codes "out/b.o, 1.50 s, exit -1"; label = Some (codes "b.o") })
-    × (drawn_bar logs nodes (marks_band 1 3) (wide 30) ≡ record { target = 0; x = 7; y = 128; width = 30; height = 12; failed = true; title = codes "out/b.o, exit -1"; label = None })
+    ≡ record {
+      target = 0;
+      x = 7;
+      y = 76;
+      width = 400;
+      height = 16;
+      failed = true;
+      title = codes "out/b.o, 1.50 s, exit -1";
+      label = Some (codes "b.o");
+    })
+    × (drawn_bar logs nodes (marks_band 1 3) (wide 30)
+    ≡ record { target = 0; x = 7; y = 128; width = 30; height = 12; failed = true; title = codes "out/b.o, exit -1"; label = None })
     × (bar_layer logs nodes callers_band [] ≡ record { kind = Callers; shapes = [] })
 unfolding duration_words decimal_text digits
 drawn = (refl, refl, refl)
 
 -- A bar of the fourth target, in the sixth lane.
 drawn_lower :
-    drawn_bar logs nodes (recipes_band 1 3) (record { lane = 5; x = 9; width = 400; position = 3; count = 1; began = 1000; ended = 2500; failed = false })
-    ≡ record { target = 3; x = 9; y = 130; width = 400; height = 16; failed = false; title = codes "t, 1.50 s, exit 12"; label = Some (codes "t") }
+    drawn_bar logs nodes (recipes_band 1 3)
+    (record { lane = 5; x = 9; width = 400; position = 3; count = 1; began = 1000; ended = 2500; failed = false })
+    ≡ record {
+      target = 3;
+      x = 9;
+      y = 130;
+      width = 400;
+      height = 16;
+      failed = false;
+      title = codes "t, 1.50 s, exit 12";
+      label = Some (codes "t");
+    }
 unfolding duration_words decimal_text digits
 drawn_lower = refl
 
@@ -118,11 +158,14 @@ anchors = refl
 -- Steps of 1 ms, of 1 s, and one that is as wide as the axis.
 axes :
     (axis_shapes 98 3
-    ≡ LineShape 0 98 ∷ TickShape 0 Start (codes "0") ∷ LineShape 3333 98 ∷ TickShape 3333 Middle (codes "0.001 s") ∷ LineShape 6666 98 ∷ TickShape 6666 Middle (codes "0.002 s") ∷ LineShape 10000 98 ∷ TickShape 10000 End (codes "0.003 s") ∷ [])
+    ≡ LineShape 0 98 ∷ TickShape 0 Start (codes "0") ∷ LineShape 3333 98 ∷ TickShape 3333 Middle (codes "0.001 s") ∷ LineShape 6666 98
+    ∷ TickShape 6666 Middle (codes "0.002 s") ∷ LineShape 10000 98 ∷ TickShape 10000 End (codes "0.003 s") ∷ [])
     × (axis_shapes 7 5500
-    ≡ LineShape 0 7 ∷ TickShape 0 Start (codes "0") ∷ LineShape 1818 7 ∷ TickShape 1818 Middle (codes "1 s") ∷ LineShape 3636 7 ∷ TickShape 3636 Middle (codes "2 s") ∷ LineShape 5454 7 ∷ TickShape 5454 Middle (codes "3 s")
+    ≡ LineShape 0 7 ∷ TickShape 0 Start (codes "0") ∷ LineShape 1818 7 ∷ TickShape 1818 Middle (codes "1 s") ∷ LineShape 3636 7
+    ∷ TickShape 3636 Middle (codes "2 s") ∷ LineShape 5454 7 ∷ TickShape 5454 Middle (codes "3 s")
     ∷ LineShape 7272 7 ∷ TickShape 7272 Middle (codes "4 s") ∷ LineShape 9090 7 ∷ TickShape 9090 Middle (codes "5 s") ∷ [])
-    × (axis_shapes 34 900000000 ≡ LineShape 0 34 ∷ TickShape 0 Start (codes "0") ∷ LineShape 10000 34 ∷ TickShape 10000 End (codes "250:00 h") ∷ [])
+    × (axis_shapes 34 900000000 ≡ LineShape 0 34 ∷ TickShape 0 Start (codes "0") ∷ LineShape 10000 34
+    ∷ TickShape 10000 End (codes "250:00 h") ∷ [])
 unfolding tick_step_of tick_words decimal_text digits
 axes = (refl, refl, refl)
 
@@ -144,7 +187,8 @@ abbrev drawn_at : ℕ → ℕ → ℕ → ℕ → ℕ → Bool → List ℕ → 
 drawn_at position x y width height failed title label =
     BarShape (record { target = position; x = x; y = y; width = width; height = height; failed = failed; title = title; label = label })
 
-sizes : (chart.height ≡ 102) × (chart.lanes ≡ 2) × (map (λ (layer : Layer). layer.kind) chart.layers ≡ Axis ∷ Callers ∷ Recipes ∷ Untimed ∷ [])
+sizes : (chart.height ≡ 102) × (chart.lanes ≡ 2)
+    × (map (λ (layer : Layer). layer.kind) chart.layers ≡ Axis ∷ Callers ∷ Recipes ∷ Untimed ∷ [])
 unfolding tick_step_of
 sizes = (refl, refl, refl)
 
@@ -159,7 +203,8 @@ callers_drawn = refl
 -- The last two have one bar, after the first one in its lane.
 recipes_drawn :
     shapes_of Recipes chart
-    ≡ drawn_at 2 0 40 4000 16 false (codes "out/a.o, 4.00 s") (Some (codes "a.o")) ∷ drawn_at 4 5000 40 20 16 false (codes "2 targets in 0.02 s, from ") None
+    ≡ drawn_at 2 0 40 4000 16 false (codes "out/a.o, 4.00 s") (Some (codes "a.o"))
+    ∷ drawn_at 4 5000 40 20 16 false (codes "2 targets in 0.02 s, from ") None
     ∷ drawn_at 0 2000 58 7500 16 true (codes "out/b.o, 7.50 s, exit -1") (Some (codes "b.o")) ∷ []
 unfolding tick_step_of duration_words decimal_text digits
 recipes_drawn = refl

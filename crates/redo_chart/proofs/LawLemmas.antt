@@ -49,7 +49,8 @@ axis_links : (bottom width step : ℕ) (ticks : List ℕ) → flat_map shape_lin
 axis_links bottom width step [] = refl
 axis_links bottom width step (i ∷ ticks) = axis_links bottom width step ticks
 
-bar_links : (logs : List Log) (nodes : List Node) (band : Band) (bars : List Bar) → flat_map shape_links (bar_shapes logs nodes band bars) ≡ map (λ (bar : Bar). bar.position) bars
+bar_links : (logs : List Log) (nodes : List Node) (band : Band) (bars : List Bar)
+    → flat_map shape_links (bar_shapes logs nodes band bars) ≡ map (λ (bar : Bar). bar.position) bars
 bar_links logs nodes band [] = refl
 bar_links logs nodes band (bar ∷ bars) = ap (λ (links : List ℕ). bar.position ∷ links) (bar_links logs nodes band bars)
 
@@ -57,51 +58,69 @@ module _ (window : Window) (count : ℕ) where
   abbrev is_below : ℕ → Bool
   is_below position = nat_lt position count
 
-  position_below : (bar : List Span) (span : Span) → is_below (position_of bar) ≡ true → is_below span.position ≡ true → is_below (position_of (bar ++ span ∷ [])) ≡ true
+  position_below : (bar : List Span) (span : Span) → is_below (position_of bar) ≡ true → is_below span.position ≡ true
+      → is_below (position_of (bar ++ span ∷ [])) ≡ true
   position_below [] span first below = below
   position_below (other ∷ rest) span first below = first
 
-  bars_from_below : (bar rest : List Span) → is_below (position_of bar) ≡ true → are_below count rest ≡ true → list_all (λ (bar : List Span). is_below (position_of bar)) (bars_from window bar rest) ≡ true
+  bars_from_below : (bar rest : List Span) → is_below (position_of bar) ≡ true → are_below count rest ≡ true
+      → list_all (λ (bar : List Span). is_below (position_of bar)) (bars_from window bar rest) ≡ true
   bars_from_below bar [] first below = and_both _ true first refl
   bars_from_below bar (span ∷ rest) first below =
       by (joins window bar span)
-      (bars_from_below (bar ++ span ∷ []) rest (position_below bar span first (and_left _ _ below)) (and_right (is_below span.position) _ below))
+      (bars_from_below (bar ++ span ∷ []) rest (position_below bar span first (and_left _ _ below))
+      (and_right (is_below span.position) _ below))
       (bars_from_below (span ∷ []) rest (and_left _ _ below) (and_right (is_below span.position) _ below))
     where
-      by : (b : Bool) → list_all (λ (bar : List Span). is_below (position_of bar)) (bars_from window (bar ++ span ∷ []) rest) ≡ true → list_all (λ (bar : List Span). is_below (position_of bar)) (bars_from window (span ∷ []) rest) ≡ true
-          → list_all (λ (bar : List Span). is_below (position_of bar)) (cond b (bars_from window (bar ++ span ∷ []) rest) (bar ∷ bars_from window (span ∷ []) rest)) ≡ true
+      by : (b : Bool) → list_all (λ (bar : List Span). is_below (position_of bar)) (bars_from window (bar ++ span ∷ []) rest) ≡ true
+          → list_all (λ (bar : List Span). is_below (position_of bar)) (bars_from window (span ∷ []) rest) ≡ true
+          → list_all (λ (bar : List Span). is_below (position_of bar))
+          (cond b (bars_from window (bar ++ span ∷ []) rest) (bar ∷ bars_from window (span ∷ []) rest)) ≡ true
       by true more next = more
       by false more next = and_both _ _ first next
 
-  bars_in_below : (spans : List Span) → are_below count spans ≡ true → list_all (λ (bar : List Span). is_below (position_of bar)) (bars_in window spans) ≡ true
+  bars_in_below : (spans : List Span) → are_below count spans ≡ true
+      → list_all (λ (bar : List Span). is_below (position_of bar)) (bars_in window spans) ≡ true
   bars_in_below [] below = refl
   bars_in_below (span ∷ rest) below = bars_from_below (span ∷ []) rest (and_left _ _ below) (and_right (is_below span.position) _ below)
 
-  lane_below : (lane : ℕ) (bars : List (List Span)) (rest : List Bar) → list_all (λ (bar : List Span). is_below (position_of bar)) bars ≡ true → list_all is_below (map (λ (bar : Bar). bar.position) rest) ≡ true
+  lane_below : (lane : ℕ) (bars : List (List Span)) (rest : List Bar)
+      → list_all (λ (bar : List Span). is_below (position_of bar)) bars ≡ true
+      → list_all is_below (map (λ (bar : Bar). bar.position) rest) ≡ true
       → list_all is_below (map (λ (bar : Bar). bar.position) (map (bar_of window lane) bars ++ rest)) ≡ true
   lane_below lane [] rest below others = others
-  lane_below lane (bar ∷ bars) rest below others = and_both _ _ (and_left _ _ below) (lane_below lane bars rest (and_right (is_below (position_of bar)) _ below) others)
+  lane_below lane (bar ∷ bars) rest below others =
+      and_both _ _ (and_left _ _ below) (lane_below lane bars rest (and_right (is_below (position_of bar)) _ below) others)
 
-  lanes_below : (lane : ℕ) (lanes : List (List Span)) → are_below count (joined lanes) ≡ true → list_all is_below (map (λ (bar : Bar). bar.position) (drawn_bars window lane (map (bars_in window) lanes))) ≡ true
+  lanes_below : (lane : ℕ) (lanes : List (List Span)) → are_below count (joined lanes) ≡ true
+      → list_all is_below (map (λ (bar : Bar). bar.position) (drawn_bars window lane (map (bars_in window) lanes))) ≡ true
   lanes_below lane [] below = refl
   lanes_below lane (spans ∷ lanes) below =
       let both = sym (list_all-append (λ (span : Span). nat_lt span.position count) spans (joined lanes)) ∙ below in
-      lane_below lane (bars_in window spans) (drawn_bars window (lane + 1) (map (bars_in window) lanes)) (bars_in_below spans (and_left _ _ both)) (lanes_below (lane + 1) lanes (and_right (are_below count spans) _ both))
+      lane_below lane (bars_in window spans) (drawn_bars window (lane + 1) (map (bars_in window) lanes))
+      (bars_in_below spans (and_left _ _ both)) (lanes_below (lane + 1) lanes (and_right (are_below count spans) _ both))
 
-  group_below : (logs : List Log) (nodes : List Node) (band : Band) (max_lanes : ℕ) (spans : List Span) → are_below count spans ≡ true → list_all is_below (flat_map shape_links (bar_shapes logs nodes band ((timeline_of window max_lanes spans).bars))) ≡ true
+  group_below : (logs : List Log) (nodes : List Node) (band : Band) (max_lanes : ℕ) (spans : List Span) → are_below count spans ≡ true
+      → list_all is_below (flat_map shape_links (bar_shapes logs nodes band ((timeline_of window max_lanes spans).bars))) ≡ true
   group_below logs nodes band max_lanes spans below =
       let test : Span → Bool = λ span. nat_lt span.position count in
       let lanes = lanes_of max_lanes spans in
-      let all = list_all-from_AllPass test (joined lanes) (All-permutation (λ (span : Span). test span ≡ true) spans (joined lanes) (lanes-permutation max_lanes spans) (AllPass-from_list_all test spans below)) in
+      let all = list_all-from_AllPass test (joined lanes)
+      (All-permutation (λ (span : Span). test span ≡ true) spans (joined lanes) (lanes-permutation max_lanes spans)
+      (AllPass-from_list_all test spans below)) in
       ap (list_all is_below) (bar_links logs nodes band ((timeline_of window max_lanes spans).bars)) ∙ lanes_below 0 lanes all
 
-  all_below : (first second third : List ℕ) → list_all is_below first ≡ true → list_all is_below second ≡ true → list_all is_below third ≡ true → list_all is_below (first ++ (second ++ (third ++ []))) ≡ true
+  all_below : (first second third : List ℕ) → list_all is_below first ≡ true → list_all is_below second ≡ true
+      → list_all is_below third ≡ true → list_all is_below (first ++ (second ++ (third ++ []))) ≡ true
   all_below first second third a b c =
       list_all-append is_below first (second ++ (third ++ []))
-      ∙ and_both _ _ a (list_all-append is_below second (third ++ []) ∙ and_both _ _ b (list_all-append is_below third [] ∙ and_both _ true c refl))
+      ∙ and_both _ _ a (list_all-append is_below second (third ++ [])
+      ∙ and_both _ _ b (list_all-append is_below third [] ∙ and_both _ true c refl))
 
   -- The links of a chart: its axis has none.
-  pub links_below : (logs : List Log) (nodes : List Node) (callers recipes marks : List Span) → are_below count (callers ++ (recipes ++ marks)) ≡ true → list_all is_below (drawing_links (timeline_drawing logs nodes window callers recipes marks)) ≡ true
+  pub links_below : (logs : List Log) (nodes : List Node) (callers recipes marks : List Span)
+      → are_below count (callers ++ (recipes ++ marks)) ≡ true
+      → list_all is_below (drawing_links (timeline_drawing logs nodes window callers recipes marks)) ≡ true
   links_below logs nodes callers recipes marks below =
       let test : Span → Bool = λ span. nat_lt span.position count in
       let split = sym (list_all-append test callers (recipes ++ marks)) ∙ below in
@@ -113,14 +132,17 @@ module _ (window : Window) (count : ℕ) where
       let middle = flat_map shape_links (bar_shapes logs nodes (recipes_band first.lane_count second.lane_count) second.bars) in
       let lower = flat_map shape_links (bar_shapes logs nodes (marks_band first.lane_count second.lane_count) third.bars) in
       ap (λ (links : List ℕ). list_all is_below (links ++ (upper ++ (middle ++ (lower ++ [])))))
-      (axis_links (height_of first.lane_count second.lane_count third.lane_count - 4) window.width (tick_step_of window.width) (range_with_len 0 (last_tick window.width + 1)))
+      (axis_links (height_of first.lane_count second.lane_count third.lane_count - 4) window.width (tick_step_of window.width)
+      (range_with_len 0 (last_tick window.width + 1)))
       ∙ all_below upper middle lower (group_below logs nodes callers_band max_caller_lanes callers (and_left _ _ split))
       (group_below logs nodes (recipes_band first.lane_count second.lane_count) max_recipe_lanes recipes (and_left _ _ others))
-      (group_below logs nodes (marks_band first.lane_count second.lane_count) max_mark_lanes marks (and_right (are_below count recipes) _ others))
+      (group_below logs nodes (marks_band first.lane_count second.lane_count) max_mark_lanes marks
+      (and_right (are_below count recipes) _ others))
 
 -- ---- what bars say
 
-zip_append : {A B : Type 0} (R : A → B → Type 0) (xs others : List A) (ys more : List B) → AllZip R xs ys → AllZip R others more → AllZip R (xs ++ others) (ys ++ more)
+zip_append : {A B : Type 0} (R : A → B → Type 0) (xs others : List A) (ys more : List B) → AllZip R xs ys → AllZip R others more
+    → AllZip R (xs ++ others) (ys ++ more)
 zip_append R [] others [] more zip rest = rest
 zip_append R [] others (y ∷ ys) more zip rest = absurd zip
 zip_append R (x ∷ xs) others [] more zip rest = absurd zip
@@ -134,11 +156,13 @@ quotient_le a b (suc k) le =
     (le-div_iff_mul-le some).1 most
 
 units_le : (window : Window) (a b : ℕ) → a ≤ b → units window a ≤ units window b
-units_le window a b le = quotient_le (min (a - window.began) window.width * 10000) (min (b - window.began) window.width * 10000) window.width (omega (arith, le))
+units_le window a b le = quotient_le (min (a - window.began) window.width * 10000)
+    (min (b - window.began) window.width * 10000) window.width (omega (arith, le))
 
 module _ (logs : List Log) (nodes : List Node) (window : Window) (band : Band) where
   -- What includes the times of a span in milliseconds, includes them in the chart.
-  included : (lane : ℕ) (bar : List Span) (span : Span) → InTime bar span → Includes window (drawn_bar logs nodes band (bar_of window lane bar)) span
+  included : (lane : ℕ) (bar : List Span) (span : Span) → InTime bar span
+      → Includes window (drawn_bar logs nodes band (bar_of window lane bar)) span
   included lane bar span times =
       let begins = units_le window (began_of bar) span.began times.0 in
       let ends = units_le window span.ended (ended_of bar) times.1 in
@@ -153,12 +177,15 @@ module _ (logs : List Log) (nodes : List Node) (window : Window) (band : Band) w
       by true (Some label) = refl
       by false part = tt
 
-  has_label : (name : List ℕ) (bar : Bar) → 350 ≤ bar.width → 10 < band.lane_height - 2 → label_of name band.lane_height bar ≡ last_part name
+  has_label : (name : List ℕ) (bar : Bar) → 350 ≤ bar.width → 10 < band.lane_height - 2
+      → label_of name band.lane_height bar ≡ last_part name
   has_label name bar wide high =
       let low : 12 < band.lane_height = omega (arith, high) in
-      ap (λ (b : Bool). cond b (last_part name) None) (and_both (leb 350 bar.width) (ltb 12 band.lane_height) (le-leb 350 bar.width wide) (lt-ltb 12 band.lane_height low))
+      ap (λ (b : Bool). cond b (last_part name) None)
+      (and_both (leb 350 bar.width) (ltb 12 band.lane_height) (le-leb 350 bar.width wide) (lt-ltb 12 band.lane_height low))
 
-  lane_drawn : (lane : ℕ) (bars : List (List Span)) → AllByRecursion IsIncluded bars → AllZip (Draws logs nodes window band.kind) bars (bar_shapes logs nodes band (map (bar_of window lane) bars))
+  lane_drawn : (lane : ℕ) (bars : List (List Span)) → AllByRecursion IsIncluded bars
+      → AllZip (Draws logs nodes window band.kind) bars (bar_shapes logs nodes band (map (bar_of window lane) bars))
   lane_drawn lane [] times = tt
   lane_drawn lane (bar ∷ bars) times = (
     record {
@@ -174,19 +201,25 @@ module _ (logs : List Log) (nodes : List Node) (window : Window) (band : Band) w
     lane_drawn lane bars times.1,
   )
 
-  lanes_drawn : (lane : ℕ) (lanes : List (List (List Span))) → EachBar IsIncluded lanes → AllZip (Draws logs nodes window band.kind) (all_bars lanes) (bar_shapes logs nodes band (drawn_bars window lane lanes))
+  lanes_drawn : (lane : ℕ) (lanes : List (List (List Span))) → EachBar IsIncluded lanes
+      → AllZip (Draws logs nodes window band.kind) (all_bars lanes) (bar_shapes logs nodes band (drawn_bars window lane lanes))
   lanes_drawn lane [] times = tt
   lanes_drawn lane (bars ∷ lanes) times =
       let here = map (bar_of window lane) bars in
       let later = drawn_bars window (lane + 1) lanes in
-      subst (λ (shapes : List Shape). AllZip (Draws logs nodes window band.kind) (bars ++ all_bars lanes) shapes) (sym (map-append _ here later))
-      (zip_append (Draws logs nodes window band.kind) bars (all_bars lanes) (bar_shapes logs nodes band here) (bar_shapes logs nodes band later) (lane_drawn lane bars times.0) (lanes_drawn (lane + 1) lanes times.1))
+      subst (λ (shapes : List Shape). AllZip (Draws logs nodes window band.kind) (bars ++ all_bars lanes) shapes)
+      (sym (map-append _ here later))
+      (zip_append (Draws logs nodes window band.kind) bars (all_bars lanes) (bar_shapes logs nodes band here)
+      (bar_shapes logs nodes band later) (lane_drawn lane bars times.0) (lanes_drawn (lane + 1) lanes times.1))
 
-  pub group_drawn : (max_lanes : ℕ) (spans : List Span) → DrawsAll logs nodes window band.kind max_lanes spans (bar_shapes logs nodes band (drawn_bars window 0 (bars_of window max_lanes spans)) ++ [])
+  pub group_drawn : (max_lanes : ℕ) (spans : List Span)
+      → DrawsAll logs nodes window band.kind max_lanes spans
+      (bar_shapes logs nodes band (drawn_bars window 0 (bars_of window max_lanes spans)) ++ [])
   group_drawn max_lanes spans =
       let shapes = bar_shapes logs nodes band (drawn_bars window 0 (bars_of window max_lanes spans)) in record {
         bars =
-            subst (λ (all : List Shape). AllZip (Draws logs nodes window band.kind) (all_bars (bars_of window max_lanes spans)) all) (sym (append-nil shapes))
+            subst (λ (all : List Shape). AllZip (Draws logs nodes window band.kind) (all_bars (bars_of window max_lanes spans)) all)
+            (sym (append-nil shapes))
             (lanes_drawn 0 (bars_of window max_lanes spans) (bars_include window max_lanes spans));
         once = drawn_once window max_lanes spans;
         narrow = joined_narrow window max_lanes spans;

@@ -17,20 +17,33 @@ use Rattle.redo_chart.proofs.ChartRows.{chart, logs, nodes, span, window}
 -- ---- groups and lanes
 
 tests :
-    (are_below 3 (span 2 0 9 false ∷ span 0 0 9 false ∷ []) ≡ true) × (are_below 2 (span 0 0 9 false ∷ span 2 0 9 false ∷ []) ≡ false) × (are_below 0 [] ≡ true)
-    × (shapes_of Recipes (record { height = 0; lanes = 0; layers = record { kind = Recipes; shapes = LineShape 1 2 ∷ [] } ∷ record { kind = Axis; shapes = LineShape 3 4 ∷ [] } ∷ record { kind = Recipes; shapes = LineShape 5 6 ∷ [] } ∷ [] })
+    (are_below 3 (span 2 0 9 false ∷ span 0 0 9 false ∷ []) ≡ true) × (are_below 2 (span 0 0 9 false ∷ span 2 0 9 false ∷ []) ≡ false)
+    × (are_below 0 [] ≡ true)
+    × (shapes_of Recipes (record {
+      height = 0;
+      lanes = 0;
+      layers = record { kind = Recipes; shapes = LineShape 1 2 ∷ [] } ∷ record { kind = Axis; shapes = LineShape 3 4 ∷ [] }
+          ∷ record { kind = Recipes; shapes = LineShape 5 6 ∷ [] } ∷ [];
+    })
     ≡ LineShape 1 2 ∷ LineShape 5 6 ∷ [])
-    × (all_bars (((span 0 0 9 false ∷ []) ∷ []) ∷ [] ∷ ((span 1 0 9 false ∷ []) ∷ (span 2 0 9 false ∷ []) ∷ []) ∷ []) ≡ (span 0 0 9 false ∷ []) ∷ (span 1 0 9 false ∷ []) ∷ (span 2 0 9 false ∷ []) ∷ [])
+    × (all_bars (((span 0 0 9 false ∷ []) ∷ []) ∷ [] ∷ ((span 1 0 9 false ∷ []) ∷ (span 2 0 9 false ∷ []) ∷ []) ∷ [])
+    ≡ (span 0 0 9 false ∷ []) ∷ (span 1 0 9 false ∷ []) ∷ (span 2 0 9 false ∷ []) ∷ [])
 tests = (refl, refl, refl, refl, refl)
 
-kinds : kinds_of (record { height = 0; lanes = 0; layers = record { kind = Untimed; shapes = [] } ∷ record { kind = Axis; shapes = [] } ∷ [] }) ≡ Untimed ∷ Axis ∷ []
+kinds : kinds_of (record {
+  height = 0;
+  lanes = 0;
+  layers = record { kind = Untimed; shapes = [] } ∷ record { kind = Axis; shapes = [] } ∷ [];
+}) ≡ Untimed ∷ Axis ∷ []
 kinds = refl
 
 -- One lane of callers, two of recipes, of which the first one has two bars, and one of marks.
 lanes :
-    (map length (chart_lanes window (span 1 1000 11000 false ∷ []) (span 2 1000 5000 false ∷ span 0 3000 10500 true ∷ span 4 6000 6010 false ∷ []) (span 3 11000 11000 true ∷ [])) ≡ 1 ∷ 2 ∷ 1 ∷ 1 ∷ [])
+    (map length (chart_lanes window (span 1 1000 11000 false ∷ [])
+    (span 2 1000 5000 false ∷ span 0 3000 10500 true ∷ span 4 6000 6010 false ∷ []) (span 3 11000 11000 true ∷ [])) ≡ 1 ∷ 2 ∷ 1 ∷ 1 ∷ [])
     × (flat_map shape_links (chart_bars chart) ≡ 1 ∷ 2 ∷ 4 ∷ 0 ∷ 3 ∷ [])
-    × (rows_of (((span 0 0 9 false ∷ []) ∷ (span 1 9 9 false ∷ []) ∷ []) ∷ [] ∷ ((span 2 0 9 false ∷ []) ∷ []) ∷ []) (LineShape 1 1 ∷ LineShape 2 2 ∷ LineShape 3 3 ∷ [])
+    × (rows_of (((span 0 0 9 false ∷ []) ∷ (span 1 9 9 false ∷ []) ∷ []) ∷ [] ∷ ((span 2 0 9 false ∷ []) ∷ []) ∷ [])
+    (LineShape 1 1 ∷ LineShape 2 2 ∷ LineShape 3 3 ∷ [])
     ≡ (LineShape 1 1 ∷ LineShape 2 2 ∷ []) ∷ [] ∷ (LineShape 3 3 ∷ []) ∷ [])
 unfolding tick_step_of
 lanes = (refl, refl, refl)
@@ -38,7 +51,8 @@ lanes = (refl, refl, refl)
 -- ---- what a bar says
 
 abbrev labelled : ℕ → ℕ → ℕ → Bool → List ℕ → Option (List ℕ) → DrawnBar
-labelled position x width failed title label = record { target = position; x = x; y = 40; width = width; height = 16; failed = failed; title = title; label = label }
+labelled position x width failed title label =
+    record { target = position; x = x; y = 40; width = width; height = 16; failed = failed; title = title; label = label }
 
 -- A bar of the span of position 2, from 1000 to 5000.
 abbrev said : ℕ → ℕ → ℕ → Bool → List ℕ → DrawnBar
@@ -52,13 +66,23 @@ title = codes "out/a.o, 4.00 s"
 
 accepted_bar : SaysOf logs nodes window Recipes one (said 2 0 4000 false title)
 unfolding duration_words decimal_text digits
-accepted_bar = record { target = refl; begins = refl; lasts = refl; fails = refl; title = refl; label = refl; labelled = λ wide high. refl; times = ((omega arith, omega arith), tt) }
+accepted_bar = record {
+  target = refl;
+  begins = refl;
+  lasts = refl;
+  fails = refl;
+  title = refl;
+  label = refl;
+  labelled = λ wide high. refl;
+  times = ((omega arith, omega arith), tt);
+}
 
 -- Another target, another beginning, another width, red, or another tooltip. Then a narrow bar begins too early, but includes the span.
 rejected_bars :
     ¬ SaysOf logs nodes window Recipes one (said 1 0 4000 false title) × ¬ SaysOf logs nodes window Recipes one (said 2 1 4000 false title)
     × ¬ SaysOf logs nodes window Recipes one (said 2 0 4001 false title) × ¬ SaysOf logs nodes window Recipes one (said 2 0 4000 true title)
-    × ¬ SaysOf logs nodes window Recipes one (said 2 0 4000 false []) × ¬ SaysOf logs nodes window Recipes (span 2 2000 2005 false ∷ []) (labelled 2 999 10 false (codes "out/a.o, 0.00 s") None)
+    × ¬ SaysOf logs nodes window Recipes one (said 2 0 4000 false [])
+    × ¬ SaysOf logs nodes window Recipes (span 2 2000 2005 false ∷ []) (labelled 2 999 10 false (codes "out/a.o, 0.00 s") None)
 unfolding duration_words decimal_text digits
 rejected_bars = (
   λ says. let same : 1 ≡ 2 = says.target in omega (arith, same),
@@ -76,27 +100,36 @@ rejected_labels :
 unfolding duration_words decimal_text digits
 rejected_labels = (
   λ says. let same : 3 ≡ 1 = ap (λ (label : Option (List ℕ)). length (unwrap_or label [])) says.label in omega (arith, same),
-  λ says. let same : 0 ≡ 3 = ap (λ (label : Option (List ℕ)). length (unwrap_or label [])) (says.labelled (omega arith) (omega arith)) in omega (arith, same),
+  λ says. let same : 0 ≡ 3 = ap (λ (label : Option (List ℕ)). length (unwrap_or label [])) (says.labelled (omega arith) (omega arith)) in
+      omega (arith, same),
 )
 
 -- The second span began before the bar.
-rejected_spans : ¬ SaysOf logs nodes window Recipes (span 2 3000 5000 false ∷ span 2 1000 4000 false ∷ []) (said 2 2000 2000 false (codes "2 targets in 2.00 s, from out/a.o"))
+rejected_spans : ¬ SaysOf logs nodes window Recipes (span 2 3000 5000 false ∷ span 2 1000 4000 false ∷ [])
+    (said 2 2000 2000 false (codes "2 targets in 2.00 s, from out/a.o"))
 unfolding duration_words decimal_text digits
 rejected_spans = λ says. let low : 2000 ≤ 0 = says.times.1.0.0 in omega (arith, low)
 
 -- A bar from 1000 to 5000 does not include the times of a span that began earlier, or ended later.
-rejected_times : ¬ Includes window (said 2 1000 4000 false title) (span 2 1500 5000 false) × ¬ Includes window (said 2 1000 4000 false title) (span 2 2000 6500 false)
-rejected_times = (λ times. let low : 1000 ≤ 500 = times.0 in omega (arith, low), λ times. let high : 5500 ≤ 5000 = times.1 in omega (arith, high))
+rejected_times : ¬ Includes window (said 2 1000 4000 false title) (span 2 1500 5000 false)
+    × ¬ Includes window (said 2 1000 4000 false title) (span 2 2000 6500 false)
+rejected_times = (
+  λ times. let low : 1000 ≤ 500 = times.0 in omega (arith, low),
+  λ times. let high : 5500 ≤ 5000 = times.1 in
+      omega (arith, high),
+)
 
 -- A line, a tick, and a bar that leads to another target.
 rejected_shapes :
-    ¬ Draws logs nodes window Recipes one (LineShape 0 98) × ¬ Draws logs nodes window Recipes one (TickShape 0 Start title) × ¬ Draws logs nodes window Recipes one (BarShape (said 1 0 4000 false title))
+    ¬ Draws logs nodes window Recipes one (LineShape 0 98) × ¬ Draws logs nodes window Recipes one (TickShape 0 Start title)
+    × ¬ Draws logs nodes window Recipes one (BarShape (said 1 0 4000 false title))
 unfolding duration_words decimal_text digits
 rejected_shapes = (λ draws. draws, λ draws. draws, λ draws. let same : 1 ≡ 2 = draws.target in omega (arith, same))
 
 -- A span has no bar, or two. Then there is a bar of no span.
 rejected_groups :
-    ¬ DrawsAll logs nodes window Recipes 4 one [] × ¬ DrawsAll logs nodes window Recipes 4 one (BarShape (said 2 0 4000 false title) ∷ BarShape (said 2 0 4000 false title) ∷ [])
+    ¬ DrawsAll logs nodes window Recipes 4 one []
+    × ¬ DrawsAll logs nodes window Recipes 4 one (BarShape (said 2 0 4000 false title) ∷ BarShape (said 2 0 4000 false title) ∷ [])
     × ¬ DrawsAll logs nodes window Recipes 4 [] (BarShape (said 2 0 4000 false title) ∷ [])
 unfolding duration_words decimal_text digits
 rejected_groups = (λ draws. draws.bars, λ draws. draws.bars.1, λ draws. draws.bars)
@@ -113,8 +146,10 @@ box y height = BarShape (record { target = 2; x = 0; y = y; width = 10; height =
 -- The bars of a row don't begin at one height, or don't end at one height. Then the second of two rows begins where the first one ends.
 -- Then a row begins too high, ends too low, has no height, or has a line.
 rejected_rows :
-    ¬ AreRows 15 100 ((box 20 12 ∷ box 21 11 ∷ []) ∷ []) × ¬ AreRows 15 100 ((box 20 12 ∷ box 20 13 ∷ []) ∷ []) × ¬ AreRows 15 100 ((box 20 12 ∷ []) ∷ (box 32 12 ∷ []) ∷ [])
-    × ¬ AreRows 20 100 ((box 20 12 ∷ []) ∷ []) × ¬ AreRows 15 31 ((box 20 12 ∷ []) ∷ []) × ¬ AreRows 15 100 ((box 20 0 ∷ []) ∷ []) × ¬ AreRows 15 100 ((LineShape 0 98 ∷ []) ∷ [])
+    ¬ AreRows 15 100 ((box 20 12 ∷ box 21 11 ∷ []) ∷ []) × ¬ AreRows 15 100 ((box 20 12 ∷ box 20 13 ∷ []) ∷ [])
+    × ¬ AreRows 15 100 ((box 20 12 ∷ []) ∷ (box 32 12 ∷ []) ∷ [])
+    × ¬ AreRows 20 100 ((box 20 12 ∷ []) ∷ []) × ¬ AreRows 15 31 ((box 20 12 ∷ []) ∷ []) × ¬ AreRows 15 100 ((box 20 0 ∷ []) ∷ [])
+    × ¬ AreRows 15 100 ((LineShape 0 98 ∷ []) ∷ [])
 rejected_rows = (
   λ rows. let first : 20 ≡ rows.1.top = rows.1.bars.0.0 in let second : 21 ≡ rows.1.top = rows.1.bars.1.0.0 in omega (arith, first, second),
   λ rows. let first : 32 ≡ rows.0 = rows.1.bars.0.1 in let second : 33 ≡ rows.0 = rows.1.bars.1.0.1 in omega (arith, first, second),

@@ -66,7 +66,45 @@ static MARKS: [Span; 1] = [Span {
 }];
 
 static HTML: &[u8] =
-    b"<svg role=\"img\" aria-label=\"A bar for each target, from its start to its end, in 2 lanes\" width=\"100%\" height=\"102\" font-size=\"11\"><g class=\"axis\" stroke=\"#8886\" fill=\"currentColor\" stroke-width=\".5\"><line x1=\"0.00%\" x2=\"0.00%\" y1=\"15\" y2=\"98\"></line><text x=\"0.00%\" y=\"11\">0</text><line x1=\"10.00%\" x2=\"10.00%\" y1=\"15\" y2=\"98\"></line><text x=\"10.00%\" y=\"11\" text-anchor=\"middle\">1 s</text><line x1=\"20.00%\" x2=\"20.00%\" y1=\"15\" y2=\"98\"></line><text x=\"20.00%\" y=\"11\" text-anchor=\"middle\">2 s</text><line x1=\"30.00%\" x2=\"30.00%\" y1=\"15\" y2=\"98\"></line><text x=\"30.00%\" y=\"11\" text-anchor=\"middle\">3 s</text><line x1=\"40.00%\" x2=\"40.00%\" y1=\"15\" y2=\"98\"></line><text x=\"40.00%\" y=\"11\" text-anchor=\"middle\">4 s</text><line x1=\"50.00%\" x2=\"50.00%\" y1=\"15\" y2=\"98\"></line><text x=\"50.00%\" y=\"11\" text-anchor=\"middle\">5 s</text><line x1=\"60.00%\" x2=\"60.00%\" y1=\"15\" y2=\"98\"></line><text x=\"60.00%\" y=\"11\" text-anchor=\"middle\">6 s</text><line x1=\"70.00%\" x2=\"70.00%\" y1=\"15\" y2=\"98\"></line><text x=\"70.00%\" y=\"11\" text-anchor=\"middle\">7 s</text><line x1=\"80.00%\" x2=\"80.00%\" y1=\"15\" y2=\"98\"></line><text x=\"80.00%\" y=\"11\" text-anchor=\"middle\">8 s</text><line x1=\"90.00%\" x2=\"90.00%\" y1=\"15\" y2=\"98\"></line><text x=\"90.00%\" y=\"11\" text-anchor=\"middle\">9 s</text><line x1=\"100.00%\" x2=\"100.00%\" y1=\"15\" y2=\"98\"></line><text x=\"100.00%\" y=\"11\" text-anchor=\"end\">10 s</text></g><g class=\"w\" fill=\"#8886\"><a href=\"#t0\" tabindex=\"-1\"><svg x=\"0.00%\" y=\"20\" width=\"100.00%\" height=\"12\"><title>all, 10.0 s, not closed</title><rect width=\"100%\" height=\"12\"></rect><text x=\"4\" y=\"9\" fill=\"currentColor\">all</text></svg></a></g><g class=\"k\" fill=\"#3a6ea5\"><a href=\"#t1\" tabindex=\"-1\"><svg x=\"0.00%\" y=\"40\" width=\"40.00%\" height=\"16\"><title>out/a.o, 4.00 s</title><rect width=\"100%\" height=\"16\"></rect><text x=\"4\" y=\"12\" fill=\"#fff\">a.o</text></svg></a><a href=\"#t3\" tabindex=\"-1\"><rect x=\"50.00%\" y=\"40\" width=\"0.20%\" height=\"16\"><title>2 targets in 0.02 s, from t1</title></rect></a><a href=\"#t2\" tabindex=\"-1\"><svg x=\"20.00%\" y=\"58\" width=\"75.00%\" height=\"16\"><title>out/b.o, 7.50 s, exit -1</title><rect width=\"100%\" height=\"16\" class=\"f\" fill=\"#c62828\"></rect><text x=\"4\" y=\"12\" fill=\"#fff\">b.o</text></svg></a></g><g class=\"e\" fill=\"#8a6d3b\"><a href=\"#t5\" tabindex=\"-1\"><rect x=\"100.00%\" y=\"82\" width=\"0.30%\" height=\"12\" class=\"f\" fill=\"#c62828\"><title>m, exit 2</title></rect></a></g></svg>";
+    b"<svg role=\"img\" aria-label=\"A bar for each target, from its start to its end, in 2 \
+        lanes\" width=\"100%\" height=\"102\" font-size=\"11\">\
+        <g class=\"axis\" stroke=\"#8886\" fill=\"currentColor\" stroke-width=\".5\">\
+        <line x1=\"0.00%\" x2=\"0.00%\" y1=\"15\" y2=\"98\"></line>\
+        <text x=\"0.00%\" y=\"11\">0</text><line x1=\"10.00%\" x2=\"10.00%\" y1=\"15\" y2=\"98\">\
+        </line><text x=\"10.00%\" y=\"11\" text-anchor=\"middle\">1 s</text>\
+        <line x1=\"20.00%\" x2=\"20.00%\" y1=\"15\" y2=\"98\"></line>\
+        <text x=\"20.00%\" y=\"11\" text-anchor=\"middle\">2 s</text>\
+        <line x1=\"30.00%\" x2=\"30.00%\" y1=\"15\" y2=\"98\"></line>\
+        <text x=\"30.00%\" y=\"11\" text-anchor=\"middle\">3 s</text>\
+        <line x1=\"40.00%\" x2=\"40.00%\" y1=\"15\" y2=\"98\"></line>\
+        <text x=\"40.00%\" y=\"11\" text-anchor=\"middle\">4 s</text>\
+        <line x1=\"50.00%\" x2=\"50.00%\" y1=\"15\" y2=\"98\"></line>\
+        <text x=\"50.00%\" y=\"11\" text-anchor=\"middle\">5 s</text>\
+        <line x1=\"60.00%\" x2=\"60.00%\" y1=\"15\" y2=\"98\"></line>\
+        <text x=\"60.00%\" y=\"11\" text-anchor=\"middle\">6 s</text>\
+        <line x1=\"70.00%\" x2=\"70.00%\" y1=\"15\" y2=\"98\"></line>\
+        <text x=\"70.00%\" y=\"11\" text-anchor=\"middle\">7 s</text>\
+        <line x1=\"80.00%\" x2=\"80.00%\" y1=\"15\" y2=\"98\"></line>\
+        <text x=\"80.00%\" y=\"11\" text-anchor=\"middle\">8 s</text>\
+        <line x1=\"90.00%\" x2=\"90.00%\" y1=\"15\" y2=\"98\"></line>\
+        <text x=\"90.00%\" y=\"11\" text-anchor=\"middle\">9 s</text>\
+        <line x1=\"100.00%\" x2=\"100.00%\" y1=\"15\" y2=\"98\"></line>\
+        <text x=\"100.00%\" y=\"11\" text-anchor=\"end\">10 s</text></g>\
+        <g class=\"w\" fill=\"#8886\"><a href=\"#t0\" tabindex=\"-1\">\
+        <svg x=\"0.00%\" y=\"20\" width=\"100.00%\" height=\"12\">\
+        <title>all, 10.0 s, not closed</title><rect width=\"100%\" height=\"12\"></rect>\
+        <text x=\"4\" y=\"9\" fill=\"currentColor\">all</text></svg></a></g>\
+        <g class=\"k\" fill=\"#3a6ea5\"><a href=\"#t1\" tabindex=\"-1\">\
+        <svg x=\"0.00%\" y=\"40\" width=\"40.00%\" height=\"16\"><title>out/a.o, 4.00 s</title>\
+        <rect width=\"100%\" height=\"16\"></rect><text x=\"4\" y=\"12\" fill=\"#fff\">a.o</text>\
+        </svg></a><a href=\"#t3\" tabindex=\"-1\"><rect x=\"50.00%\" y=\"40\" width=\"0.20%\" \
+        height=\"16\"><title>2 targets in 0.02 s, from t1</title></rect></a>\
+        <a href=\"#t2\" tabindex=\"-1\"><svg x=\"20.00%\" y=\"58\" width=\"75.00%\" height=\"16\">\
+        <title>out/b.o, 7.50 s, exit -1</title><rect width=\"100%\" height=\"16\" class=\"f\" \
+        fill=\"#c62828\"></rect><text x=\"4\" y=\"12\" fill=\"#fff\">b.o</text></svg></a></g>\
+        <g class=\"e\" fill=\"#8a6d3b\"><a href=\"#t5\" tabindex=\"-1\">\
+        <rect x=\"100.00%\" y=\"82\" width=\"0.30%\" height=\"12\" class=\"f\" fill=\"#c62828\">\
+        <title>m, exit 2</title></rect></a></g></svg>";
 
 #[test]
 fn chart_is_written(rt: HostRuntime) -> Result<(), Fail> {

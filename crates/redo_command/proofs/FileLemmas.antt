@@ -20,21 +20,28 @@ module _ (max_bytes : ℕ) where
 
   module _ (first now after : Option Stream) (bytes buffer : List ℕ) (gave : Gave first bytes now) (within : length bytes ≤ max_bytes) where
     -- The read returns the end of input.
-    pub file_ends : Pulls now after (Ok 0) buffer → SomeStream first (λ stream. (end_fault max_bytes stream ≡ None) × (bytes ≡ stream.bytes))
+    pub file_ends : Pulls now after (Ok 0) buffer
+        → SomeStream first (λ stream. (end_fault max_bytes stream ≡ None) × (bytes ≡ stream.bytes))
     file_ends pulls =
-        weaker first (λ stream. (stream.bytes ≡ bytes) × (stream.fails ≡ false)) (λ stream. (end_fault max_bytes stream ≡ None) × (bytes ≡ stream.bytes))
-        (λ stream is. (no_fault stream (omega (arith, within, ap length is.0)) is.1, sym is.0)) (Gave-end first now after bytes buffer gave pulls)
+        weaker first (λ stream. (stream.bytes ≡ bytes) × (stream.fails ≡ false))
+        (λ stream. (end_fault max_bytes stream ≡ None) × (bytes ≡ stream.bytes))
+        (λ stream is. (no_fault stream (omega (arith, within, ap length is.0)) is.1, sym is.0))
+        (Gave-end first now after bytes buffer gave pulls)
 
     -- The read fails.
-    pub file_fails : (broken : Broken) → Pulls now after (Err broken) buffer → SomeStream first (λ stream. IsSome (end_fault max_bytes stream))
+    pub file_fails : (broken : Broken) → Pulls now after (Err broken) buffer
+        → SomeStream first (λ stream. IsSome (end_fault max_bytes stream))
     file_fails broken pulls =
         weaker first (λ stream. (stream.bytes ≡ bytes) × (stream.fails ≡ true)) (λ stream. IsSome (end_fault max_bytes stream))
-        (λ stream is. ap is_some (read_fault stream (omega (arith, within, ap length is.0)) is.1)) (Gave-failed first now after bytes broken buffer gave pulls)
+        (λ stream is. ap is_some (read_fault stream (omega (arith, within, ap length is.0)) is.1))
+        (Gave-failed first now after bytes broken buffer gave pulls)
 
     -- The read exceeds the maximum.
-    pub file_is_long : (n : ℕ) → max_bytes - length bytes < n → n ≤ length buffer → Pulls now after (Ok n) buffer → SomeStream first (λ stream. IsSome (end_fault max_bytes stream))
+    pub file_is_long : (n : ℕ) → max_bytes - length bytes < n → n ≤ length buffer → Pulls now after (Ok n) buffer
+        → SomeStream first (λ stream. IsSome (end_fault max_bytes stream))
     file_is_long n over fits pulls =
         let more = Gave-more first now after bytes n buffer (omega (arith, over)) gave pulls in
         weaker first (λ stream. length (bytes ++ take n buffer) ≤ length stream.bytes) (λ stream. IsSome (end_fault max_bytes stream))
-        (λ stream longer. ap is_some (long_fault stream (omega (arith, over, fits, longer, length-append bytes (take n buffer), length-take n buffer))))
+        (λ stream longer. ap is_some (long_fault stream
+        (omega (arith, over, fits, longer, length-append bytes (take n buffer), length-take n buffer))))
         (Gave-longer first after (bytes ++ take n buffer) more)

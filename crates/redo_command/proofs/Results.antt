@@ -24,7 +24,9 @@ use Rattle.redo_command.specs.Private.Shown.{IsShown}
 use Rattle.redo_command.proofs.LogLemmas.{match_known}
 
 -- What the result of a run says about the streams of its readers, it says about the logs that they give.
-module _ {A : Type 0} (text : List Log → List (List ℕ) → List ℕ) (contents : A → Option Stream) (known : ℕ → Option Stream) (index : List IndexEntry) (readers : List A) (arguments : List (Vec ℕ)) (give : AllGive (known_logs known index) (map contents readers)) (before after : Option Output) where
+module _ {A : Type 0} (text : List Log → List (List ℕ) → List ℕ) (contents : A → Option Stream) (known : ℕ → Option Stream)
+    (index : List IndexEntry) (readers : List A) (arguments : List (Vec ℕ)) (give : AllGive (known_logs known index) (map contents readers))
+    (before after : Option Output) where
   abbrev logs : RenderCall
   logs = logs_call known text index (argument_bytes arguments)
 
@@ -37,7 +39,8 @@ module _ {A : Type 0} (text : List Log → List (List ℕ) → List ℕ) (conten
   some_streams : (P : List (StreamInput Stream) → Type 0) → SomeMatchingStreams reading.inputs P → SomeMatchingStreams logs.inputs P
   some_streams P given = (given.0, match_known contents known index readers given.0 give given.1, given.2)
 
-  or_prefix : WroteNothing before after ⊎ SomeRenderedText reading (WrotePrefix before after) → WroteNothing before after ⊎ SomeRenderedText logs (WrotePrefix before after)
+  or_prefix : WroteNothing before after ⊎ SomeRenderedText reading (WrotePrefix before after)
+      → WroteNothing before after ⊎ SomeRenderedText logs (WrotePrefix before after)
   or_prefix (inl nothing) = inl nothing
   or_prefix (inr some) = inr (some_streams _ some)
 
@@ -48,15 +51,18 @@ module _ {A : Type 0} (text : List Log → List (List ℕ) → List ℕ) (conten
   written (Err OutOfMemory) given = or_prefix given
   written (Err Write) given = some_streams _ given
 
-  pub is_written : (n : ℕ) (result : Result (Unit {0}) RunFault) → n ≡ byte_limit → IsRunWritten (reading_within n) before after result → IsRunWritten logs before after result
+  pub is_written : (n : ℕ) (result : Result (Unit {0}) RunFault) → n ≡ byte_limit → IsRunWritten (reading_within n) before after result
+      → IsRunWritten logs before after result
   is_written n result is given = written result (subst (λ (limit : ℕ). IsRunWritten (reading_within limit) before after result) is given)
 
 module _ (call : RenderCall) where
   -- The clauses of `run_as` say what a run wrote.
   pub is_run_written : (before after : Option Output) (result : Result (Unit {0}) RunFault)
-      → IfOk result (λ _. SomeRenderedText call (WroteAll before after)) → IfNoText result (λ fault. IsSomeRenderedFault call fault) → IfNoText result (λ _. WroteNothing before after)
+      → IfOk result (λ _. SomeRenderedText call (WroteAll before after)) → IfNoText result (λ fault. IsSomeRenderedFault call fault)
+      → IfNoText result (λ _. WroteNothing before after)
       → (result ≡ Err Write → SomeRenderedText call (WroteUntilFailed before after))
-      → (result ≡ Err OutOfMemory → WroteNothing before after ⊎ SomeRenderedText call (WrotePrefix before after)) → IsRunWritten call before after result
+      → (result ≡ Err OutOfMemory → WroteNothing before after ⊎ SomeRenderedText call (WrotePrefix before after))
+      → IsRunWritten call before after result
   is_run_written before after (Ok done) whole fault nothing write memory = whole
   is_run_written before after (Err (Unknown place)) whole fault nothing write memory = (fault, nothing)
   is_run_written before after (Err (OfStream number cause)) whole fault nothing write memory = (fault, nothing)
@@ -64,12 +70,14 @@ module _ (call : RenderCall) where
   is_run_written before after (Err Write) whole fault nothing write memory = write refl
 
   -- Running out of memory before a run writes nothing.
-  pub is_unwritten : (output : Option Output) (result : Result (Unit {0}) Failure) → IsErrAnd result (λ failure. failure ≡ Memory) → IsWriteResult call output output result
+  pub is_unwritten : (output : Option Output) (result : Result (Unit {0}) Failure) → IsErrAnd result (λ failure. failure ≡ Memory)
+      → IsWriteResult call output output result
   is_unwritten output (Ok done) is = absurd is
   is_unwritten output (Err failure) is = subst (λ f. IsWriteResult call output output (Err f)) (sym is) refl
 
 -- Flushing a buffer and closing the file below it is closing once.
-closed_twice : (outcome flushed result : Result (Unit {0}) Failure) → IsClosedAfter outcome flushed → IsClosedAfter flushed result → IsClosedAfter outcome result
+closed_twice : (outcome flushed result : Result (Unit {0}) Failure) → IsClosedAfter outcome flushed → IsClosedAfter flushed result
+    → IsClosedAfter outcome result
 closed_twice (Ok done) flushed result (inl is) closed = subst (λ r. IsClosedAfter r result) is closed
 closed_twice (Ok done) flushed result (inr is) closed = inr (subst (λ r. IsClosedAfter r result) is closed)
 closed_twice (Err failure) flushed result is closed = subst (λ r. IsClosedAfter r result) is closed
@@ -79,8 +87,10 @@ module _ (P : Result (Unit {0}) Failure → Type 0) where
   pub is_shown_closed : (shown result : Result (Unit {0}) Failure) → IsClosedAfter shown result → IsShown P shown → IsShown P result
   is_shown_closed (Ok done) result closed (inl is) = absurd is
   is_shown_closed (Err failure) result closed (inl is) = inl (subst (λ r. IsErrAnd r IsIndexFailure) (sym closed) is)
-  is_shown_closed (Ok done) result closed (inr (outcome, holds, flushed)) = inr (outcome, holds, closed_twice outcome (Ok done) result flushed closed)
-  is_shown_closed (Err failure) result closed (inr (outcome, holds, flushed)) = inr (outcome, holds, closed_twice outcome (Err failure) result flushed closed)
+  is_shown_closed (Ok done) result closed (inr (outcome, holds, flushed)) =
+      inr (outcome, holds, closed_twice outcome (Ok done) result flushed closed)
+  is_shown_closed (Err failure) result closed (inr (outcome, holds, flushed)) =
+      inr (outcome, holds, closed_twice outcome (Err failure) result flushed closed)
 
   -- Memory ran out before anything was written.
   pub is_memory_failure : (result : Result (Unit {0}) Failure) → IsErrAnd result (λ failure. failure ≡ Memory) → IsShown P result
@@ -96,8 +106,11 @@ abbrev failed : (X : Type 0) → Failure → Result X Failure
 failed X failure = Err failure
 
 -- The file `names` was not read.
-pub not_read : (X : Type 0) (known : Option Stream) (result : Result (List IndexEntry) Failure) (failure : Failure) → IsErrAnd result (λ f. f ≡ failure) → (failure ≡ NamesRead) ⊎ (failure ≡ Memory)
+pub not_read : (X : Type 0) (known : Option Stream) (result : Result (List IndexEntry) Failure) (failure : Failure)
+    → IsErrAnd result (λ f. f ≡ failure) → (failure ≡ NamesRead) ⊎ (failure ≡ Memory)
     → (failed X failure ≡ failed X NamesRead → SomeStream known CannotBeRead) → SomeStream known (IsIndexResult result)
 not_read X known (Ok index) failure is either unreadable = absurd is
-not_read X known (Err given) failure is (inl names) unreadable = subst (λ f. SomeStream known (IsIndexResult (Err f))) (sym (is ∙ names)) (unreadable (ap Err names))
-not_read X known (Err given) failure is (inr memory) unreadable = subst (λ f. SomeStream known (IsIndexResult (Err f))) (sym (is ∙ memory)) (any_stream known _ (λ _. tt))
+not_read X known (Err given) failure is (inl names) unreadable =
+    subst (λ f. SomeStream known (IsIndexResult (Err f))) (sym (is ∙ names)) (unreadable (ap Err names))
+not_read X known (Err given) failure is (inr memory) unreadable =
+    subst (λ f. SomeStream known (IsIndexResult (Err f))) (sym (is ∙ memory)) (any_stream known _ (λ _. tt))

@@ -42,7 +42,10 @@ failures_so_far (Some taken) = taken.failures
 reads :
     Pulls (Some then_fails) (Some last_byte) (Ok 2) (1 ∷ 2 ∷ 9 ∷ 9 ∷ [])
     × Pulls (Some three) (Some at_end) (Ok 3) (1 ∷ 2 ∷ 3 ∷ 9 ∷ [])
-reads = ((record { some = omega arith; fits = omega arith; available = omega arith; front = refl }, refl), (record { some = omega arith; fits = omega arith; available = omega arith; front = refl }, refl))
+reads = (
+  (record { some = omega arith; fits = omega arith; available = omega arith; front = refl }, refl),
+  (record { some = omega arith; fits = omega arith; available = omega arith; front = refl }, refl),
+)
 
 -- When no byte is left, every read returns 0, or every read fails.
 ends : Pulls (Some at_end) (Some at_end) (Ok 0) [] × Pulls (Some failed) (Some failed) (Err (record {})) (9 ∷ [])
@@ -58,9 +61,17 @@ no_reads :
     (Pulls (Some three) (Some three) (Ok 0) [] → ⊥) × (Pulls (Some then_fails) (Some failed) (Err (record {})) [] → ⊥)
     × (Pulls (Some then_fails) (Some last_byte) (Ok 2) (1 ∷ 9 ∷ []) → ⊥) × (Pulls (Some last_byte) (Some failed) (Ok 2) (3 ∷ 9 ∷ []) → ⊥)
     × (Pulls (Some three) (Some at_end) (Ok 3) (1 ∷ 2 ∷ []) → ⊥) × (Pulls (Some then_fails) (Some failed) (Ok 2) (1 ∷ 2 ∷ []) → ⊥)
-no_reads = ((λ is. omega (arith, is.0.some)), (λ is. is), (λ is. let same = is.0.front in cc), (λ is. omega (arith, is.0.available)), (λ is. omega (arith, is.0.fits)), (λ is. let same = ap bytes_left is.1 in cc))
+no_reads = (
+  (λ is. omega (arith, is.0.some)),
+  (λ is. is),
+  (λ is. let same = is.0.front in cc),
+  (λ is. omega (arith, is.0.available)),
+  (λ is. omega (arith, is.0.fits)),
+  (λ is. let same = ap bytes_left is.1 in cc),
+)
 
-no_ends : (Pulls (Some at_end) (Some at_end) (Err (record {})) [] → ⊥) × (Pulls (Some failed) (Some failed) (Ok 0) [] → ⊥) × (Pulls (Some failed) (Some at_end) (Err (record {})) [] → ⊥)
+no_ends : (Pulls (Some at_end) (Some at_end) (Err (record {})) [] → ⊥) × (Pulls (Some failed) (Some failed) (Ok 0) [] → ⊥)
+    × (Pulls (Some failed) (Some at_end) (Err (record {})) [] → ⊥)
 no_ends = ((λ is. let same = is.0 in cc), (λ is. let same = is.0 in cc), (λ is. let same = ap will_fail is.1 in cc))
 
 -- A fact holds of the reader's stream; for an opaque reader, of some stream.
@@ -82,7 +93,8 @@ streams = (refl, refl, refl)
 gives :
     ReadsNext ((1 ∷ 2 ∷ []) ∷ (3 ∷ []) ∷ []) true (record { reads = (2 ∷ []) ∷ (3 ∷ []) ∷ []; fails = true }) (Ok 1) (1 ∷ [])
     × ReadsNext ((2 ∷ []) ∷ (3 ∷ []) ∷ []) true (record { reads = [] ∷ (3 ∷ []) ∷ []; fails = true }) (Ok 1) (2 ∷ 9 ∷ [])
-    × ReadsNext [] true (record { reads = []; fails = true }) (Err (record {})) [] × ReadsNext [] false (record { reads = []; fails = false }) (Ok 0) []
+    × ReadsNext [] true (record { reads = []; fails = true }) (Err (record {})) []
+    × ReadsNext [] false (record { reads = []; fails = false }) (Ok 0) []
 gives = ((refl, refl, refl), (refl, refl, refl), (refl, refl), (refl, refl))
 
 gives_no_other : ReadsNext ((1 ∷ 2 ∷ []) ∷ []) true (record { reads = (2 ∷ []) ∷ []; fails = true }) (Ok 1) (9 ∷ []) → ⊥
@@ -97,7 +109,8 @@ before = Some (record { bytes = 1 ∷ []; failures = 3 })
 pushes :
     (after_push before (7 ∷ 8 ∷ 9 ∷ []) (Ok 2) ≡ Some (record { bytes = 1 ∷ 7 ∷ 8 ∷ []; failures = 3 }))
     × (after_push before (7 ∷ []) (Ok 0) ≡ Some (record { bytes = 1 ∷ []; failures = 4 }))
-    × (after_push before (7 ∷ []) (Err (record {})) ≡ Some (record { bytes = 1 ∷ []; failures = 4 })) × (after_push None (7 ∷ []) (Ok 1) ≡ None)
+    × (after_push before (7 ∷ []) (Err (record {})) ≡ Some (record { bytes = 1 ∷ []; failures = 4 }))
+    × (after_push None (7 ∷ []) (Ok 1) ≡ None)
 pushes = (refl, refl, refl, refl)
 
 -- The complete text is written, or a prefix of it and then one write fails.

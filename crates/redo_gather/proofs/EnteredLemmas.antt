@@ -29,7 +29,8 @@ module _ (names : List (List ℕ)) (table : List Log) (entered : table ≡ map n
 
     -- A result gathered for the table is gathered for the names, the flags and the readers.
     pub gathered_of : (contents : R → Option Stream) (max_bytes : ℕ) (result : Result (List Log) GatherFault)
-        → IsGathered max_bytes (targets_of table) (map (known_input contents) pairs) result → IsGathered max_bytes names (known_inputs contents flags readers) result
+        → IsGathered max_bytes (targets_of table) (map (known_input contents) pairs) result
+        → IsGathered max_bytes names (known_inputs contents flags readers) result
     gathered_of contents max_bytes result gathered =
         subst (λ own. IsGathered max_bytes own (known_inputs contents flags readers) result) targets_are
         (subst (λ given. IsGathered max_bytes (targets_of table) (map (known_input contents) given) result) pairs_are gathered)

@@ -16,15 +16,18 @@ pub record Entered (names left : List (List ℕ)) (table : List Log) : Type 0 wh
   pub table_is : table ≡ map new_log first
 
 -- A property of all names holds of one among them.
-in_midst : (P : List ℕ → Type 0) (first : List (List ℕ)) (name : List ℕ) (others : List (List ℕ)) → AllByRecursion P (first ++ name ∷ others) → P name
+in_midst : (P : List ℕ → Type 0) (first : List (List ℕ)) (name : List ℕ) (others : List (List ℕ))
+    → AllByRecursion P (first ++ name ∷ others) → P name
 in_midst P [] name others all = all.0
 in_midst P (one ∷ first) name others all = in_midst P first name others all.1
 
 -- If no name occurs twice, a name isn't among the names before it.
-none_before : (first : List (List ℕ)) (name : List ℕ) (others : List (List ℕ)) (from : ℕ) → IsDistinct (pointwise nat_eq) (first ++ name ∷ others) → position_from (pointwise nat_eq name) from first ≡ None
+none_before : (first : List (List ℕ)) (name : List ℕ) (others : List (List ℕ)) (from : ℕ)
+    → IsDistinct (pointwise nat_eq) (first ++ name ∷ others) → position_from (pointwise nat_eq name) from first ≡ None
 none_before [] name others from distinct = refl
 none_before (one ∷ first) name others from distinct =
-    let apart = in_midst (λ y. pointwise nat_eq one y ≡ false) first name others (IsDistinct-head (pointwise nat_eq) one (first ++ name ∷ others) distinct) in
+    let apart = in_midst (λ y. pointwise nat_eq one y ≡ false) first name others
+    (IsDistinct-head (pointwise nat_eq) one (first ++ name ∷ others) distinct) in
     let flipped : pointwise nat_eq name one ≡ false = nat_list_eq_equiv.symm name one ∙ apart in
     rw (flipped) (none_before first name others (from + 1) (IsDistinct-tail (pointwise nat_eq) one (first ++ name ∷ others) distinct))
 
@@ -48,7 +51,8 @@ module _ (names left : List (List ℕ)) (table : List Log) (so_far : Entered nam
     pub not_twice : IsDistinct (pointwise nat_eq) names → IsSome (log_number name table) → ⊥
     not_twice distinct there =
         let none : log_number name table ≡ None =
-        ap (log_number name) so_far.table_is ∙ ap (position (pointwise nat_eq name)) (targets-entered so_far.first) ∙ position_from-zero (pointwise nat_eq name) so_far.first
+        ap (log_number name) so_far.table_is ∙ ap (position (pointwise nat_eq name)) (targets-entered so_far.first)
+        ∙ position_from-zero (pointwise nat_eq name) so_far.first
         ∙ none_before so_far.first name others 0 (subst (IsDistinct (pointwise nat_eq)) names_here distinct) in
         true≢false (sym there ∙ ap is_some none)
 
@@ -60,6 +64,7 @@ module _ (names left : List (List ℕ)) (table : List Log) (so_far : Entered nam
       by (name ∷ l) none is = absurd (omega (arith, none))
 
 -- If `P` holds of the value whenever `given` is `Ok`, it holds of `result_and given (Ok value)`.
-pub ok_of_and : {A B E : Type 0} (P : B → Type 0) (given : Result A E) (value : B) → OnOk given (P value) → IfOk (result_and given (Ok value)) P
+pub ok_of_and : {A B E : Type 0} (P : B → Type 0) (given : Result A E) (value : B) → OnOk given (P value)
+    → IfOk (result_and given (Ok value)) P
 ok_of_and P (Ok done) value is = is
 ok_of_and P (Err fault) value is = tt

@@ -18,7 +18,8 @@ use Rattle.redo_gather.proofs.ExpectedLemmas.{log_known}
 
 module _ (max_bytes : ℕ) (source : Source Stream) where
   -- The entries of a stream with a fault are the entries before it.
-  part_known : (fault : StreamFault) → source_fault max_bytes source ≡ Some fault → reported_entries max_bytes source ≡ source_entries_before_fault max_bytes source
+  part_known : (fault : StreamFault) → source_fault max_bytes source ≡ Some fault
+      → reported_entries max_bytes source ≡ source_entries_before_fault max_bytes source
   part_known fault some =
       let all = filter_map (λ entry. entry) (entries_of source.target source.stream.bytes) in
       ap (λ found. log_or_part (unless_fault found all) (source_entries_before_fault max_bytes source)) some
@@ -71,11 +72,13 @@ module _ (max_bytes sender : ℕ) where
   last_same stream (Some fault) None is = absurd (let whats : Fail fault ≡ End = ap first_what is in cc)
   last_same stream (Some fault) (Some other) is = let whats : Fail fault ≡ Fail other = ap first_what is in cc
 
-  no_more : (stream : ℕ) (fault other : Option StreamFault) (entry : Entry) (entries : List Entry) → all_of [] fault stream ≡ all_of (entry ∷ entries) other stream → ⊥
+  no_more : (stream : ℕ) (fault other : Option StreamFault) (entry : Entry) (entries : List Entry)
+      → all_of [] fault stream ≡ all_of (entry ∷ entries) other stream → ⊥
   no_more stream None other entry entries is = absurd (let whats : End ≡ Line entry = ap first_what is in cc)
   no_more stream (Some fault) other entry entries is = absurd (let whats : Fail fault ≡ Line entry = ap first_what is in cc)
 
-  known_same : (stream : ℕ) (entries others : List Entry) (fault other : Option StreamFault) → all_of entries fault stream ≡ all_of others other stream → (entries ≡ others) × (fault ≡ other)
+  known_same : (stream : ℕ) (entries others : List Entry) (fault other : Option StreamFault)
+      → all_of entries fault stream ≡ all_of others other stream → (entries ≡ others) × (fault ≡ other)
   known_same stream [] [] fault other is = (refl, last_same stream fault other is)
   known_same stream [] (entry ∷ others) fault other is = absurd (no_more stream fault other entry others is)
   known_same stream (entry ∷ entries) [] fault other is = absurd (no_more stream other fault entry entries (sym is))
@@ -92,13 +95,17 @@ module _ (max_bytes sender : ℕ) where
     λ expected. (entries, fault, [], sym (append-nil (all_of entries fault stream)), expected, refl),
   )
     where
-      by : (others : List Entry) (other : Option StreamFault) (suffix : List Item) → all_of entries fault stream ≡ all_of others other stream ++ suffix → IsExpectedFor max_bytes given others other
+      by : (others : List Entry) (other : Option StreamFault) (suffix : List Item)
+          → all_of entries fault stream ≡ all_of others other stream ++ suffix → IsExpectedFor max_bytes given others other
           → suffix ≡ [] → IsExpectedFor max_bytes given entries fault
       by others other suffix is expected none =
-          let same = known_same stream entries others fault other (is ∙ ap (λ b. all_of others other stream ++ b) none ∙ append-nil (all_of others other stream)) in
-          subst (λ f. IsExpectedFor max_bytes given entries f) (sym same.1) (subst (λ es. IsExpectedFor max_bytes given es other) (sym same.0) expected)
+          let same = known_same stream entries others fault other
+          (is ∙ ap (λ b. all_of others other stream ++ b) none ∙ append-nil (all_of others other stream)) in
+          subst (λ f. IsExpectedFor max_bytes given entries f) (sym same.1)
+          (subst (λ es. IsExpectedFor max_bytes given es other) (sym same.0) expected)
 
-  in_order : (first others : List NumberedSource) (items : List Item) → AreExpected max_bytes sender (first ++ others) items → AreConcatenated max_bytes sender first others items
+  in_order : (first others : List NumberedSource) (items : List Item) → AreExpected max_bytes sender (first ++ others) items
+      → AreConcatenated max_bytes sender first others items
   in_order [] others items expected = ([], items, refl, refl, expected)
   in_order (stream ∷ first) others items (entries, fault, suffix, is, expected, more) =
       let parts = in_order first others suffix more in
@@ -110,8 +117,10 @@ module _ (max_bytes sender : ℕ) where
         parts.4,
       )
 
-  from_order : (first others : List NumberedSource) (items : List Item) → AreConcatenated max_bytes sender first others items → AreExpected max_bytes sender (first ++ others) items
-  from_order [] others items (prefix, suffix, is, none, expected) = subst (AreExpected max_bytes sender others) (sym (is ∙ ap (λ f. f ++ suffix) none)) expected
+  from_order : (first others : List NumberedSource) (items : List Item) → AreConcatenated max_bytes sender first others items
+      → AreExpected max_bytes sender (first ++ others) items
+  from_order [] others items (prefix, suffix, is, none, expected) =
+      subst (AreExpected max_bytes sender others) (sym (is ∙ ap (λ f. f ++ suffix) none)) expected
   from_order (stream ∷ first) others items (prefix, suffix, is, (entries, fault, left, known_is, expected, more), last) =
       let known = all_of entries fault stream.0 in (
         entries,

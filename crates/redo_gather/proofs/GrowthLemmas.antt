@@ -10,10 +10,12 @@ update_log-update_log : (number : ℕ) (second first both : Log → Log) → ((l
     → update_log number second (update_log number first logs) ≡ update_log number both logs
 update_log-update_log number second first both is [] = refl
 update_log-update_log zero second first both is (log ∷ logs) = ap (λ l. l ∷ logs) (is log)
-update_log-update_log (suc number) second first both is (log ∷ logs) = ap (λ ls. log ∷ ls) (update_log-update_log number second first both is logs)
+update_log-update_log (suc number) second first both is (log ∷ logs) =
+    ap (λ ls. log ∷ ls) (update_log-update_log number second first both is logs)
 
 -- The entries, and then the end or the fault, complete a log.
-pub with_last : (number : ℕ) (entries : List Entry) (fault : Option StreamFault) (initial table after : List Log) → table ≡ update_log number (with_entries entries) initial
+pub with_last : (number : ℕ) (entries : List Entry) (fault : Option StreamFault) (initial table after : List Log)
+    → table ≡ update_log number (with_entries entries) initial
     → after ≡ update_log number (with_state (state_after fault)) table → after ≡ update_log number (completed entries fault) initial
 with_last number entries fault initial table after table_is after_is =
     after_is ∙ ap (update_log number (with_state (state_after fault))) table_is

@@ -18,14 +18,16 @@ module _ {A : Type 0} (contents : A → KnownInput) (max_bytes : ℕ) (names : L
     pub number_is : number ≡ length read
     pub gathered : Gathered max_bytes names (map contents read) table
 
-  module _ (read left : List A) (number : ℕ) (table : List Log) (so_far : Underway read left number table) (same : length readers ≡ length names) where
+  module _ (read left : List A) (number : ℕ) (table : List Log) (so_far : Underway read left number table)
+      (same : length readers ≡ length names) where
     count : number ≡ length (map contents read)
     count = so_far.number_is ∙ sym (length-map read contents)
 
     module _ (reader : A) (others : List A) (left_is : left ≡ reader ∷ others) where
       -- There is a name for the next reader.
       pub below_names : number < length names
-      below_names = let n = so_far.number_is in omega (arith, ap length so_far.readers_are, ap length left_is, same, length-append read left)
+      below_names = let n = so_far.number_is in
+          omega (arith, ap length so_far.readers_are, ap length left_is, same, length-append read left)
 
       -- There is a log for it.
       pub below_logs : number < length table
@@ -46,24 +48,32 @@ module _ {A : Type 0} (contents : A → KnownInput) (max_bytes : ℕ) (names : L
 
         pub log_runs : slice_get (states_of table) number ≡ Some Running
         log_runs =
-            ap (λ (n : ℕ). slice_get (states_of table) n) count ∙ next_runs max_bytes names (map contents read) table so_far.gathered target there
+            ap (λ (n : ℕ). slice_get (states_of table) n) count
+            ∙ next_runs max_bytes names (map contents read) table so_far.gathered target there
 
-        pub one_more_read : (after : List Log) → IsCompleted max_bytes number (source target (contents reader).must_close (contents reader).stream) table after → Underway (read ++ reader ∷ []) others (number + 1) after
+        pub one_more_read : (after : List Log)
+            → IsCompleted max_bytes number (source target (contents reader).must_close (contents reader).stream) table after
+            → Underway (read ++ reader ∷ []) others (number + 1) after
         one_more_read after completes = record {
           readers_are = readers_here ∙ sym (append_assoc read (reader ∷ []) others);
           number_is = let n = so_far.number_is in omega (arith, length-append read (reader ∷ []));
           gathered =
               subst (λ known. Gathered max_bytes names known after) (sym (map_push contents read reader))
               (one_gathered max_bytes names (map contents read) table so_far.gathered target there (contents reader) after
-              (subst (λ (n : ℕ). IsCompleted max_bytes n (source target (contents reader).must_close (contents reader).stream) table after) count completes));
+              (subst (λ (n : ℕ). IsCompleted max_bytes n (source target (contents reader).must_close (contents reader).stream) table after)
+              count completes));
         }
 
-        pub fault_read : (fault : StreamFault) → HasFault max_bytes (source target (contents reader).must_close (contents reader).stream) fault
+        pub fault_read : (fault : StreamFault)
+            → HasFault max_bytes (source target (contents reader).must_close (contents reader).stream) fault
             → SomeMatchingStreams (map contents readers) (λ streams. fault_among max_bytes names streams ≡ Some (number, fault))
         fault_read fault at_fault =
-            subst (λ known. SomeMatchingStreams known (λ streams. fault_among max_bytes names streams ≡ Some (number, fault))) (sym (ap (map contents) readers_here ∙ map-append contents read (reader ∷ others)))
-            (subst (λ (n : ℕ). SomeMatchingStreams (map contents read ++ contents reader ∷ map contents others) (λ streams. fault_among max_bytes names streams ≡ Some (n, fault))) (sym count)
-            (fault_gathered max_bytes names (map contents read) table so_far.gathered target there (contents reader) (map contents others) fault at_fault))
+            subst (λ known. SomeMatchingStreams known (λ streams. fault_among max_bytes names streams ≡ Some (number, fault)))
+            (sym (ap (map contents) readers_here ∙ map-append contents read (reader ∷ others)))
+            (subst (λ (n : ℕ). SomeMatchingStreams (map contents read ++ contents reader ∷ map contents others)
+            (λ streams. fault_among max_bytes names streams ≡ Some (n, fault))) (sym count)
+            (fault_gathered max_bytes names (map contents read) table so_far.gathered target there (contents reader)
+            (map contents others) fault at_fault))
 
     -- No reader is left.
     module _ (none : length left ≡ 0) where
@@ -78,7 +88,8 @@ module _ {A : Type 0} (contents : A → KnownInput) (max_bytes : ℕ) (names : L
           by (x ∷ l) none is = absurd (omega (arith, none))
 
       pub all_logs : SomeMatchingStreams (map contents readers) (λ streams. logs_of max_bytes names streams ≡ Some table)
-      all_logs = subst (λ known. SomeMatchingStreams known (λ streams. logs_of max_bytes names streams ≡ Some table)) read_is (all_gathered max_bytes names (map contents read) table so_far.gathered all_read)
+      all_logs = subst (λ known. SomeMatchingStreams known (λ streams. logs_of max_bytes names streams ≡ Some table)) read_is
+          (all_gathered max_bytes names (map contents read) table so_far.gathered all_read)
 
       pub all_of_names : targets_of table ≡ names
       all_of_names = all_targets max_bytes names (map contents read) table so_far.gathered all_read

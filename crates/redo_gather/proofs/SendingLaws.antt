@@ -14,7 +14,8 @@ use Rattle.redo_gather.specs.Sending.{AreExpected, AreWellSized, IsWellSized, Nu
 pub are_singles : (sender stream : ℕ) (entries : List Entry) (fault : Option StreamFault) → AreSingles sender stream entries fault
 are_singles sender stream [] None = refl
 are_singles sender stream [] (Some fault) = refl
-are_singles sender stream (entry ∷ entries) fault = ap (λ items. entry_item sender stream entry ∷ items) (are_singles sender stream entries fault)
+are_singles sender stream (entry ∷ entries) fault =
+    ap (λ items. entry_item sender stream entry ∷ items) (are_singles sender stream entries fault)
 
 pub stands_for_each : (sender stream : ℕ) (entries : List Entry) → StandsForEach sender stream entries
 stands_for_each sender stream entries = append-nil (map (entry_item sender stream) entries)
@@ -47,14 +48,17 @@ both_of : (sender : ℕ) (prefix suffix : List Item) → AreOf sender prefix →
 both_of sender [] suffix first second = second
 both_of sender (item ∷ prefix) suffix first second = (first.0, both_of sender prefix suffix first.1 second)
 
-known_own : (sender stream : ℕ) (entries : List Entry) (fault : Option StreamFault) → AreOf sender (stream_items sender stream entries fault)
+known_own : (sender stream : ℕ) (entries : List Entry) (fault : Option StreamFault)
+    → AreOf sender (stream_items sender stream entries fault)
 known_own sender stream [] fault = (refl, tt)
 known_own sender stream (entry ∷ entries) fault = (refl, known_own sender stream entries fault)
 
-expected_own : (max_bytes sender : ℕ) (share : List NumberedSource) (items : List Item) → AreExpected max_bytes sender share items → AreOf sender items
+expected_own : (max_bytes sender : ℕ) (share : List NumberedSource) (items : List Item) → AreExpected max_bytes sender share items
+    → AreOf sender items
 expected_own max_bytes sender [] items none = subst (AreOf sender) (sym none) tt
 expected_own max_bytes sender (stream ∷ share) items (entries, fault, suffix, is, expected, more) =
-    subst (AreOf sender) (sym is) (both_of sender (stream_items sender stream.0 entries fault) suffix (known_own sender stream.0 entries fault) (expected_own max_bytes sender share suffix more))
+    subst (AreOf sender) (sym is) (both_of sender (stream_items sender stream.0 entries fault) suffix
+    (known_own sender stream.0 entries fault) (expected_own max_bytes sender share suffix more))
 
 own_item : (own sender stream : ℕ) (what : What) → IsWellSized what → AreOf own (singles_in sender stream what) → sender ≡ own
 own_item own sender stream (Line entry) filled all = all.0
@@ -78,7 +82,8 @@ posts_its_own max_bytes share before after sent =
 
 -- ---- counts
 
-count_in : (sender stream : ℕ) (what : What) → IsWellSized what → (1 ≤ length (singles_in sender stream what)) × (length (singles_in sender stream what) ≤ 1024)
+count_in : (sender stream : ℕ) (what : What) → IsWellSized what
+    → (1 ≤ length (singles_in sender stream what)) × (length (singles_in sender stream what) ≤ 1024)
 count_in sender stream (Line entry) filled = (omega arith, omega arith)
 count_in sender stream (Lines entries) filled =
     let count = length-map entries (entry_item sender stream) in

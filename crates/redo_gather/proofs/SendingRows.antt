@@ -46,7 +46,8 @@ in_singles = refl
 abbrev stream : Stream
 stream = stream_of (codes "x" ++ line_feed ∷ codes "y") false
 
-of_an_item : numbered_source (λ (known : Option Stream). known) (5, codes "d", true, Some stream) ≡ (5, source (codes "d") true (Some stream))
+of_an_item : numbered_source (λ (known : Option Stream). known) (5, codes "d", true, Some stream)
+    ≡ (5, source (codes "d") true (Some stream))
 of_an_item = refl
 
 -- The unended line is an entry of the log, but not an entry before a fault.
@@ -78,7 +79,8 @@ unfolding split_lines ended rest first_fault entry_of record_entry fields_of sta
 not_expected_open (inl whole) = let same = whole.1 in cc
 not_expected_open (inr short) = let same = short.1 in cc
 
-are_filled : IsWellSized (Line a) × IsWellSized (Lines (a ∷ b ∷ [])) × IsWellSized (Lines (replicate 1024 a)) × IsWellSized End × IsWellSized (Fail TooLong)
+are_filled : IsWellSized (Line a) × IsWellSized (Lines (a ∷ b ∷ [])) × IsWellSized (Lines (replicate 1024 a)) × IsWellSized End
+    × IsWellSized (Fail TooLong)
 are_filled = (tt, (omega arith, omega arith), (omega arith, omega arith), tt, tt)
 
 -- A post end of a mailbox of this capacity.
@@ -87,7 +89,12 @@ end capacity number posted =
     record {
       mailbox = record {
         table = record { words = 0; slots = 0; views_name = 0; atom = 0; block = 0; offset = 0; slot_names = [] };
-        key = record { marker = record {}; table_id = record { words = 0; slots = 0; views_name = 0; atom = 0; block = 0; offset = 0; slot_names = [] }; id = 0; views = [] };
+        key = record {
+          marker = record {};
+          table_id = record { words = 0; slots = 0; views_name = 0; atom = 0; block = 0; offset = 0; slot_names = [] };
+          id = 0;
+          views = [];
+        };
         capacity = capacity;
         senders = 4;
       };
@@ -112,7 +119,12 @@ has_sent = record {
 
 first_sent : HasSent 10 empty (end 1 3 []) (end 1 3 (item End ∷ []))
 unfolding split_lines ended rest first_fault entry_of record_entry fields_of status_of split_once after_prefix number normal reduce_suffix
-first_sent = record { unchanged = (refl, refl); posted = refl; expected = ([], None, [], refl, inl (refl, refl), refl); well_sized = (tt, tt) }
+first_sent = record {
+  unchanged = (refl, refl);
+  posted = refl;
+  expected = ([], None, [], refl, inl (refl, refl), refl);
+  well_sized = (tt, tt);
+}
 
 nothing_sent : HasSent 10 [] (end 1 3 (item (Line a) ∷ [])) (end 1 3 (item (Line a) ∷ []))
 nothing_sent = record { unchanged = (refl, refl); posted = refl; expected = refl; well_sized = tt }

@@ -12,10 +12,12 @@ use Rattle.redo_logs.proofs.LeastFault.{behind_one}
 use Rattle.redo_gather.specs.Streams.{MatchKnown, MatchesContents, KnownInput, fully_known, fault_among, prepend_log, log_with, logs_of, complete_log}
 
 -- One more stream, before the others.
-either : (fault : Option StreamFault) (target : List ℕ) (entries : List Entry) (logs : Option (List Log)) (faults : List (Option StreamFault)) → IsSome logs ↔ (lowest_fault faults ≡ None)
+either : (fault : Option StreamFault) (target : List ℕ) (entries : List Entry) (logs : Option (List Log))
+    (faults : List (Option StreamFault)) → IsSome logs ↔ (lowest_fault faults ≡ None)
     → IsSome (prepend_log (option_map (complete_log target) (unless_fault fault entries)) logs) ↔ (lowest_fault (fault ∷ faults) ≡ None)
 either (Some fault) target entries logs faults both = ((λ some. absurd (cc)), (λ none. absurd (cc)))
-either None target entries None faults both = ((λ some. absurd (cc)), (λ none. absurd (let some = both.1 (none_after (lowest_fault faults) none) in cc)))
+either None target entries None faults both =
+    ((λ some. absurd (cc)), (λ none. absurd (let some = both.1 (none_after (lowest_fault faults) none) in cc)))
   where
     none_after : (first : Option (ℕ × StreamFault)) → behind_one first ≡ None → first ≡ None
     none_after None none = refl
@@ -32,24 +34,30 @@ of_prefix (Some log) None all is = absurd (cc)
 of_prefix (Some log) (Some logs) all is = (log, logs, refl, refl, (cc))
 
 -- If the log exists, there is no fault.
-no_fault : (fault : Option StreamFault) (target : List ℕ) (entries : List Entry) (log : Log) → option_map (complete_log target) (unless_fault fault entries) ≡ Some log → (fault ≡ None) × (log.target ≡ target) × (has_ended log ≡ true)
+no_fault : (fault : Option StreamFault) (target : List ℕ) (entries : List Entry) (log : Log)
+    → option_map (complete_log target) (unless_fault fault entries) ≡ Some log
+    → (fault ≡ None) × (log.target ≡ target) × (has_ended log ≡ true)
 no_fault (Some fault) target entries log is = absurd (cc)
 no_fault None target entries log is =
     let log_is : complete_log target entries ≡ log = cc in
     (refl, sym (ap (λ (l : Log). l.target) log_is), sym (ap has_ended log_is))
 
-all_ended-more : (log : Log) (logs : List Log) → has_ended log ≡ true → list_all has_ended logs ≡ true → list_all has_ended (log ∷ logs) ≡ true
+all_ended-more : (log : Log) (logs : List Log) → has_ended log ≡ true → list_all has_ended logs ≡ true
+    → list_all has_ended (log ∷ logs) ≡ true
 all_ended-more log logs one others = rw (one, others)
 
 module _ (max_bytes : ℕ) where
-  pub logs_or_fault : (targets : List (List ℕ)) (streams : List (StreamInput Stream)) → IsSome (logs_of max_bytes targets streams) ↔ (fault_among max_bytes targets streams ≡ None)
+  pub logs_or_fault : (targets : List (List ℕ)) (streams : List (StreamInput Stream))
+      → IsSome (logs_of max_bytes targets streams) ↔ (fault_among max_bytes targets streams ≡ None)
   logs_or_fault [] streams = ((λ some. refl), (λ none. refl))
   logs_or_fault (target ∷ targets) [] = ((λ some. refl), (λ none. refl))
   logs_or_fault (target ∷ targets) (stream ∷ streams) =
-      either (source_fault max_bytes (source target stream.must_close stream.stream)) target _ (logs_of max_bytes targets streams) _ (logs_or_fault targets streams)
+      either (source_fault max_bytes (source target stream.must_close stream.stream)) target _ (logs_of max_bytes targets streams) _
+      (logs_or_fault targets streams)
 
   -- The logs of whole streams have the targets of the streams, and have ended.
-  pub whole_logs : (targets : List (List ℕ)) (streams : List (StreamInput Stream)) (logs : List Log) → length targets ≡ length streams → logs_of max_bytes targets streams ≡ Some logs
+  pub whole_logs : (targets : List (List ℕ)) (streams : List (StreamInput Stream)) (logs : List Log) → length targets ≡ length streams
+      → logs_of max_bytes targets streams ≡ Some logs
       → (targets_of logs ≡ targets) × (list_all has_ended logs ≡ true)
   whole_logs [] [] logs same is = let none : [] ≡ logs = cc in (sym (ap targets_of none), sym (ap (list_all has_ended) none))
   whole_logs [] (stream ∷ streams) logs same is = absurd (cc)
@@ -64,9 +72,12 @@ module _ (max_bytes : ℕ) where
 
   module _ (target : List ℕ) (stream : StreamInput Stream) where
     -- One more stream, after the others.
-    pub one_more : (targets : List (List ℕ)) (streams : List (StreamInput Stream)) (logs : List Log) (log : Log) → length targets ≡ length streams → logs_of max_bytes targets streams ≡ Some logs → log_with max_bytes (source target stream.must_close stream.stream) ≡ Some log
+    pub one_more : (targets : List (List ℕ)) (streams : List (StreamInput Stream)) (logs : List Log) (log : Log)
+        → length targets ≡ length streams → logs_of max_bytes targets streams ≡ Some logs
+        → log_with max_bytes (source target stream.must_close stream.stream) ≡ Some log
         → logs_of max_bytes (targets ++ target ∷ []) (streams ++ stream ∷ []) ≡ Some (logs ++ log ∷ [])
-    one_more [] [] logs log same is has = let none : [] ≡ logs = cc in ap (λ l. prepend_log l (Some [])) has ∙ ap (λ (ls : List Log). Some (ls ++ log ∷ [])) none
+    one_more [] [] logs log same is has = let none : [] ≡ logs = cc in
+        ap (λ l. prepend_log l (Some [])) has ∙ ap (λ (ls : List Log). Some (ls ++ log ∷ [])) none
     one_more [] (other ∷ streams) logs log same is has = absurd (cc)
     one_more (first ∷ targets) [] logs log same is has = absurd (cc)
     one_more (first ∷ targets) (other ∷ streams) logs log same is has =
@@ -76,8 +87,11 @@ module _ (max_bytes : ℕ) where
         ∙ ap (λ (ls : List Log). Some (ls ++ log ∷ [])) (sym prefix.4)
 
     -- A fault after streams that have none.
-    pub fault_after : (targets : List (List ℕ)) (streams : List (StreamInput Stream)) (logs : List Log) (left : List (List ℕ)) (unread : List (StreamInput Stream)) (fault : StreamFault) → length targets ≡ length streams → logs_of max_bytes targets streams ≡ Some logs
-        → source_fault max_bytes (source target stream.must_close stream.stream) ≡ Some fault → fault_among max_bytes (targets ++ target ∷ left) (streams ++ stream ∷ unread) ≡ Some (length targets, fault)
+    pub fault_after : (targets : List (List ℕ)) (streams : List (StreamInput Stream)) (logs : List Log) (left : List (List ℕ))
+        (unread : List (StreamInput Stream)) (fault : StreamFault) → length targets ≡ length streams
+        → logs_of max_bytes targets streams ≡ Some logs
+        → source_fault max_bytes (source target stream.must_close stream.stream) ≡ Some fault
+        → fault_among max_bytes (targets ++ target ∷ left) (streams ++ stream ∷ unread) ≡ Some (length targets, fault)
     fault_after [] [] logs left unread fault same is has = rw (has)
     fault_after [] (other ∷ streams) logs left unread fault same is has = absurd (cc)
     fault_after (first ∷ targets) [] logs left unread fault same is has = absurd (cc)
@@ -95,7 +109,8 @@ count_known [] (stream ∷ streams) are = absurd are
 count_known (known ∷ others) [] are = absurd are
 count_known (known ∷ others) (stream ∷ streams) are = ap suc (count_known others streams are.1)
 
-pub known-append : (known more : List KnownInput) (streams unread : List (StreamInput Stream)) → MatchKnown known streams → MatchKnown more unread → MatchKnown (known ++ more) (streams ++ unread)
+pub known-append : (known more : List KnownInput) (streams unread : List (StreamInput Stream)) → MatchKnown known streams
+    → MatchKnown more unread → MatchKnown (known ++ more) (streams ++ unread)
 known-append [] more [] unread are rest = rest
 known-append [] more (stream ∷ streams) unread are rest = absurd are
 known-append (known ∷ others) more [] unread are rest = absurd are
@@ -108,10 +123,14 @@ any_stream (Some stream) = (stream, refl)
 
 pub any_streams : (known : List KnownInput) → (streams : List (StreamInput Stream)) × MatchKnown known streams
 any_streams [] = ([], tt)
-any_streams (known ∷ others) =
-    (record { must_close = known.must_close; stream = (any_stream known.stream).0 } ∷ (any_streams others).0, ((refl, (any_stream known.stream).1), (any_streams others).1))
+any_streams (known ∷ others) = (
+  record { must_close = known.must_close; stream = (any_stream known.stream).0 }
+      ∷ (any_streams others).0,
+  ((refl, (any_stream known.stream).1), (any_streams others).1),
+)
 
-pub given_stream : (known : Option Stream) (P : Stream → Type 0) → SomeStream known P → (stream : Stream) × MatchesContents known stream × P stream
+pub given_stream : (known : Option Stream) (P : Stream → Type 0) → SomeStream known P
+    → (stream : Stream) × MatchesContents known stream × P stream
 given_stream None P (stream, p) = (stream, tt, p)
 given_stream (Some stream) P p = (stream, refl, p)
 
@@ -120,4 +139,5 @@ pub all_known : (streams others : List (StreamInput Stream)) → MatchKnown (map
 all_known [] [] are = refl
 all_known [] (other ∷ others) are = absurd are
 all_known (stream ∷ streams) [] are = absurd are
-all_known (stream ∷ streams) (other ∷ others) are = λ i. record { must_close = are.0.0 i; stream = are.0.1 i } ∷ all_known streams others are.1 i
+all_known (stream ∷ streams) (other ∷ others) are =
+    λ i. record { must_close = are.0.0 i; stream = are.0.1 i } ∷ all_known streams others are.1 i

@@ -25,7 +25,8 @@ bad = line (codes "@@REDO:do:7")
 
 abbrev all : List (List ℕ)
 all =
-    codes "@@REDO:do:7:1.0000@@ a.o" ∷ codes "@@REDO:do:7:1.0000@@ b.o" ∷ codes "@@REDO:done:7:1.0000@@ 0 a.o" ∷ codes "@@REDO:done:7:1.0000@@ 1 b.o" ∷ codes "link" ∷
+    codes "@@REDO:do:7:1.0000@@ a.o" ∷ codes "@@REDO:do:7:1.0000@@ b.o" ∷ codes "@@REDO:done:7:1.0000@@ 0 a.o"
+    ∷ codes "@@REDO:done:7:1.0000@@ 1 b.o" ∷ codes "link" ∷
     []
 
 -- The log of a target whose stream has these lines.
@@ -33,7 +34,8 @@ abbrev lines_log : List ℕ → List (List ℕ) → Log
 lines_log target lines = record { target = target; entries = filter_map (λ line. entry_of target line true) lines; state = Ended }
 
 abbrev logs : List Log
-logs = lines_log (codes "all") all ∷ lines_log (codes "d/a.o") (codes "cc a" ∷ codes "@@REDO:do:7:1.0000@@ b" ∷ []) ∷ lines_log (codes "b.o") (codes "cc b" ∷ []) ∷ []
+logs = lines_log (codes "all") all ∷ lines_log (codes "d/a.o") (codes "cc a" ∷ codes "@@REDO:do:7:1.0000@@ b" ∷ [])
+    ∷ lines_log (codes "b.o") (codes "cc b" ∷ []) ∷ []
 
 -- A stream without the must-close flag, and one with it.
 abbrev any : Stream → StreamInput Stream
@@ -88,9 +90,16 @@ faults =
 abbrev targets : List (List ℕ)
 targets = codes "a" ∷ codes "b" ∷ []
 
-these_faults : AllByRecursion (λ row. (fault_among 1000 targets row.streams ≡ Some (row.number, row.fault)) × (logs_of 1000 targets row.streams ≡ None)) faults
+these_faults : AllByRecursion (λ row. (fault_among 1000 targets row.streams ≡ Some (row.number, row.fault))
+    × (logs_of 1000 targets row.streams ≡ None)) faults
 unfolding split_lines ended rest first_fault entry_of record_entry fields_of status_of split_once after_prefix number normal reduce_suffix
-these_faults = ((refl, refl), ((refl, refl), ((refl, refl), ((refl, refl), ((refl, refl), ((refl, refl), ((refl, refl), ((refl, refl), tt))))))))
+these_faults = (
+  (refl, refl),
+  (
+    (refl, refl),
+    ((refl, refl), ((refl, refl), ((refl, refl), ((refl, refl), ((refl, refl), ((refl, refl), tt)))))),
+  ),
+)
 
 -- What is known of two readers, of which the second one is opaque.
 these_known : known_inputs (λ (known : Option Stream). known) (true ∷ false ∷ []) (Some (stream_of x false) ∷ None ∷ [])

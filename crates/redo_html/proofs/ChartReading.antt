@@ -23,7 +23,8 @@ use Rattle.redo_html.proofs.TagReading.{emitted, end_tag_read, is_attribute, is_
 
 -- Bytes that are in text in one context are read as these tokens, whatever follows them. What follows is read as text in another context.
 abbrev pub Leads : Context → List ℕ → List Token → Context → Type 0
-Leads context bytes tokens next = (behind : List ℕ) → read_from (DataState context) (bytes ++ behind) ≡ tokens ++ read_from (DataState next) behind
+Leads context bytes tokens next = (behind : List ℕ)
+    → read_from (DataState context) (bytes ++ behind) ≡ tokens ++ read_from (DataState next) behind
 
 -- Whether an element may begin in an `svg`, in this element.
 abbrev pub may_begin : List ℕ → List ℕ → Bool
@@ -34,8 +35,10 @@ is_start element attributes = is_element element && (not (is_void element) && li
 
 -- The context after a node, if it is well formed.
 abbrev pub next_context : Context → Node → Option Context
-next_context Normal (StartTag element attributes) = if bytes_eq element (codes "svg") && is_start element attributes then Some (Svg (codes "svg") []) else None
-next_context (Svg inner outer) (StartTag element attributes) = if may_begin inner element && is_start element attributes then Some (Svg element (inner ∷ outer)) else None
+next_context Normal (StartTag element attributes) =
+    if bytes_eq element (codes "svg") && is_start element attributes then Some (Svg (codes "svg") []) else None
+next_context (Svg inner outer) (StartTag element attributes) =
+    if may_begin inner element && is_start element attributes then Some (Svg element (inner ∷ outer)) else None
 next_context (Svg inner outer) (EndTag element) = if bytes_eq element inner && is_element element then Some (context_in outer) else None
 next_context (Svg inner outer) (Words text) = Some (Svg inner outer)
 next_context context node = None
@@ -47,19 +50,24 @@ next_contexts context (node ∷ nodes) = option_and_then (λ next. next_contexts
 same_bytes : (one other : List ℕ) → bytes_eq one other ≡ true → one ≡ other
 same_bytes one other is = (bytes_eq-Decides one other).0 is
 
-some_if : (condition : Bool) (context next : Context) → (if condition then Some context else None) ≡ Some next → (condition ≡ true) × (context ≡ next)
+some_if : (condition : Bool) (context next : Context) → (if condition then Some context else None) ≡ Some next
+    → (condition ≡ true) × (context ≡ next)
 some_if true context next is = (refl, cc)
 some_if false context next is = absurd (cc)
 
-then_contexts : (context middle next : Context) (first second : List Node) → next_contexts context first ≡ Some middle → next_contexts middle second ≡ Some next → next_contexts context (first ++ second) ≡ Some next
-then_contexts context middle next [] second one two = let same : context ≡ middle = cc in subst (λ p. next_contexts p second ≡ Some next) (sym same) two
+then_contexts : (context middle next : Context) (first second : List Node) → next_contexts context first ≡ Some middle
+    → next_contexts middle second ≡ Some next → next_contexts context (first ++ second) ≡ Some next
+then_contexts context middle next [] second one two = let same : context ≡ middle = cc in
+    subst (λ p. next_contexts p second ≡ Some next) (sym same) two
 then_contexts context middle next (node ∷ nodes) second one two =
     option_and_then_some (λ p. next_contexts p nodes) (next_context context node) middle one
     (λ p at more. ap (option_and_then (λ q. next_contexts q (nodes ++ second))) at ∙ then_contexts p middle next nodes second more two)
 
-each_context : {X : Type 0} (context : Context) (nodes : X → List Node) → ((x : X) → next_contexts context (nodes x) ≡ Some context) → (xs : List X) → next_contexts context (flat_map nodes xs) ≡ Some context
+each_context : {X : Type 0} (context : Context) (nodes : X → List Node) → ((x : X) → next_contexts context (nodes x) ≡ Some context)
+    → (xs : List X) → next_contexts context (flat_map nodes xs) ≡ Some context
 each_context context nodes each [] = refl
-each_context context nodes each (x ∷ xs) = then_contexts context context context (nodes x) (flat_map nodes xs) (each x) (each_context context nodes each xs)
+each_context context nodes each (x ∷ xs) =
+    then_contexts context context context (nodes x) (flat_map nodes xs) (each x) (each_context context nodes each xs)
 
 -- ---- the contexts in a chart
 
@@ -70,7 +78,9 @@ abbrev in_group : Context
 in_group = Svg (codes "g") (codes "svg" ∷ [])
 
 bar_contexts : (kind : GroupKind) (target x y width height : ℕ) (failed : Bool) (title : List ℕ) (label : Option (List ℕ))
-    → next_contexts in_group (shape_nodes kind (BarShape (record { target = target; x = x; y = y; width = width; height = height; failed = failed; title = title; label = label }))) ≡ Some in_group
+    → next_contexts in_group (shape_nodes kind
+    (BarShape (record { target = target; x = x; y = y; width = width; height = height; failed = failed; title = title; label = label })))
+    ≡ Some in_group
 bar_contexts kind target x y width height true title None = refl
 bar_contexts kind target x y width height false title None = refl
 bar_contexts Axis target x y width height true title (Some label) = refl
@@ -99,10 +109,12 @@ layer_contexts : (layer : Layer) → next_contexts in_chart (layer_nodes layer) 
 layer_contexts layer =
     let shapes = flat_map (shape_nodes layer.kind) layer.shapes in
     ap (option_and_then (λ next. next_contexts next (shapes ++ EndTag (codes "g") ∷ []))) (group_begins layer.kind)
-    ∙ then_contexts in_group in_group in_chart shapes (EndTag (codes "g") ∷ []) (each_context in_group (shape_nodes layer.kind) (shape_contexts layer.kind) layer.shapes) refl
+    ∙ then_contexts in_group in_group in_chart shapes (EndTag (codes "g") ∷ [])
+    (each_context in_group (shape_nodes layer.kind) (shape_contexts layer.kind) layer.shapes) refl
 
 lanes_word_is : (lanes : ℕ) → list_all is_value_byte (lanes_word lanes) ≡ true
-lanes_word_is lanes = cond_both (lanes == 1) (codes " lane") (codes " lanes") (λ word. list_all is_value_byte word ≡ true) (λ one. refl) (λ more. refl)
+lanes_word_is lanes = cond_both (lanes == 1) (codes " lane") (codes " lanes") (λ word. list_all is_value_byte word ≡ true) (λ one. refl)
+    (λ more. refl)
 
 chart_begins : (height lanes : ℕ) → next_context Normal (StartTag (codes "svg") (chart_attributes height lanes)) ≡ Some in_chart
 chart_begins height lanes = rw (lanes_word_is lanes) refl
@@ -111,7 +123,8 @@ pub drawing_contexts : (drawing : Drawing) → next_contexts Normal (drawing_nod
 drawing_contexts drawing =
     let layers = flat_map layer_nodes drawing.layers in
     ap (option_and_then (λ next. next_contexts next (layers ++ EndTag (codes "svg") ∷ []))) (chart_begins drawing.height drawing.lanes)
-    ∙ then_contexts in_chart in_chart Normal layers (EndTag (codes "svg") ∷ []) (each_context in_chart layer_nodes layer_contexts drawing.layers) refl
+    ∙ then_contexts in_chart in_chart Normal layers (EndTag (codes "svg") ∷ [])
+    (each_context in_chart layer_nodes layer_contexts drawing.layers) refl
 
 pub meter_contexts : (width : ℕ) → next_contexts Normal (meter_nodes width) ≡ Some Normal
 meter_contexts width = refl
@@ -119,51 +132,69 @@ meter_contexts width = refl
 -- ---- reading
 
 -- What is read of a tag that leads to a context.
-emits : (context next : Context) (tag behind : List ℕ) → emit_tag context tag ≡ (DataState next, Tag tag ∷ []) → emitted context tag behind ≡ Tag tag ∷ read_from (DataState next) behind
+emits : (context next : Context) (tag behind : List ℕ) → emit_tag context tag ≡ (DataState next, Tag tag ∷ [])
+    → emitted context tag behind ≡ Tag tag ∷ read_from (DataState next) behind
 emits context next tag behind is = ap (λ (step : Step). step.1 ++ read_from step.0 behind) is
 
-svg_start : (inner : List ℕ) (outer : List (List ℕ)) (tag name : List ℕ) → start_name tag ≡ name → may_begin inner name ≡ true → svg_start_tag inner outer tag ≡ (DataState (Svg name (inner ∷ outer)), Tag tag ∷ [])
+svg_start : (inner : List ℕ) (outer : List (List ℕ)) (tag name : List ℕ) → start_name tag ≡ name → may_begin inner name ≡ true
+    → svg_start_tag inner outer tag ≡ (DataState (Svg name (inner ∷ outer)), Tag tag ∷ [])
 svg_start inner outer tag name is may =
-    ap (λ (n : List ℕ). if may_begin inner n then (DataState (Svg n (inner ∷ outer)), Tag tag ∷ []) else lost) is ∙ cond-true (may_begin inner name) _ _ may
+    ap (λ (n : List ℕ). if may_begin inner n then (DataState (Svg n (inner ∷ outer)), Tag tag ∷ []) else lost) is
+    ∙ cond-true (may_begin inner name) _ _ may
 
-start_in_svg : (inner : List ℕ) (outer : List (List ℕ)) (element : List ℕ) (attributes : List Attribute) → is_element element ≡ true → may_begin inner element ≡ true
-    → emit_tag (Svg inner outer) (tag_text element attributes) ≡ (DataState (Svg element (inner ∷ outer)), Tag (tag_text element attributes) ∷ [])
+start_in_svg : (inner : List ℕ) (outer : List (List ℕ)) (element : List ℕ) (attributes : List Attribute) → is_element element ≡ true
+    → may_begin inner element ≡ true
+    → emit_tag (Svg inner outer) (tag_text element attributes)
+    ≡ (DataState (Svg element (inner ∷ outer)), Tag (tag_text element attributes) ∷ [])
 start_in_svg inner outer [] attributes is may = absurd (cc)
 start_in_svg inner outer (byte ∷ element) attributes is may =
     let slash = not_end byte (and_parts (is_first_byte byte) (list_all is_element_byte (byte ∷ element)) is).0 in
     rw slash (svg_start inner outer (tag_text (byte ∷ element) attributes) (byte ∷ element) (tag_name (byte ∷ element) attributes is) may)
 
 -- The start tag of an `svg` in HTML.
-start_of_svg : (attributes : List Attribute) → emit_tag Normal (tag_text (codes "svg") attributes) ≡ (DataState in_chart, Tag (tag_text (codes "svg") attributes) ∷ [])
+start_of_svg : (attributes : List Attribute)
+    → emit_tag Normal (tag_text (codes "svg") attributes) ≡ (DataState in_chart, Tag (tag_text (codes "svg") attributes) ∷ [])
 start_of_svg [] = refl
 start_of_svg (attribute ∷ attributes) = refl
 
-end_in_svg : (inner : List ℕ) (outer : List (List ℕ)) (element : List ℕ) → bytes_eq element inner ≡ true → svg_end_tag inner outer element ≡ (DataState (context_in outer), Tag (47 ∷ element) ∷ [])
+end_in_svg : (inner : List ℕ) (outer : List (List ℕ)) (element : List ℕ) → bytes_eq element inner ≡ true
+    → svg_end_tag inner outer element ≡ (DataState (context_in outer), Tag (47 ∷ element) ∷ [])
 end_in_svg inner outer element same = cond-true (bytes_eq element inner) _ _ same
 
-node_leads : (context next : Context) (node : Node) → next_context context node ≡ Some next → Leads context (node_html node) (node_tokens node) next
+node_leads : (context next : Context) (node : Node) → next_context context node ≡ Some next
+    → Leads context (node_html node) (node_tokens node) next
 node_leads Normal next (StartTag element attributes) is behind =
     let well = some_if (bytes_eq element (codes "svg") && is_start element attributes) in_chart next is in
     let parts = and_parts (bytes_eq element (codes "svg")) (is_start element attributes) well.0 in
-    let attributes_are = (and_parts (not (is_void element)) (list_all is_attribute attributes) (and_parts (is_element element) _ parts.1).1).1 in
-    subst (λ p. read_from (DataState Normal) (node_html (StartTag element attributes) ++ behind) ≡ Tag (tag_text element attributes) ∷ read_from (DataState p) behind) well.1
-    (subst (λ (name : List ℕ). read_from (DataState Normal) (node_html (StartTag name attributes) ++ behind) ≡ Tag (tag_text name attributes) ∷ read_from (DataState in_chart) behind) (sym (same_bytes element (codes "svg") parts.0))
-    (tag_read Normal (codes "svg") attributes refl attributes_are behind ∙ emits Normal in_chart (tag_text (codes "svg") attributes) behind (start_of_svg attributes)))
+    let attributes_are = (and_parts (not (is_void element)) (list_all is_attribute attributes)
+    (and_parts (is_element element) _ parts.1).1).1 in
+    subst (λ p. read_from (DataState Normal) (node_html (StartTag element attributes) ++ behind)
+    ≡ Tag (tag_text element attributes) ∷ read_from (DataState p) behind) well.1
+    (subst (λ (name : List ℕ). read_from (DataState Normal) (node_html (StartTag name attributes) ++ behind)
+    ≡ Tag (tag_text name attributes) ∷ read_from (DataState in_chart) behind) (sym (same_bytes element (codes "svg") parts.0))
+    (tag_read Normal (codes "svg") attributes refl attributes_are behind
+    ∙ emits Normal in_chart (tag_text (codes "svg") attributes) behind (start_of_svg attributes)))
 node_leads (Svg inner outer) next (StartTag element attributes) is behind =
     let well = some_if (may_begin inner element && is_start element attributes) (Svg element (inner ∷ outer)) next is in
     let parts = and_parts (may_begin inner element) (is_start element attributes) well.0 in
     let start = and_parts (is_element element) (not (is_void element) && list_all is_attribute attributes) parts.1 in
     let attributes_are = (and_parts (not (is_void element)) (list_all is_attribute attributes) start.1).1 in
-    subst (λ p. read_from (DataState (Svg inner outer)) (node_html (StartTag element attributes) ++ behind) ≡ Tag (tag_text element attributes) ∷ read_from (DataState p) behind) well.1
-    (tag_read (Svg inner outer) element attributes start.0 attributes_are behind ∙ emits (Svg inner outer) (Svg element (inner ∷ outer)) (tag_text element attributes) behind (start_in_svg inner outer element attributes start.0 parts.0))
+    subst (λ p. read_from (DataState (Svg inner outer)) (node_html (StartTag element attributes) ++ behind)
+    ≡ Tag (tag_text element attributes) ∷ read_from (DataState p) behind) well.1
+    (tag_read (Svg inner outer) element attributes start.0 attributes_are behind
+    ∙ emits (Svg inner outer) (Svg element (inner ∷ outer)) (tag_text element attributes) behind
+    (start_in_svg inner outer element attributes start.0 parts.0))
 node_leads (Svg inner outer) next (EndTag element) is behind =
     let well = some_if (bytes_eq element inner && is_element element) (context_in outer) next is in
     let parts = and_parts (bytes_eq element inner) (is_element element) well.0 in
-    subst (λ p. read_from (DataState (Svg inner outer)) (node_html (EndTag element) ++ behind) ≡ Tag (47 ∷ element) ∷ read_from (DataState p) behind) well.1
-    (end_tag_read (Svg inner outer) element parts.1 behind ∙ emits (Svg inner outer) (context_in outer) (47 ∷ element) behind (end_in_svg inner outer element parts.0))
+    subst (λ p. read_from (DataState (Svg inner outer)) (node_html (EndTag element) ++ behind)
+    ≡ Tag (47 ∷ element) ∷ read_from (DataState p) behind) well.1
+    (end_tag_read (Svg inner outer) element parts.1 behind
+    ∙ emits (Svg inner outer) (context_in outer) (47 ∷ element) behind (end_in_svg inner outer element parts.0))
 node_leads (Svg inner outer) next (Words text) is behind =
     let same : Svg inner outer ≡ next = cc in
-    subst (λ p. read_from (DataState (Svg inner outer)) (node_html (Words text) ++ behind) ≡ node_tokens (Words text) ++ read_from (DataState p) behind) same (title_passage_reads (Svg inner outer) tt plain_style text behind)
+    subst (λ p. read_from (DataState (Svg inner outer)) (node_html (Words text) ++ behind)
+    ≡ node_tokens (Words text) ++ read_from (DataState p) behind) same (title_passage_reads (Svg inner outer) tt plain_style text behind)
 node_leads Normal next (EndTag element) is behind = absurd (cc)
 node_leads Normal next (Words text) is behind = absurd (cc)
 node_leads Rcdata next node is behind = absurd (none node is)
@@ -179,12 +210,14 @@ node_leads Rawtext next node is behind = absurd (none node is)
     none (EndTag element) at = cc
     none (Words text) at = cc
 
-pub nodes_lead : (context next : Context) (nodes : List Node) → next_contexts context nodes ≡ Some next → Leads context (nodes_html nodes) (nodes_tokens nodes) next
+pub nodes_lead : (context next : Context) (nodes : List Node) → next_contexts context nodes ≡ Some next
+    → Leads context (nodes_html nodes) (nodes_tokens nodes) next
 nodes_lead context next [] is behind = let same : context ≡ next = cc in ap (λ p. read_from (DataState p) behind) same
 nodes_lead context next (node ∷ nodes) is behind =
     option_and_then_some (λ p. next_contexts p nodes) (next_context context node) next is
     (λ p at more.
-    ap (read_from (DataState context)) (append_assoc (node_html node) (nodes_html nodes) behind) ∙ node_leads context p node at (nodes_html nodes ++ behind)
+    ap (read_from (DataState context)) (append_assoc (node_html node) (nodes_html nodes) behind)
+    ∙ node_leads context p node at (nodes_html nodes ++ behind)
     ∙ ap (λ (t : List Token). node_tokens node ++ t) (nodes_lead p next nodes more behind)
     ∙ sym (append_assoc (node_tokens node) (nodes_tokens nodes) (read_from (DataState next) behind)))
 
@@ -201,19 +234,25 @@ open_after : (outer : List (List ℕ)) → open_in (context_in outer) ≡ outer
 open_after [] = refl
 open_after (inner ∷ outer) = refl
 
-start_nests : (element : List ℕ) (attributes : List Attribute) → is_start element attributes ≡ true → (around tags : List (List ℕ)) → nests_in around (tag_text element attributes ∷ tags) ≡ nests_in (element ∷ around) tags
+start_nests : (element : List ℕ) (attributes : List Attribute) → is_start element attributes ≡ true → (around tags : List (List ℕ))
+    → nests_in around (tag_text element attributes ∷ tags) ≡ nests_in (element ∷ around) tags
 start_nests [] attributes is around tags = absurd (cc)
 start_nests (byte ∷ bytes) attributes is around tags =
     let start = and_parts (is_element (byte ∷ bytes)) (not (is_void (byte ∷ bytes)) && list_all is_attribute attributes) is in
     let slash = not_end byte (and_parts (is_first_byte byte) (list_all is_element_byte (byte ∷ bytes)) start.0).0 in
     let void = not-true (is_void (byte ∷ bytes)) (and_parts (not (is_void (byte ∷ bytes))) (list_all is_attribute attributes) start.1).0 in
-    rw slash (ap (λ (name : List ℕ). if is_void name then nests_in around tags else nests_in (name ∷ around) tags) (tag_name (byte ∷ bytes) attributes start.0) ∙ ap (λ (v : Bool). if v then nests_in around tags else nests_in ((byte ∷ bytes) ∷ around) tags) void)
+    rw slash (ap (λ (name : List ℕ). if is_void name then nests_in around tags else nests_in (name ∷ around) tags)
+    (tag_name (byte ∷ bytes) attributes start.0)
+    ∙ ap (λ (v : Bool). if v then nests_in around tags else nests_in ((byte ∷ bytes) ∷ around) tags) void)
 
-node_nests : (context next : Context) (node : Node) → next_context context node ≡ Some next → (around tags : List (List ℕ)) → nests_in (open_in context ++ around) (tags_of (node_tokens node) ++ tags) ≡ nests_in (open_in next ++ around) tags
+node_nests : (context next : Context) (node : Node) → next_context context node ≡ Some next → (around tags : List (List ℕ))
+    → nests_in (open_in context ++ around) (tags_of (node_tokens node) ++ tags) ≡ nests_in (open_in next ++ around) tags
 node_nests Normal next (StartTag element attributes) is around tags =
     let well = some_if (bytes_eq element (codes "svg") && is_start element attributes) in_chart next is in
     let parts = and_parts (bytes_eq element (codes "svg")) (is_start element attributes) well.0 in
-    start_nests element attributes parts.1 around tags ∙ ap (λ (name : List ℕ). nests_in (name ∷ around) tags) (same_bytes element (codes "svg") parts.0) ∙ ap (λ p. nests_in (open_in p ++ around) tags) well.1
+    start_nests element attributes parts.1 around tags
+    ∙ ap (λ (name : List ℕ). nests_in (name ∷ around) tags) (same_bytes element (codes "svg") parts.0)
+    ∙ ap (λ p. nests_in (open_in p ++ around) tags) well.1
 node_nests (Svg inner outer) next (StartTag element attributes) is around tags =
     let well = some_if (may_begin inner element && is_start element attributes) (Svg element (inner ∷ outer)) next is in
     let parts = and_parts (may_begin inner element) (is_start element attributes) well.0 in
@@ -221,10 +260,13 @@ node_nests (Svg inner outer) next (StartTag element attributes) is around tags =
 node_nests (Svg inner outer) next (EndTag element) is around tags =
     let well = some_if (bytes_eq element inner && is_element element) (context_in outer) next is in
     let same = (and_parts (bytes_eq element inner) (is_element element) well.0).0 in
-    ap (λ (b : Bool). b && nests_in (outer ++ around) tags) same ∙ ap (λ (names : List (List ℕ)). nests_in (names ++ around) tags) (sym (open_after outer)) ∙ ap (λ p. nests_in (open_in p ++ around) tags) well.1
+    ap (λ (b : Bool). b && nests_in (outer ++ around) tags) same
+    ∙ ap (λ (names : List (List ℕ)). nests_in (names ++ around) tags) (sym (open_after outer))
+    ∙ ap (λ p. nests_in (open_in p ++ around) tags) well.1
 node_nests (Svg inner outer) next (Words text) is around tags =
     let same : Svg inner outer ≡ next = cc in
-    ap (λ (ts : List (List ℕ)). nests_in (inner ∷ (outer ++ around)) (ts ++ tags)) (title_tags plain_style text) ∙ ap (λ p. nests_in (open_in p ++ around) tags) same
+    ap (λ (ts : List (List ℕ)). nests_in (inner ∷ (outer ++ around)) (ts ++ tags)) (title_tags plain_style text)
+    ∙ ap (λ p. nests_in (open_in p ++ around) tags) same
 node_nests Normal next (EndTag element) is around tags = absurd (cc)
 node_nests Normal next (Words text) is around tags = absurd (cc)
 node_nests Rcdata next (StartTag element attributes) is around tags = absurd (cc)
@@ -234,12 +276,14 @@ node_nests Rawtext next (StartTag element attributes) is around tags = absurd (c
 node_nests Rawtext next (EndTag element) is around tags = absurd (cc)
 node_nests Rawtext next (Words text) is around tags = absurd (cc)
 
-pub nodes_nest : (context next : Context) (nodes : List Node) → next_contexts context nodes ≡ Some next → (around tags : List (List ℕ)) → nests_in (open_in context ++ around) (tags_of (nodes_tokens nodes) ++ tags) ≡ nests_in (open_in next ++ around) tags
+pub nodes_nest : (context next : Context) (nodes : List Node) → next_contexts context nodes ≡ Some next → (around tags : List (List ℕ))
+    → nests_in (open_in context ++ around) (tags_of (nodes_tokens nodes) ++ tags) ≡ nests_in (open_in next ++ around) tags
 nodes_nest context next [] is around tags = let same : context ≡ next = cc in ap (λ p. nests_in (open_in p ++ around) tags) same
 nodes_nest context next (node ∷ nodes) is around tags =
     option_and_then_some (λ p. next_contexts p nodes) (next_context context node) next is
     (λ p at more.
-    ap (λ (ts : List (List ℕ)). nests_in (open_in context ++ around) (ts ++ tags)) (flat_map-append tag_of (node_tokens node) (nodes_tokens nodes))
+    ap (λ (ts : List (List ℕ)). nests_in (open_in context ++ around) (ts ++ tags))
+    (flat_map-append tag_of (node_tokens node) (nodes_tokens nodes))
     ∙ ap (nests_in (open_in context ++ around)) (append_assoc (tags_of (node_tokens node)) (tags_of (nodes_tokens nodes)) tags)
     ∙ node_nests context p node at around (tags_of (nodes_tokens nodes) ++ tags)
     ∙ nodes_nest p next nodes more around tags)
@@ -251,17 +295,25 @@ is_well_formed (StartTag element attributes) = is_element element && list_all is
 is_well_formed (EndTag element) = is_element element
 is_well_formed (Words text) = true
 
-start_well_formed : (element : List ℕ) (attributes : List Attribute) → is_start element attributes ≡ true → is_well_formed (StartTag element attributes) ≡ true
+start_well_formed : (element : List ℕ) (attributes : List Attribute) → is_start element attributes ≡ true
+    → is_well_formed (StartTag element attributes) ≡ true
 start_well_formed element attributes is =
     let start = and_parts (is_element element) (not (is_void element) && list_all is_attribute attributes) is in
-    and_from (is_element element) (list_all is_attribute attributes) start.0 (and_parts (not (is_void element)) (list_all is_attribute attributes) start.1).1
+    and_from (is_element element) (list_all is_attribute attributes) start.0
+    (and_parts (not (is_void element)) (list_all is_attribute attributes) start.1).1
 
 node_well_formed : (context next : Context) (node : Node) → next_context context node ≡ Some next → is_well_formed node ≡ true
 node_well_formed Normal next (StartTag element attributes) is =
-    start_well_formed element attributes (and_parts (bytes_eq element (codes "svg")) (is_start element attributes) (some_if (bytes_eq element (codes "svg") && is_start element attributes) in_chart next is).0).1
+    start_well_formed element attributes
+    (and_parts (bytes_eq element (codes "svg")) (is_start element attributes)
+    (some_if (bytes_eq element (codes "svg") && is_start element attributes) in_chart next is).0).1
 node_well_formed (Svg inner outer) next (StartTag element attributes) is =
-    start_well_formed element attributes (and_parts (may_begin inner element) (is_start element attributes) (some_if (may_begin inner element && is_start element attributes) (Svg element (inner ∷ outer)) next is).0).1
-node_well_formed (Svg inner outer) next (EndTag element) is = (and_parts (bytes_eq element inner) (is_element element) (some_if (bytes_eq element inner && is_element element) (context_in outer) next is).0).1
+    start_well_formed element attributes
+    (and_parts (may_begin inner element) (is_start element attributes)
+    (some_if (may_begin inner element && is_start element attributes) (Svg element (inner ∷ outer)) next is).0).1
+node_well_formed (Svg inner outer) next (EndTag element) is =
+    (and_parts (bytes_eq element inner) (is_element element)
+    (some_if (bytes_eq element inner && is_element element) (context_in outer) next is).0).1
 node_well_formed context next (Words text) is = refl
 node_well_formed Normal next (EndTag element) is = absurd (cc)
 node_well_formed Rcdata next (StartTag element attributes) is = absurd (cc)
@@ -269,8 +321,10 @@ node_well_formed Rcdata next (EndTag element) is = absurd (cc)
 node_well_formed Rawtext next (StartTag element attributes) is = absurd (cc)
 node_well_formed Rawtext next (EndTag element) is = absurd (cc)
 
-pub nodes_well_formed : (context next : Context) (nodes : List Node) → next_contexts context nodes ≡ Some next → list_all is_well_formed nodes ≡ true
+pub nodes_well_formed : (context next : Context) (nodes : List Node) → next_contexts context nodes ≡ Some next
+    → list_all is_well_formed nodes ≡ true
 nodes_well_formed context next [] is = refl
 nodes_well_formed context next (node ∷ nodes) is =
     option_and_then_some (λ p. next_contexts p nodes) (next_context context node) next is
-    (λ p at more. and_from (is_well_formed node) (list_all is_well_formed nodes) (node_well_formed context p node at) (nodes_well_formed p next nodes more))
+    (λ p at more. and_from (is_well_formed node) (list_all is_well_formed nodes) (node_well_formed context p node at)
+    (nodes_well_formed p next nodes more))

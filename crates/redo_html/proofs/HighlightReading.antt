@@ -17,14 +17,19 @@ use Rattle.redo_html.proofs.TagReading.{number_value, value_read}
 abbrev numbered : List ℕ → ℕ → List ℕ
 numbered begin number = begin ++ number_text number ++ codes "\""
 
-number_tail : (begin digits behind : List ℕ) → ((begin ++ digits ++ codes "\"") ++ codes ">" ++ []) ++ behind ≡ begin ++ (digits ++ 34 ∷ 62 ∷ behind)
+number_tail : (begin digits behind : List ℕ)
+    → ((begin ++ digits ++ codes "\"") ++ codes ">" ++ []) ++ behind ≡ begin ++ (digits ++ 34 ∷ 62 ∷ behind)
 number_tail begin digits behind = simp append_assoc
 
-numbered_reads : (begin : List ℕ) (number : ℕ) → ((rest : List ℕ) → read_from (DataState Normal) (60 ∷ (begin ++ rest)) ≡ read_from (AttributeValue Normal begin) rest)
-    → emit_tag Normal (numbered begin number) ≡ (DataState Normal, Tag (numbered begin number) ∷ []) → ReadsAs (codes "<" ++ numbered begin number ++ codes ">" ++ []) (Tag (numbered begin number) ∷ [])
+numbered_reads : (begin : List ℕ) (number : ℕ)
+    → ((rest : List ℕ) → read_from (DataState Normal) (60 ∷ (begin ++ rest)) ≡ read_from (AttributeValue Normal begin) rest)
+    → emit_tag Normal (numbered begin number) ≡ (DataState Normal, Tag (numbered begin number) ∷ [])
+    → ReadsAs (codes "<" ++ numbered begin number ++ codes ">" ++ []) (Tag (numbered begin number) ∷ [])
 numbered_reads begin number opens emits behind =
-    ap (λ b. read_from (DataState Normal) (60 ∷ b)) (number_tail begin (number_text number) behind) ∙ opens (number_text number ++ 34 ∷ 62 ∷ behind)
-    ∙ value_read Normal (number_text number) begin (34 ∷ 62 ∷ behind) (number_value number) ∙ ap (λ (step : Step). step.1 ++ read_from step.0 behind) emits
+    ap (λ b. read_from (DataState Normal) (60 ∷ b)) (number_tail begin (number_text number) behind)
+    ∙ opens (number_text number ++ 34 ∷ 62 ∷ behind)
+    ∙ value_read Normal (number_text number) begin (34 ∷ 62 ∷ behind) (number_value number)
+    ∙ ap (λ (step : Step). step.1 ++ read_from step.0 behind) emits
 
 -- ---- tags
 
@@ -136,4 +141,5 @@ markup_reads TimelineScroll behind = refl
 
 -- The end of a tag whose last attribute ends with a number, as it is written.
 pub number_end : (begin digits : List ℕ) → begin ++ digits ++ codes "\">" ≡ ((begin ++ digits) ++ codes "\"") ++ codes ">" ++ []
-number_end begin digits = sym (append-nil ((begin ++ digits ++ codes "\"") ++ codes ">") ∙ append_assoc (begin ++ digits) (codes "\"") (codes ">"))
+number_end begin digits = sym (append-nil ((begin ++ digits ++ codes "\"") ++ codes ">")
+    ∙ append_assoc (begin ++ digits) (codes "\"") (codes ">"))

@@ -39,12 +39,32 @@ read_rows =
     ∷ row (codes "<pre><i>") (tag (codes "pre") ++ tag (codes "i"))
     ∷ row (codes "<title>a&lt;b>c</title>d") (tag (codes "title") ++ text (codes "a<b>c") ++ tag (codes "/title") ++ text (codes "d"))
     ∷ row (codes "<style>a>b&c\"</style>d") (tag (codes "style") ++ text (codes "a>b&c\"") ++ tag (codes "/style") ++ text (codes "d"))
-    ∷ row (codes "<table><tbody><tr><th scope=\"row\">a</th><td class=\"n\">1</td></tr></tbody></table>") (tag (codes "table") ++ tag (codes "tbody") ++ tag (codes "tr") ++ tag (codes "th scope=\"row\"") ++ text (codes "a") ++ tag (codes "/th") ++ tag (codes "td class=\"n\"") ++ text (codes "1") ++ tag (codes "/td") ++ tag (codes "/tr") ++ tag (codes "/tbody") ++ tag (codes "/table"))
-    ∷ row (codes "<div><dl><dt>a</dt><dd>b</dd></dl></div>") (tag (codes "div") ++ tag (codes "dl") ++ tag (codes "dt") ++ text (codes "a") ++ tag (codes "/dt") ++ tag (codes "dd") ++ text (codes "b") ++ tag (codes "/dd") ++ tag (codes "/dl") ++ tag (codes "/div"))
+    ∷ row (codes "<table><tbody><tr><th scope=\"row\">a</th><td class=\"n\">1</td></tr></tbody></table>")
+    (tag (codes "table") ++ tag (codes "tbody") ++ tag (codes "tr") ++ tag (codes "th scope=\"row\"") ++ text (codes "a")
+    ++ tag (codes "/th") ++ tag (codes "td class=\"n\"") ++ text (codes "1") ++ tag (codes "/td") ++ tag (codes "/tr")
+    ++ tag (codes "/tbody") ++ tag (codes "/table"))
+    ∷ row (codes "<div><dl><dt>a</dt><dd>b</dd></dl></div>")
+    (tag (codes "div") ++ tag (codes "dl") ++ tag (codes "dt") ++ text (codes "a") ++ tag (codes "/dt") ++ tag (codes "dd")
+    ++ text (codes "b") ++ tag (codes "/dd") ++ tag (codes "/dl") ++ tag (codes "/div"))
     ∷ []
 
 reads : AllByRecursion (λ r. read r.html ≡ r.tokens) read_rows
-reads = (refl, (refl, (refl, (refl, (refl, (refl, (refl, (refl, (refl, (refl, (refl, (refl, (refl, (refl, (refl, (refl, (refl, tt)))))))))))))))))
+reads = (
+  refl,
+  (
+    refl,
+    (
+      refl,
+      (
+        refl,
+        (
+          refl,
+          (refl, (refl, (refl, (refl, (refl, (refl, (refl, (refl, (refl, (refl, (refl, (refl, tt)))))))))))),
+        ),
+      ),
+    ),
+  ),
+)
 
 -- What is lost: other elements, whose content a browser may read by other rules; comments; other references; bytes that a browser rejects or
 -- changes; attributes without quotes; text that ends in a tag.
@@ -102,18 +122,161 @@ lost_rows =
     ∷ []
 
 loses : AllByRecursion (λ r. read r.html ≡ r.tokens) lost_rows
-loses = (refl, (refl, (refl, (refl, (refl, (refl, (refl, (refl, (refl, (refl, (refl, (refl, (refl, (refl, (refl, (refl, (refl, (refl, (refl, (refl, (refl, (refl, (refl, (refl, (refl, (refl, (refl, (refl, (refl, (refl, (refl, (refl, (refl, (refl, (refl, (refl, (refl, (refl, (refl, (refl, (refl, (refl, (refl, (refl, (refl, (refl, (refl, (refl, (refl, tt)))))))))))))))))))))))))))))))))))))))))))))))))
+loses = (
+  refl,
+  (
+    refl,
+    (
+      refl,
+      (
+        refl,
+        (
+          refl,
+          (
+            refl,
+            (
+              refl,
+              (
+                refl,
+                (
+                  refl,
+                  (
+                    refl,
+                    (
+                      refl,
+                      (
+                        refl,
+                        (
+                          refl,
+                          (
+                            refl,
+                            (
+                              refl,
+                              (
+                                refl,
+                                (
+                                  refl,
+                                  (
+                                    refl,
+                                    (
+                                      refl,
+                                      (
+                                        refl,
+                                        (
+                                          refl,
+                                          (
+                                            refl,
+                                            (
+                                              refl,
+                                              (
+                                                refl,
+                                                (
+                                                  refl,
+                                                  (
+                                                    refl,
+                                                    (
+                                                      refl,
+                                                      (
+                                                        refl,
+                                                        (
+                                                          refl,
+                                                          (
+                                                            refl,
+                                                            (
+                                                              refl,
+                                                              (
+                                                                refl,
+                                                                (
+                                                                  refl,
+                                                                  (
+                                                                    refl,
+                                                                    (
+                                                                      refl,
+                                                                      (
+                                                                        refl,
+                                                                        (
+                                                                          refl,
+                                                                          (
+                                                                            refl,
+                                                                            (
+                                                                              refl,
+                                                                              (
+                                                                                refl,
+                                                                                (
+                                                                                  refl,
+                                                                                  (
+                                                                                    refl,
+                                                                                    (
+                                                                                      refl,
+                                                                                      (
+                                                                                        refl,
+                                                                                        (refl, (refl, (refl, (refl, (refl, tt))))),
+                                                                                      ),
+                                                                                    ),
+                                                                                  ),
+                                                                                ),
+                                                                              ),
+                                                                            ),
+                                                                          ),
+                                                                        ),
+                                                                      ),
+                                                                    ),
+                                                                  ),
+                                                                ),
+                                                              ),
+                                                            ),
+                                                          ),
+                                                        ),
+                                                      ),
+                                                    ),
+                                                  ),
+                                                ),
+                                              ),
+                                            ),
+                                          ),
+                                        ),
+                                      ),
+                                    ),
+                                  ),
+                                ),
+                              ),
+                            ),
+                          ),
+                        ),
+                      ),
+                    ),
+                  ),
+                ),
+              ),
+            ),
+          ),
+        ),
+      ),
+    ),
+  ),
+)
 
 -- What is read in an `svg`, and after it.
 abbrev svg_rows : List Row
 svg_rows =
-    row (codes "<svg width=\"100%\"><rect x1=\"0.50%\" stroke-width=\".5\" fill=\"#8886\"></rect></svg>") (tag (codes "svg width=\"100%\"") ++ tag (codes "rect x1=\"0.50%\" stroke-width=\".5\" fill=\"#8886\"") ++ tag (codes "/rect") ++ tag (codes "/svg"))
-    ∷ row (codes "a<svg>b<g>c<a href=\"#t1\">d<text>e</text></a><line></line></g></svg>f") (text (codes "a") ++ tag (codes "svg") ++ text (codes "b") ++ tag (codes "g") ++ text (codes "c") ++ tag (codes "a href=\"#t1\"") ++ text (codes "d") ++ tag (codes "text") ++ text (codes "e") ++ tag (codes "/text") ++ tag (codes "/a") ++ tag (codes "line") ++ tag (codes "/line") ++ tag (codes "/g") ++ tag (codes "/svg") ++ text (codes "f"))
-    ∷ row (codes "<svg><svg></svg>a</svg><p>b</p>") (tag (codes "svg") ++ tag (codes "svg") ++ tag (codes "/svg") ++ text (codes "a") ++ tag (codes "/svg") ++ tag (codes "p") ++ text (codes "b") ++ tag (codes "/p"))
-    ∷ row (codes "<svg><g><rect><title>a</title></rect></g></svg><b>c</b>") (tag (codes "svg") ++ tag (codes "g") ++ tag (codes "rect") ++ tag (codes "title") ++ text (codes "a") ++ tag (codes "/title") ++ tag (codes "/rect") ++ tag (codes "/g") ++ tag (codes "/svg") ++ tag (codes "b") ++ text (codes "c") ++ tag (codes "/b"))
-    ∷ row (codes "<svg><title>&lt;b>&amp;</title>&gt;</svg>") (tag (codes "svg") ++ tag (codes "title") ++ text (codes "<b>&") ++ tag (codes "/title") ++ text (codes ">") ++ tag (codes "/svg"))
+    row (codes "<svg width=\"100%\"><rect x1=\"0.50%\" stroke-width=\".5\" fill=\"#8886\"></rect></svg>")
+    (tag (codes "svg width=\"100%\"") ++ tag (codes "rect x1=\"0.50%\" stroke-width=\".5\" fill=\"#8886\"") ++ tag (codes "/rect")
+    ++ tag (codes "/svg"))
+    ∷ row (codes "a<svg>b<g>c<a href=\"#t1\">d<text>e</text></a><line></line></g></svg>f")
+    (text (codes "a") ++ tag (codes "svg") ++ text (codes "b") ++ tag (codes "g") ++ text (codes "c") ++ tag (codes "a href=\"#t1\"")
+    ++ text (codes "d") ++ tag (codes "text") ++ text (codes "e") ++ tag (codes "/text") ++ tag (codes "/a") ++ tag (codes "line")
+    ++ tag (codes "/line") ++ tag (codes "/g") ++ tag (codes "/svg") ++ text (codes "f"))
+    ∷ row (codes "<svg><svg></svg>a</svg><p>b</p>")
+    (tag (codes "svg") ++ tag (codes "svg") ++ tag (codes "/svg") ++ text (codes "a") ++ tag (codes "/svg") ++ tag (codes "p")
+    ++ text (codes "b") ++ tag (codes "/p"))
+    ∷ row (codes "<svg><g><rect><title>a</title></rect></g></svg><b>c</b>")
+    (tag (codes "svg") ++ tag (codes "g") ++ tag (codes "rect") ++ tag (codes "title") ++ text (codes "a") ++ tag (codes "/title")
+    ++ tag (codes "/rect") ++ tag (codes "/g") ++ tag (codes "/svg") ++ tag (codes "b") ++ text (codes "c") ++ tag (codes "/b"))
+    ∷ row (codes "<svg><title>&lt;b>&amp;</title>&gt;</svg>")
+    (tag (codes "svg") ++ tag (codes "title") ++ text (codes "<b>&") ++ tag (codes "/title") ++ text (codes ">") ++ tag (codes "/svg"))
     -- the `title` of HTML again
-    ∷ row (codes "<svg></svg><title>&lt;</title><p>") (tag (codes "svg") ++ tag (codes "/svg") ++ tag (codes "title") ++ text (codes "<") ++ tag (codes "/title") ++ tag (codes "p"))
+    ∷ row (codes "<svg></svg><title>&lt;</title><p>")
+    (tag (codes "svg") ++ tag (codes "/svg") ++ tag (codes "title") ++ text (codes "<") ++ tag (codes "/title") ++ tag (codes "p"))
     -- nothing to end: as any other end tag in HTML
     ∷ row (codes "</svg>a<p>") (tag (codes "/svg") ++ text (codes "a") ++ tag (codes "p"))
     ∷ []
@@ -164,9 +327,92 @@ lost_svg_rows =
     ∷ []
 
 loses_svg : AllByRecursion (λ r. read r.html ≡ r.tokens) lost_svg_rows
-loses_svg = (refl, (refl, (refl, (refl, (refl, (refl, (refl, (refl, (refl, (refl, (refl, (refl, (refl, (refl, (refl, (refl, (refl, (refl, (refl, (refl, (refl, (refl, (refl, (refl, (refl, (refl, (refl, (refl, (refl, (refl, (refl, (refl, (refl, (refl, (refl, (refl, tt))))))))))))))))))))))))))))))))))))
+loses_svg = (
+  refl,
+  (
+    refl,
+    (
+      refl,
+      (
+        refl,
+        (
+          refl,
+          (
+            refl,
+            (
+              refl,
+              (
+                refl,
+                (
+                  refl,
+                  (
+                    refl,
+                    (
+                      refl,
+                      (
+                        refl,
+                        (
+                          refl,
+                          (
+                            refl,
+                            (
+                              refl,
+                              (
+                                refl,
+                                (
+                                  refl,
+                                  (
+                                    refl,
+                                    (
+                                      refl,
+                                      (
+                                        refl,
+                                        (
+                                          refl,
+                                          (
+                                            refl,
+                                            (
+                                              refl,
+                                              (
+                                                refl,
+                                                (
+                                                  refl,
+                                                  (
+                                                    refl,
+                                                    (
+                                                      refl,
+                                                      (refl, (refl, (refl, (refl, (refl, (refl, (refl, (refl, (refl, tt))))))))),
+                                                    ),
+                                                  ),
+                                                ),
+                                              ),
+                                            ),
+                                          ),
+                                        ),
+                                      ),
+                                    ),
+                                  ),
+                                ),
+                              ),
+                            ),
+                          ),
+                        ),
+                      ),
+                    ),
+                  ),
+                ),
+              ),
+            ),
+          ),
+        ),
+      ),
+    ),
+  ),
+)
 
 -- Tags that nest, and tags that don't.
-nesting : (nests_in [] (codes "!doctype html" ∷ codes "p class=\"a\"" ∷ codes "b" ∷ codes "/b" ∷ codes "wbr" ∷ codes "/p" ∷ []) ≡ true) × (nests_in [] (codes "p" ∷ []) ≡ false)
-    × (nests_in [] (codes "/p" ∷ []) ≡ false) × (nests_in [] (codes "p" ∷ codes "b" ∷ codes "/p" ∷ codes "/b" ∷ []) ≡ false) × (nests_in [] ([] ∷ []) ≡ false) × (nests_in [] (codes "meta" ∷ codes "/meta" ∷ []) ≡ false)
+nesting : (nests_in [] (codes "!doctype html" ∷ codes "p class=\"a\"" ∷ codes "b" ∷ codes "/b" ∷ codes "wbr" ∷ codes "/p" ∷ []) ≡ true)
+    × (nests_in [] (codes "p" ∷ []) ≡ false)
+    × (nests_in [] (codes "/p" ∷ []) ≡ false) × (nests_in [] (codes "p" ∷ codes "b" ∷ codes "/p" ∷ codes "/b" ∷ []) ≡ false)
+    × (nests_in [] ([] ∷ []) ≡ false) × (nests_in [] (codes "meta" ∷ codes "/meta" ∷ []) ≡ false)
 nesting = (refl, refl, refl, refl, refl, refl)

@@ -31,7 +31,8 @@ use Rattle.redo_html.proofs.SymbolLemmas.{symbols-nil, symbols-step, symbol_boun
 -- ---- what follows a line feed is not in the symbol before it
 
 -- A test of a byte, or of 0 after the end, that a line feed and 0 don't pass.
-byte_test : (bytes more : List ℕ) (i byte : ℕ) → i ≤ length bytes → (10 == byte) ≡ false → (0 == byte) ≡ false → (slice_index (bytes ++ 10 ∷ more) i == byte) ≡ (slice_index bytes i == byte)
+byte_test : (bytes more : List ℕ) (i byte : ℕ) → i ≤ length bytes → (10 == byte) ≡ false → (0 == byte) ≡ false
+    → (slice_index (bytes ++ 10 ∷ more) i == byte) ≡ (slice_index bytes i == byte)
 byte_test bytes more i byte within feed none = ⊎_elim inside past (cases_lt i (length bytes))
   where
     inside : i < length bytes → (slice_index (bytes ++ 10 ∷ more) i == byte) ≡ (slice_index bytes i == byte)
@@ -40,16 +41,19 @@ byte_test bytes more i byte within feed none = ⊎_elim inside past (cases_lt i 
     past : length bytes ≤ i → (slice_index (bytes ++ 10 ∷ more) i == byte) ≡ (slice_index bytes i == byte)
     past above =
         let is : i ≡ length bytes + 0 = omega (arith, above, within) in
-        ap (λ (n : ℕ). slice_index (bytes ++ 10 ∷ more) n == byte) is ∙ ap (λ (b : ℕ). b == byte) (get_or-append-add bytes (10 ∷ more) 0 0) ∙ feed ∙ sym none ∙ sym (ap (λ (b : ℕ). b == byte) (get_or_past bytes i 0 above))
+        ap (λ (n : ℕ). slice_index (bytes ++ 10 ∷ more) n == byte) is ∙ ap (λ (b : ℕ). b == byte) (get_or-append-add bytes (10 ∷ more) 0 0)
+        ∙ feed ∙ sym none ∙ sym (ap (λ (b : ℕ). b == byte) (get_or_past bytes i 0 above))
 
 parameters_before : (bytes more : List ℕ) → prefix_len is_parameter (bytes ++ 10 ∷ more) ≡ prefix_len is_parameter bytes
 parameters_before [] more = refl
 parameters_before (byte ∷ bytes) more = ap (λ (n : ℕ). if is_parameter byte then 1 + n else 0) (parameters_before bytes more)
 
-final_test : (x y : ℕ) (bytes more : List ℕ) (byte : ℕ) → (10 == byte) ≡ false → (0 == byte) ≡ false → (final_byte ((x ∷ y ∷ bytes) ++ 10 ∷ more) == byte) ≡ (final_byte (x ∷ y ∷ bytes) == byte)
+final_test : (x y : ℕ) (bytes more : List ℕ) (byte : ℕ) → (10 == byte) ≡ false → (0 == byte) ≡ false
+    → (final_byte ((x ∷ y ∷ bytes) ++ 10 ∷ more) == byte) ≡ (final_byte (x ∷ y ∷ bytes) == byte)
 final_test x y bytes more byte feed none =
     let within = prefix_len-le-length is_parameter bytes in
-    ap (λ (n : ℕ). slice_index ((x ∷ y ∷ bytes) ++ 10 ∷ more) (2 + n) == byte) (parameters_before bytes more) ∙ byte_test (x ∷ y ∷ bytes) more (2 + prefix_len is_parameter bytes) byte (omega (arith, within)) feed none
+    ap (λ (n : ℕ). slice_index ((x ∷ y ∷ bytes) ++ 10 ∷ more) (2 + n) == byte) (parameters_before bytes more)
+    ∙ byte_test (x ∷ y ∷ bytes) more (2 + prefix_len is_parameter bytes) byte (omega (arith, within)) feed none
 
 one_byte : (x : ℕ) (is : Bool) → (x == 27) ≡ is → begins_sequence (x ∷ []) ≡ false
 one_byte x true is = rw is refl
@@ -61,7 +65,8 @@ one_byte_more x more false is = rw is refl
 
 begins_same : (x y : ℕ) (bytes more : List ℕ) → begins_sequence ((x ∷ y ∷ bytes) ++ 10 ∷ more) ≡ begins_sequence (x ∷ y ∷ bytes)
 begins_same x y bytes more =
-    ap (λ (m : Bool). (x == 27 && y == 91) && (m || (final_byte ((x ∷ y ∷ bytes) ++ 10 ∷ more) == 75))) (final_test x y bytes more 109 refl refl)
+    ap (λ (m : Bool). (x == 27 && y == 91) && (m || (final_byte ((x ∷ y ∷ bytes) ++ 10 ∷ more) == 75)))
+    (final_test x y bytes more 109 refl refl)
     ∙ ap (λ (k : Bool). (x == 27 && y == 91) && ((final_byte (x ∷ y ∷ bytes) == 109) || k)) (final_test x y bytes more 75 refl refl)
 
 sequence_same : (x : ℕ) (bytes more : List ℕ) → sequence_len ((x ∷ bytes) ++ 10 ∷ more) ≡ sequence_len (x ∷ bytes)
@@ -71,7 +76,8 @@ sequence_same x (y ∷ bytes) more =
     ap (λ (b : Bool). if b then 3 + prefix_len is_parameter (bytes ++ 10 ∷ more) else 0) (begins_same x y bytes more)
     ∙ ap (λ (n : ℕ). if begins_sequence (x ∷ y ∷ bytes) then 3 + n else 0) (parameters_before bytes more)
 
-is_sequence_same : (kind : TextKind) (x : ℕ) (bytes more : List ℕ) → is_sequence kind ((x ∷ bytes) ++ 10 ∷ more) ≡ is_sequence kind (x ∷ bytes)
+is_sequence_same : (kind : TextKind) (x : ℕ) (bytes more : List ℕ)
+    → is_sequence kind ((x ∷ bytes) ++ 10 ∷ more) ≡ is_sequence kind (x ∷ bytes)
 unfolding is_sequence
 is_sequence_same kind x bytes more = rw (sequence_same x bytes more) refl
 
@@ -79,9 +85,12 @@ numbers_same : (x y : ℕ) (bytes more : List ℕ) → sequence_numbers ((x ∷ 
 unfolding sequence_numbers
 numbers_same x y bytes more =
     let n = prefix_len is_parameter bytes in
-    ap (λ (b : Bool). if b then numbers_from 0 (take (prefix_len is_parameter (bytes ++ 10 ∷ more)) (bytes ++ 10 ∷ more)) else []) (final_test x y bytes more 109 refl refl)
-    ∙ ap (λ (k : ℕ). if final_byte (x ∷ y ∷ bytes) == 109 then numbers_from 0 (take k (bytes ++ 10 ∷ more)) else []) (parameters_before bytes more)
-    ∙ ap (λ (b : List ℕ). if final_byte (x ∷ y ∷ bytes) == 109 then numbers_from 0 b else []) (take-append-le n bytes (10 ∷ more) (prefix_len-le-length is_parameter bytes))
+    ap (λ (b : Bool). if b then numbers_from 0 (take (prefix_len is_parameter (bytes ++ 10 ∷ more)) (bytes ++ 10 ∷ more)) else [])
+    (final_test x y bytes more 109 refl refl)
+    ∙ ap (λ (k : ℕ). if final_byte (x ∷ y ∷ bytes) == 109 then numbers_from 0 (take k (bytes ++ 10 ∷ more)) else [])
+    (parameters_before bytes more)
+    ∙ ap (λ (b : List ℕ). if final_byte (x ∷ y ∷ bytes) == 109 then numbers_from 0 b else [])
+    (take-append-le n bytes (10 ∷ more) (prefix_len-le-length is_parameter bytes))
 
 decoded_same : (x : ℕ) (bytes more : List ℕ) → decoded ((x ∷ bytes) ++ 10 ∷ more) ≡ decoded (x ∷ bytes)
 decoded_same x bytes more =
@@ -96,20 +105,28 @@ decoded_same x bytes more =
 
 one_byte_symbol : (kind : TextKind) (x : ℕ) → is_sequence kind (x ∷ []) ≡ false
 unfolding is_sequence sequence_len
-one_byte_symbol kind x = and_right (has_colours kind) (nat_lt 0 (sequence_len (x ∷ []))) (ap (nat_lt 0) (cond-false _ _ _ (one_byte x (x == 27) refl)))
+one_byte_symbol kind x = and_right (has_colours kind) (nat_lt 0 (sequence_len (x ∷ [])))
+    (ap (nat_lt 0) (cond-false _ _ _ (one_byte x (x == 27) refl)))
 
 first_same : (kind : TextKind) (x : ℕ) (bytes more : List ℕ) → first_symbol kind ((x ∷ bytes) ++ 10 ∷ more) ≡ first_symbol kind (x ∷ bytes)
 unfolding first_symbol first_code_point
-first_same kind x bytes more = ap (λ (b : Bool). if b then Sequence (sequence_numbers all) else CodePoint (code_point_of (decoded all).char x)) (is_sequence_same kind x bytes more) ∙ ap (λ (d : Decoded). if is_sequence kind (x ∷ bytes) then Sequence (sequence_numbers all) else CodePoint (code_point_of d.char x)) (decoded_same x bytes more) ∙ by bytes (is_sequence kind (x ∷ bytes)) refl
+first_same kind x bytes more = ap (λ (b : Bool). if b then Sequence (sequence_numbers all)
+    else CodePoint (code_point_of (decoded all).char x)) (is_sequence_same kind x bytes more)
+    ∙ ap (λ (d : Decoded). if is_sequence kind (x ∷ bytes) then Sequence (sequence_numbers all) else CodePoint (code_point_of d.char x))
+    (decoded_same x bytes more) ∙ by bytes (is_sequence kind (x ∷ bytes)) refl
   where
     all : List ℕ
     all = (x ∷ bytes) ++ 10 ∷ more
 
-    by : (bytes : List ℕ) (is : Bool) → is_sequence kind (x ∷ bytes) ≡ is → (if is_sequence kind (x ∷ bytes) then Sequence (sequence_numbers ((x ∷ bytes) ++ 10 ∷ more)) else CodePoint (code_point_of (decoded (x ∷ bytes)).char x))
-        ≡ (if is_sequence kind (x ∷ bytes) then Sequence (sequence_numbers (x ∷ bytes)) else CodePoint (code_point_of (decoded (x ∷ bytes)).char x))
+    by : (bytes : List ℕ) (is : Bool) → is_sequence kind (x ∷ bytes) ≡ is
+        → (if is_sequence kind (x ∷ bytes) then Sequence (sequence_numbers ((x ∷ bytes) ++ 10 ∷ more))
+        else CodePoint (code_point_of (decoded (x ∷ bytes)).char x))
+        ≡ (if is_sequence kind (x ∷ bytes) then Sequence (sequence_numbers (x ∷ bytes))
+        else CodePoint (code_point_of (decoded (x ∷ bytes)).char x))
     by bytes false is = rw is refl
     by [] true is = absurd (let e : true ≡ false = sym is ∙ one_byte_symbol kind x in cc)
-    by (y ∷ bytes) true is = ap (λ (ns : List ℕ). if is_sequence kind (x ∷ y ∷ bytes) then Sequence ns else CodePoint (code_point_of (decoded (x ∷ y ∷ bytes)).char x)) (numbers_same x y bytes more)
+    by (y ∷ bytes) true is = ap (λ (ns : List ℕ). if is_sequence kind (x ∷ y ∷ bytes) then Sequence ns
+        else CodePoint (code_point_of (decoded (x ∷ y ∷ bytes)).char x)) (numbers_same x y bytes more)
 
 len_same : (kind : TextKind) (x : ℕ) (bytes more : List ℕ) → symbol_len kind ((x ∷ bytes) ++ 10 ∷ more) ≡ symbol_len kind (x ∷ bytes)
 unfolding symbol_len code_point_len
@@ -117,7 +134,8 @@ len_same kind x bytes more =
     let all = (x ∷ bytes) ++ 10 ∷ more in
     ap (λ (b : Bool). if b then sequence_len all else size_of (decoded all).char (decoded all).size) (is_sequence_same kind x bytes more)
     ∙ ap (λ (n : ℕ). if is_sequence kind (x ∷ bytes) then n else size_of (decoded all).char (decoded all).size) (sequence_same x bytes more)
-    ∙ ap (λ (d : Decoded). if is_sequence kind (x ∷ bytes) then sequence_len (x ∷ bytes) else size_of d.char d.size) (decoded_same x bytes more)
+    ∙ ap (λ (d : Decoded). if is_sequence kind (x ∷ bytes) then sequence_len (x ∷ bytes) else size_of d.char d.size)
+    (decoded_same x bytes more)
 
 -- ---- symbols
 
@@ -125,44 +143,57 @@ feed_plain : is_plain 10 ≡ true
 feed_plain = refl
 
 -- The symbols before a line feed, the line feed, and the symbols after it.
-symbols_split : (kind : TextKind) (skipped : ℕ) (bytes more : List ℕ) → skipped ≤ length bytes → symbols_after kind skipped (bytes ++ 10 ∷ more) ≡ symbols_after kind skipped bytes ++ CodePoint 10 ∷ symbols kind more
+symbols_split : (kind : TextKind) (skipped : ℕ) (bytes more : List ℕ) → skipped ≤ length bytes
+    → symbols_after kind skipped (bytes ++ 10 ∷ more) ≡ symbols_after kind skipped bytes ++ CodePoint 10 ∷ symbols kind more
 unfolding symbols_after
 symbols_split kind zero [] more within =
     let symbol = plain_symbol kind 10 more feed_plain in
-    symbols-step kind (10 ∷ more) (omega arith) ∙ ap (λ (s : Symbol). s ∷ symbols kind (drop (symbol_len kind (10 ∷ more)) (10 ∷ more))) symbol.0 ∙ ap (λ (n : ℕ). CodePoint 10 ∷ symbols kind (drop n (10 ∷ more))) symbol.1
+    symbols-step kind (10 ∷ more) (omega arith)
+    ∙ ap (λ (s : Symbol). s ∷ symbols kind (drop (symbol_len kind (10 ∷ more)) (10 ∷ more))) symbol.0
+    ∙ ap (λ (n : ℕ). CodePoint 10 ∷ symbols kind (drop n (10 ∷ more))) symbol.1
 symbols_split kind (suc skipped) [] more within = absurd (omega arith)
 symbols_split kind zero (byte ∷ bytes) more within =
     let bounds = symbol_bounds kind (byte ∷ bytes) (omega arith) in
-    ap (λ (s : Symbol). s ∷ symbols_after kind (symbol_len kind ((byte ∷ bytes) ++ 10 ∷ more) - 1) (bytes ++ 10 ∷ more)) (first_same kind byte bytes more)
+    ap (λ (s : Symbol). s ∷ symbols_after kind (symbol_len kind ((byte ∷ bytes) ++ 10 ∷ more) - 1) (bytes ++ 10 ∷ more))
+    (first_same kind byte bytes more)
     ∙ ap (λ (n : ℕ). first_symbol kind (byte ∷ bytes) ∷ symbols_after kind (n - 1) (bytes ++ 10 ∷ more)) (len_same kind byte bytes more)
-    ∙ ap (λ (ss : List Symbol). first_symbol kind (byte ∷ bytes) ∷ ss) (symbols_split kind (symbol_len kind (byte ∷ bytes) - 1) bytes more (omega (arith, bounds.0, bounds.1)))
+    ∙ ap (λ (ss : List Symbol). first_symbol kind (byte ∷ bytes) ∷ ss)
+    (symbols_split kind (symbol_len kind (byte ∷ bytes) - 1) bytes more (omega (arith, bounds.0, bounds.1)))
 symbols_split kind (suc skipped) (byte ∷ bytes) more within = symbols_split kind skipped bytes more (omega (arith, within))
 
-pub symbols-feed : (kind : TextKind) (bytes more : List ℕ) → symbols kind (bytes ++ 10 ∷ more) ≡ symbols kind bytes ++ CodePoint 10 ∷ symbols kind more
+pub symbols-feed : (kind : TextKind) (bytes more : List ℕ)
+    → symbols kind (bytes ++ 10 ∷ more) ≡ symbols kind bytes ++ CodePoint 10 ∷ symbols kind more
 symbols-feed kind bytes more = symbols_split kind 0 bytes more (omega arith)
 
-pub style-feed : (kind : TextKind) (style : Style) (bytes more : List ℕ) → style_in kind style (bytes ++ 10 ∷ more) ≡ style_in kind (style_in kind style bytes) more
-style-feed kind style bytes more = ap (fold style_after_symbol style) (symbols-feed kind bytes more) ∙ fold-append style_after_symbol style (symbols kind bytes) (CodePoint 10 ∷ symbols kind more)
+pub style-feed : (kind : TextKind) (style : Style) (bytes more : List ℕ)
+    → style_in kind style (bytes ++ 10 ∷ more) ≡ style_in kind (style_in kind style bytes) more
+style-feed kind style bytes more = ap (fold style_after_symbol style) (symbols-feed kind bytes more)
+    ∙ fold-append style_after_symbol style (symbols kind bytes) (CodePoint 10 ∷ symbols kind more)
 
 -- ---- runs
 
 feed_visible : is_unprintable 10 ≡ false
 feed_visible = plain_visible 10 refl
 
-code_point_runs : (code_point : ℕ) (runs more : List Run) → with_code_point code_point (runs ++ CodePoints 10 1 ∷ more) ≡ with_code_point code_point runs ++ CodePoints 10 1 ∷ more
+code_point_runs : (code_point : ℕ) (runs more : List Run)
+    → with_code_point code_point (runs ++ CodePoints 10 1 ∷ more) ≡ with_code_point code_point runs ++ CodePoints 10 1 ∷ more
 code_point_runs code_point [] more = by (code_point == 10) refl
   where
-    by : (is : Bool) → (code_point == 10) ≡ is → with_code_point code_point (CodePoints 10 1 ∷ more) ≡ CodePoints code_point 1 ∷ CodePoints 10 1 ∷ more
+    by : (is : Bool) → (code_point == 10) ≡ is
+        → with_code_point code_point (CodePoints 10 1 ∷ more) ≡ CodePoints code_point 1 ∷ CodePoints 10 1 ∷ more
     by true is = rw (ap is_unprintable (eqb-true code_point 10 is) ∙ feed_visible) refl
     by false is = rw (and_right (is_unprintable code_point) (code_point == 10) is) refl
 code_point_runs code_point (Restyle numbers ∷ runs) more = refl
 code_point_runs code_point (CodePoints next count ∷ runs) more = by (is_unprintable code_point && code_point == next) refl
   where
-    by : (same : Bool) → (is_unprintable code_point && code_point == next) ≡ same → with_code_point code_point (CodePoints next count ∷ (runs ++ CodePoints 10 1 ∷ more)) ≡ with_code_point code_point (CodePoints next count ∷ runs) ++ CodePoints 10 1 ∷ more
+    by : (same : Bool) → (is_unprintable code_point && code_point == next) ≡ same
+        → with_code_point code_point (CodePoints next count ∷ (runs ++ CodePoints 10 1 ∷ more))
+        ≡ with_code_point code_point (CodePoints next count ∷ runs) ++ CodePoints 10 1 ∷ more
     by true is = rw is refl
     by false is = rw is refl
 
-symbol_runs : (symbol : Symbol) (runs more : List Run) → with_symbol symbol (runs ++ CodePoints 10 1 ∷ more) ≡ with_symbol symbol runs ++ CodePoints 10 1 ∷ more
+symbol_runs : (symbol : Symbol) (runs more : List Run)
+    → with_symbol symbol (runs ++ CodePoints 10 1 ∷ more) ≡ with_symbol symbol runs ++ CodePoints 10 1 ∷ more
 symbol_runs (CodePoint code_point) runs more = code_point_runs code_point runs more
 symbol_runs (Sequence numbers) runs more = refl
 
@@ -170,7 +201,8 @@ runs_split : (symbols more : List Symbol) → runs_of (symbols ++ CodePoint 10 �
 runs_split [] more = visible_run 10 (runs_of more) feed_visible
 runs_split (symbol ∷ symbols) more = ap (with_symbol symbol) (runs_split symbols more) ∙ symbol_runs symbol (runs_of symbols) (runs_of more)
 
-pub runs-feed : (kind : TextKind) (bytes more : List ℕ) → runs_of (symbols kind (bytes ++ 10 ∷ more)) ≡ runs_of (symbols kind bytes) ++ CodePoints 10 1 ∷ runs_of (symbols kind more)
+pub runs-feed : (kind : TextKind) (bytes more : List ℕ)
+    → runs_of (symbols kind (bytes ++ 10 ∷ more)) ≡ runs_of (symbols kind bytes) ++ CodePoints 10 1 ∷ runs_of (symbols kind more)
 runs-feed kind bytes more = ap runs_of (symbols-feed kind bytes more) ∙ runs_split (symbols kind bytes) (symbols kind more)
 
 -- The style after runs.
@@ -178,12 +210,14 @@ abbrev style_after_run : Style → Run → Style
 style_after_run style (CodePoints code_point count) = style
 style_after_run style (Restyle numbers) = restyled style numbers
 
-code_point_run_style : (style : Style) (code_point : ℕ) (runs : List Run) → fold style_after_run style (with_code_point code_point runs) ≡ fold style_after_run style runs
+code_point_run_style : (style : Style) (code_point : ℕ) (runs : List Run)
+    → fold style_after_run style (with_code_point code_point runs) ≡ fold style_after_run style runs
 code_point_run_style style code_point [] = refl
 code_point_run_style style code_point (Restyle numbers ∷ runs) = refl
 code_point_run_style style code_point (CodePoints next count ∷ runs) = by (is_unprintable code_point && code_point == next) refl
   where
-    by : (same : Bool) → (is_unprintable code_point && code_point == next) ≡ same → fold style_after_run style (with_code_point code_point (CodePoints next count ∷ runs)) ≡ fold style_after_run style runs
+    by : (same : Bool) → (is_unprintable code_point && code_point == next) ≡ same
+        → fold style_after_run style (with_code_point code_point (CodePoints next count ∷ runs)) ≡ fold style_after_run style runs
     by true is = rw is refl
     by false is = rw is refl
 
@@ -195,17 +229,24 @@ runs_style style (Sequence numbers ∷ symbols) = runs_style (restyled style num
 -- ---- HTML
 
 code_points_html : (kind : TextKind) (look : Look) (code_point count : ℕ) (runs : List Run)
-    → html_of kind look (CodePoints code_point count ∷ runs) ≡ flat_map (inline_html kind) (highlights_between look (is_unprintable code_point)) ++ (escaped (code_points_text code_point count) ++ html_of kind (after_code_point look (is_unprintable code_point)) runs)
-code_points_html kind look code_point count runs = flat_map-append (inline_html kind) (highlights_between look (is_unprintable code_point)) (Text code_point count ∷ inlines_from (after_code_point look (is_unprintable code_point)) runs)
+    → html_of kind look (CodePoints code_point count ∷ runs)
+    ≡ flat_map (inline_html kind) (highlights_between look (is_unprintable code_point))
+    ++ (escaped (code_points_text code_point count) ++ html_of kind (after_code_point look (is_unprintable code_point)) runs)
+code_points_html kind look code_point count runs =
+    flat_map-append (inline_html kind) (highlights_between look (is_unprintable code_point))
+    (Text code_point count ∷ inlines_from (after_code_point look (is_unprintable code_point)) runs)
 
 -- A passage may be split after a line feed where no style is wanted.
 html_split : (kind : TextKind) (look : Look) (runs more : List Run) → fold style_after_run look.wanted runs ≡ plain_style
-    → html_of kind look (runs ++ CodePoints 10 1 ∷ more) ≡ html_of kind look (runs ++ CodePoints 10 1 ∷ []) ++ html_of kind (start_look plain_style) more
+    → html_of kind look (runs ++ CodePoints 10 1 ∷ more)
+    ≡ html_of kind look (runs ++ CodePoints 10 1 ∷ []) ++ html_of kind (start_look plain_style) more
 html_split kind look [] more plain =
     let highlights = flat_map (inline_html kind) (highlights_between look false) in
-    let at : (rest : List Run) → html_of kind look (CodePoints 10 1 ∷ rest) ≡ (highlights ++ (10 ∷ [])) ++ html_of kind (start_look plain_style) rest = λ rest.
+    let at : (rest : List Run) → html_of kind look (CodePoints 10 1 ∷ rest)
+    ≡ (highlights ++ (10 ∷ [])) ++ html_of kind (start_look plain_style) rest = λ rest.
     code_points_html kind look 10 1 rest
-    ∙ ap (λ (o : Bool). flat_map (inline_html kind) (highlights_between look o) ++ (escaped (if o then unprintable_text 10 1 else encode_utf8 10) ++ html_of kind (after_code_point look o) rest)) feed_visible
+    ∙ ap (λ (o : Bool). flat_map (inline_html kind) (highlights_between look o)
+    ++ (escaped (if o then unprintable_text 10 1 else encode_utf8 10) ++ html_of kind (after_code_point look o) rest)) feed_visible
     ∙ ap (λ (t : List ℕ). highlights ++ (escaped t ++ html_of kind (after_code_point look false) rest)) (plain_encoded 10 feed_plain)
     ∙ ap (λ (s : Style). highlights ++ (10 ∷ html_of kind (record { wanted = s; current = s; unprintable = false }) rest)) plain
     ∙ sym (append_assoc highlights (10 ∷ []) (html_of kind (start_look plain_style) rest)) in
@@ -229,28 +270,37 @@ passage-feed kind style bytes more plain =
     let runs = runs_of (symbols kind bytes) in
     ap (html_of kind (start_look style)) (runs-feed kind bytes more)
     ∙ html_split kind (start_look style) runs (runs_of (symbols kind more)) (runs_style style (symbols kind bytes) ∙ plain)
-    ∙ ap (λ (rs : List Run). html_of kind (start_look style) rs ++ html_of kind (start_look plain_style) (runs_of (symbols kind more))) (sym (runs-feed kind bytes [] ∙ ap (λ (ss : List Symbol). runs ++ CodePoints 10 1 ∷ runs_of ss) (symbols-nil kind)))
+    ∙ ap (λ (rs : List Run). html_of kind (start_look style) rs ++ html_of kind (start_look plain_style) (runs_of (symbols kind more)))
+    (sym (runs-feed kind bytes [] ∙ ap (λ (ss : List Symbol). runs ++ CodePoints 10 1 ∷ runs_of ss) (symbols-nil kind)))
 
 -- ---- what is shown
 
-pub shown-feed : (kind : TextKind) (bytes more : List ℕ) → shown_text kind (bytes ++ 10 ∷ more) ≡ shown_text kind bytes ++ 10 ∷ shown_text kind more
+pub shown-feed : (kind : TextKind) (bytes more : List ℕ)
+    → shown_text kind (bytes ++ 10 ∷ more) ≡ shown_text kind bytes ++ 10 ∷ shown_text kind more
 shown-feed kind bytes more =
-    ap (flat_map run_text) (runs-feed kind bytes more) ∙ flat_map-append run_text (runs_of (symbols kind bytes)) (CodePoints 10 1 ∷ runs_of (symbols kind more))
-    ∙ ap (λ (t : List ℕ). shown_text kind bytes ++ (t ++ shown_text kind more)) (cond-false (is_unprintable 10) (unprintable_text 10 1) (encode_utf8 10) feed_visible ∙ plain_encoded 10 feed_plain)
+    ap (flat_map run_text) (runs-feed kind bytes more)
+    ∙ flat_map-append run_text (runs_of (symbols kind bytes)) (CodePoints 10 1 ∷ runs_of (symbols kind more))
+    ∙ ap (λ (t : List ℕ). shown_text kind bytes ++ (t ++ shown_text kind more))
+    (cond-false (is_unprintable 10) (unprintable_text 10 1) (encode_utf8 10) feed_visible ∙ plain_encoded 10 feed_plain)
 
-pub lines_text : (style : Style) (lines : List (List ℕ)) → flat_map part_text (line_parts style lines) ≡ shown_text Log (flat_map with_line_feed lines)
+pub lines_text : (style : Style) (lines : List (List ℕ))
+    → flat_map part_text (line_parts style lines) ≡ shown_text Log (flat_map with_line_feed lines)
 lines_text style [] = sym (ap (λ (ss : List Symbol). flat_map run_text (runs_of ss)) (symbols-nil Log))
 lines_text style (line ∷ lines) =
     let left = flat_map with_line_feed lines in
     let shown = shown_text Log line in
     ap (λ (t : List ℕ). shown_text Log (with_line_feed line) ++ t) (lines_text (style_after style (with_line_feed line)) lines)
-    ∙ ap (λ (t : List ℕ). t ++ shown_text Log left) (shown-feed Log line [] ∙ ap (λ (ss : List Symbol). shown ++ 10 ∷ flat_map run_text (runs_of ss)) (symbols-nil Log))
-    ∙ append_assoc shown (10 ∷ []) (shown_text Log left) ∙ sym (shown-feed Log line left) ∙ ap (shown_text Log) (sym (append_assoc line (10 ∷ []) left))
+    ∙ ap (λ (t : List ℕ). t ++ shown_text Log left)
+    (shown-feed Log line [] ∙ ap (λ (ss : List Symbol). shown ++ 10 ∷ flat_map run_text (runs_of ss)) (symbols-nil Log))
+    ∙ append_assoc shown (10 ∷ []) (shown_text Log left) ∙ sym (shown-feed Log line left)
+    ∙ ap (shown_text Log) (sym (append_assoc line (10 ∷ []) left))
 
-pub lines_style : (style : Style) (lines : List (List ℕ)) → style_after_lines style lines ≡ style_after style (flat_map with_line_feed lines)
+pub lines_style : (style : Style) (lines : List (List ℕ))
+    → style_after_lines style lines ≡ style_after style (flat_map with_line_feed lines)
 lines_style style [] = sym (ap (fold style_after_symbol style) (symbols-nil Log))
 lines_style style (line ∷ lines) =
     let left = flat_map with_line_feed lines in
     lines_style (style_after style (with_line_feed line)) lines
-    ∙ ap (λ (s : Style). style_after s left) (style-feed Log style line [] ∙ ap (fold style_after_symbol (style_after style line)) (symbols-nil Log))
+    ∙ ap (λ (s : Style). style_after s left)
+    (style-feed Log style line [] ∙ ap (fold style_after_symbol (style_after style line)) (symbols-nil Log))
     ∙ sym (style-feed Log style line left) ∙ ap (style_after style) (sym (append_assoc line (10 ∷ []) left))

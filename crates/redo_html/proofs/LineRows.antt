@@ -29,14 +29,28 @@ styled bold hue = record { bold = bold; hue = hue }
 abbrev rows : List Row
 rows =
     row (styled true Cyan) [] [] (styled true Cyan) ∷
-    row (styled false Red) ([] ∷ [] ∷ []) (codes "<span class=\"r\">" ++ (10 ∷ []) ++ codes "</span><span class=\"r\">" ++ (10 ∷ []) ++ codes "</span>") (styled false Red) ∷
-    row plain_style ((codes "cc -c a.c") ∷ [] ∷ (codes "b <c> & \"d\"") ∷ ((9 ∷ []) ++ codes "e") ∷ []) (codes "cc -c a.c" ++ (10 ∷ 10 ∷ []) ++ codes "b &lt;c&gt; &amp; \"d\"" ++ (10 ∷ 9 ∷ []) ++ codes "e" ++ (10 ∷ [])) plain_style ∷
-    row plain_style (((27 ∷ []) ++ codes "[31mred") ∷ (codes "still red") ∷ ((27 ∷ []) ++ codes "[mplain") ∷ (codes "plain") ∷ []) (codes "<span class=\"r\">red" ++ (10 ∷ []) ++ codes "</span><span class=\"r\">still red" ++ (10 ∷ []) ++ codes "</span>plain" ++ (10 ∷ []) ++ codes "plain" ++ (10 ∷ [])) plain_style ∷
-    row (styled true Green) ((codes "x") ∷ ((27 ∷ []) ++ codes "[39my") ∷ [] ∷ ((27 ∷ []) ++ codes "[22mz") ∷ []) (codes "<b class=\"g\">x" ++ (10 ∷ []) ++ codes "</b><b>y" ++ (10 ∷ []) ++ codes "</b><b>" ++ (10 ∷ []) ++ codes "</b>z" ++ (10 ∷ [])) plain_style ∷
-    row plain_style ((codes "a" ++ (0 ∷ [])) ∷ ((0 ∷ []) ++ codes "b") ∷ (1 ∷ 1 ∷ 1 ∷ []) ∷ (1 ∷ 1 ∷ 1 ∷ []) ∷ []) (codes "a<i>^@</i>" ++ (10 ∷ []) ++ codes "<i>^@</i>b" ++ (10 ∷ []) ++ codes "<i>^A^A^A</i>" ++ (10 ∷ []) ++ codes "<i>^A^A^A</i>" ++ (10 ∷ [])) plain_style ∷
-    row plain_style (((27 ∷ []) ++ codes "[31") ∷ (codes "m" ++ (27 ∷ [])) ∷ (codes "[1mx") ∷ []) (codes "<i>^[</i>[31" ++ (10 ∷ []) ++ codes "m<i>^[</i>" ++ (10 ∷ []) ++ codes "[1mx" ++ (10 ∷ [])) plain_style ∷
-    row plain_style ((codes "one") ∷ (codes "two") ∷ ((27 ∷ []) ++ codes "[1;35mnote" ++ (27 ∷ []) ++ codes "[m: three") ∷ (codes "four") ∷ (codes "five") ∷ ((27 ∷ []) ++ codes "[Ksix") ∷ (codes "seven") ∷ []) (codes "one" ++ (10 ∷ []) ++ codes "two" ++ (10 ∷ []) ++ codes "<b class=\"m\">note</b>: three" ++ (10 ∷ []) ++ codes "four" ++ (10 ∷ []) ++ codes "five" ++ (10 ∷ []) ++ codes "six" ++ (10 ∷ []) ++ codes "seven" ++ (10 ∷ [])) plain_style ∷
-    row plain_style ((codes "a" ++ (27 ∷ []) ++ codes "[33m") ∷ (codes "b") ∷ ((27 ∷ []) ++ codes "[m") ∷ (codes "c") ∷ []) (codes "a<span class=\"y\">" ++ (10 ∷ []) ++ codes "</span><span class=\"y\">b" ++ (10 ∷ []) ++ codes "</span>" ++ (10 ∷ []) ++ codes "c" ++ (10 ∷ [])) plain_style ∷
+    row (styled false Red) ([] ∷ [] ∷ [])
+    (codes "<span class=\"r\">" ++ (10 ∷ []) ++ codes "</span><span class=\"r\">" ++ (10 ∷ []) ++ codes "</span>") (styled false Red) ∷
+    row plain_style ((codes "cc -c a.c") ∷ [] ∷ (codes "b <c> & \"d\"") ∷ ((9 ∷ []) ++ codes "e") ∷ [])
+    (codes "cc -c a.c" ++ (10 ∷ 10 ∷ []) ++ codes "b &lt;c&gt; &amp; \"d\"" ++ (10 ∷ 9 ∷ []) ++ codes "e" ++ (10 ∷ [])) plain_style ∷
+    row plain_style (((27 ∷ []) ++ codes "[31mred") ∷ (codes "still red") ∷ ((27 ∷ []) ++ codes "[mplain") ∷ (codes "plain") ∷ [])
+    (codes "<span class=\"r\">red" ++ (10 ∷ []) ++ codes "</span><span class=\"r\">still red" ++ (10 ∷ []) ++ codes "</span>plain"
+    ++ (10 ∷ []) ++ codes "plain" ++ (10 ∷ [])) plain_style ∷
+    row (styled true Green) ((codes "x") ∷ ((27 ∷ []) ++ codes "[39my") ∷ [] ∷ ((27 ∷ []) ++ codes "[22mz") ∷ [])
+    (codes "<b class=\"g\">x" ++ (10 ∷ []) ++ codes "</b><b>y" ++ (10 ∷ []) ++ codes "</b><b>" ++ (10 ∷ []) ++ codes "</b>z" ++ (10 ∷ []))
+    plain_style ∷
+    row plain_style ((codes "a" ++ (0 ∷ [])) ∷ ((0 ∷ []) ++ codes "b") ∷ (1 ∷ 1 ∷ 1 ∷ []) ∷ (1 ∷ 1 ∷ 1 ∷ []) ∷ [])
+    (codes "a<i>^@</i>" ++ (10 ∷ []) ++ codes "<i>^@</i>b" ++ (10 ∷ []) ++ codes "<i>^A^A^A</i>" ++ (10 ∷ []) ++ codes "<i>^A^A^A</i>"
+    ++ (10 ∷ [])) plain_style ∷
+    row plain_style (((27 ∷ []) ++ codes "[31") ∷ (codes "m" ++ (27 ∷ [])) ∷ (codes "[1mx") ∷ [])
+    (codes "<i>^[</i>[31" ++ (10 ∷ []) ++ codes "m<i>^[</i>" ++ (10 ∷ []) ++ codes "[1mx" ++ (10 ∷ [])) plain_style ∷
+    row plain_style ((codes "one") ∷ (codes "two") ∷ ((27 ∷ []) ++ codes "[1;35mnote" ++ (27 ∷ []) ++ codes "[m: three") ∷ (codes "four")
+    ∷ (codes "five") ∷ ((27 ∷ []) ++ codes "[Ksix") ∷ (codes "seven") ∷ [])
+    (codes "one" ++ (10 ∷ []) ++ codes "two" ++ (10 ∷ []) ++ codes "<b class=\"m\">note</b>: three" ++ (10 ∷ []) ++ codes "four"
+    ++ (10 ∷ []) ++ codes "five" ++ (10 ∷ []) ++ codes "six" ++ (10 ∷ []) ++ codes "seven" ++ (10 ∷ [])) plain_style ∷
+    row plain_style ((codes "a" ++ (27 ∷ []) ++ codes "[33m") ∷ (codes "b") ∷ ((27 ∷ []) ++ codes "[m") ∷ (codes "c") ∷ [])
+    (codes "a<span class=\"y\">" ++ (10 ∷ []) ++ codes "</span><span class=\"y\">b" ++ (10 ∷ []) ++ codes "</span>" ++ (10 ∷ [])
+    ++ codes "c" ++ (10 ∷ [])) plain_style ∷
     []
 
 written_are : AllByRecursion (λ r. lines_html r.style r.lines ≡ r.html) rows

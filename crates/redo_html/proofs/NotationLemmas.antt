@@ -17,13 +17,16 @@ delete_notation code_point is = rw is refl
 module _ (code_point : ℕ) (low : 32 ≤ code_point) (other : code_point ≡ 127 → ⊥) where
   pub notation_of_byte : 0xDC00 ≤ code_point → code_point ≤ 0xDCFF → notation code_point ≡ byte_notation (code_point - 0xDC00)
   unfolding notation
-  notation_of_byte first last = cond-false _ _ _ (le-ltb code_point 32 low) ∙ cond-false _ _ _ (ne_eqb code_point 127 other) ∙ cond-true _ _ _ (and_from _ _ (le-leb 0xDC00 code_point first) (le-leb code_point 0xDCFF last))
+  notation_of_byte first last = cond-false _ _ _ (le-ltb code_point 32 low) ∙ cond-false _ _ _ (ne_eqb code_point 127 other)
+      ∙ cond-true _ _ _ (and_from _ _ (le-leb 0xDC00 code_point first) (le-leb code_point 0xDCFF last))
 
   pub notation_of_code : (code_point < 0xDC00) ⊎ (0xDCFF < code_point) → notation code_point ≡ code_point_notation code_point
   unfolding notation
   notation_of_code outside =
       cond-false _ _ _ (le-ltb code_point 32 low) ∙ cond-false _ _ _ (ne_eqb code_point 127 other)
-      ∙ cond-false (is_between code_point (0xDC00, 0xDCFF)) _ _ (⊎_elim (λ below. and_left (nat_le 0xDC00 code_point) (nat_le code_point 0xDCFF) (lt-leb 0xDC00 code_point below)) (λ above. and_right (nat_le 0xDC00 code_point) (nat_le code_point 0xDCFF) (lt-leb code_point 0xDCFF above)) outside)
+      ∙ cond-false (is_between code_point (0xDC00, 0xDCFF)) _ _
+      (⊎_elim (λ below. and_left (nat_le 0xDC00 code_point) (nat_le code_point 0xDCFF) (lt-leb 0xDC00 code_point below))
+      (λ above. and_right (nat_le 0xDC00 code_point) (nat_le code_point 0xDCFF) (lt-leb code_point 0xDCFF above)) outside)
 
 pub number_is : (number : ℕ) → number < 2 ^ 64 → decimal number ≡ number_text number
 unfolding number_text
@@ -33,11 +36,13 @@ pub few_notations : (code_point count : ℕ) → count < 5 → repeat count (not
 unfolding unprintable_text
 few_notations code_point count few = sym (cond-true _ _ _ (lt-ltb count 5 few))
 
-pub counted_notation : (code_point count : ℕ) → 5 ≤ count → notation code_point ++ ((0xC3 ∷ 0x97 ∷ []) ++ (number_text count ++ codes " ")) ≡ unprintable_text code_point count
+pub counted_notation : (code_point count : ℕ) → 5 ≤ count
+    → notation code_point ++ ((0xC3 ∷ 0x97 ∷ []) ++ (number_text count ++ codes " ")) ≡ unprintable_text code_point count
 unfolding unprintable_text
 counted_notation code_point count many =
     let notation_and_times = notation code_point ++ (0xC3 ∷ 0x97 ∷ []) in
-    sym (append_assoc (notation code_point) (0xC3 ∷ 0x97 ∷ []) (number_text count ++ codes " ")) ∙ sym (append_assoc notation_and_times (number_text count) (codes " ")) ∙ sym (cond-false _ _ _ (le-ltb count 5 many))
+    sym (append_assoc (notation code_point) (0xC3 ∷ 0x97 ∷ []) (number_text count ++ codes " "))
+    ∙ sym (append_assoc notation_and_times (number_text count) (codes " ")) ∙ sym (cond-false _ _ _ (le-ltb count 5 many))
 
 pub next_notation : (left : ℕ) (text : List ℕ) → 0 < left → repeat left text ≡ text ++ repeat (left - 1) text
 next_notation zero text some = absurd (omega arith)

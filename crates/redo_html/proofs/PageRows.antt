@@ -24,13 +24,16 @@ row parts html = record { parts = parts; html = html }
 
 abbrev rows : List Row
 rows =
-    row (MarkupPart (TargetLink 12) ∷ TextPart ((27 ∷ []) ++ codes "[1ma") ∷ MarkupPart EndLink ∷ []) (codes "<a href=\"#t12\"><i>^[</i>[1ma</a>")
+    row (MarkupPart (TargetLink 12) ∷ TextPart ((27 ∷ []) ++ codes "[1ma") ∷ MarkupPart EndLink ∷ [])
+    (codes "<a href=\"#t12\"><i>^[</i>[1ma</a>")
     ∷ row (MarkupPart (Article 0) ∷ MarkupPart (OpenDetails 105) ∷ []) (codes "<article id=\"f0\"><details open id=\"t105\">")
     ∷ row (MarkupPart Pre ∷ LogPart plain_style ((27 ∷ []) ++ codes "[1m<a") ∷ MarkupPart EndPre ∷ []) (codes "<pre>\n<b>&lt;a</b></pre>")
-    ∷ row (LogPart (record { bold = true; hue = Blue }) (codes "a" ++ (27 ∷ []) ++ codes "[mb") ∷ LogPart plain_style (codes "c") ∷ []) (codes "<b class=\"b\">a</b>bc")
+    ∷ row (LogPart (record { bold = true; hue = Blue }) (codes "a" ++ (27 ∷ []) ++ codes "[mb") ∷ LogPart plain_style (codes "c") ∷ [])
+    (codes "<b class=\"b\">a</b>bc")
     ∷ row (NumberPart 0 ∷ TextPart (codes " of ") ∷ NumberPart 0xFFFFFFFFFFFFFFFF ∷ []) (codes "0 of 18446744073709551615")
     ∷ row (TitlePart (codes "</title>" ++ 1 ∷ []) ∷ []) (codes "<title>&lt;/title&gt;^A</title>")
-    ∷ row (MarkupPart Policy ∷ []) (codes "<meta http-equiv=\"Content-Security-Policy\" content=\"default-src 'none'; style-src 'unsafe-inline'\">")
+    ∷ row (MarkupPart Policy ∷ []) (codes
+    "<meta http-equiv=\"Content-Security-Policy\" content=\"default-src 'none'; style-src 'unsafe-inline'\">")
     ∷ []
 
 written_are : AllByRecursion (λ r. flat_map part_html r.parts ≡ r.html) rows
@@ -45,5 +48,6 @@ sheet_begins : take 5 style_sheet ≡ codes ":root"
 unfolding style_sheet
 sheet_begins = refl
 
-pieces_are_parts : map part_of (piece.Number 7 ∷ piece.Markup EndLink ∷ piece.StyleSheet ∷ []) ≡ NumberPart 7 ∷ MarkupPart EndLink ∷ StylePart ∷ []
+pieces_are_parts : map part_of (piece.Number 7 ∷ piece.Markup EndLink ∷ piece.StyleSheet ∷ [])
+    ≡ NumberPart 7 ∷ MarkupPart EndLink ∷ StylePart ∷ []
 pieces_are_parts = refl

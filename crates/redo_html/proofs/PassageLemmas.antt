@@ -26,23 +26,31 @@ use Rattle.redo_html.proofs.SymbolLemmas.{symbols-nil, symbols-step, plain_symbo
 abbrev pub bracketed : List ℕ → List ℕ
 bracketed tag = 60 ∷ (tag ++ 62 ∷ [])
 
-one_highlight : (kind : TextKind) (wanted : Bool) (highlight : Inline) → inline_html kind highlight ≡ highlight_html kind (highlight_text highlight) → flat_map (inline_html kind) (highlight_if wanted highlight) ≡ optional_highlight kind wanted (bracketed (highlight_text highlight))
+one_highlight : (kind : TextKind) (wanted : Bool) (highlight : Inline)
+    → inline_html kind highlight ≡ highlight_html kind (highlight_text highlight)
+    → flat_map (inline_html kind) (highlight_if wanted highlight) ≡ optional_highlight kind wanted (bracketed (highlight_text highlight))
 one_highlight kind false highlight is = refl
 one_highlight kind true highlight is = append-nil (inline_html kind highlight) ∙ is
 
-style_highlights : (kind : TextKind) (look : Look) (same : Bool) → flat_map (inline_html kind) (if same then [] else style_end look.current ++ style_start look.wanted)
-    ≡ optional_highlight kind (not same && has_element look.current) (bracketed (highlight_text (StyleEnd look.current))) ++ optional_highlight kind (not same && has_element look.wanted) (bracketed (highlight_text (StyleStart look.wanted)))
+style_highlights : (kind : TextKind) (look : Look) (same : Bool)
+    → flat_map (inline_html kind) (if same then [] else style_end look.current ++ style_start look.wanted)
+    ≡ optional_highlight kind (not same && has_element look.current) (bracketed (highlight_text (StyleEnd look.current)))
+    ++ optional_highlight kind (not same && has_element look.wanted) (bracketed (highlight_text (StyleStart look.wanted)))
 style_highlights kind look true = refl
 style_highlights kind look false =
     flat_map-append (inline_html kind) (style_end look.current) (style_start look.wanted)
-    ∙ ap (λ (e : List ℕ). e ++ flat_map (inline_html kind) (style_start look.wanted)) (one_highlight kind (has_element look.current) (StyleEnd look.current) refl)
-    ∙ ap (λ (s : List ℕ). optional_highlight kind (has_element look.current) (bracketed (highlight_text (StyleEnd look.current))) ++ s) (one_highlight kind (has_element look.wanted) (StyleStart look.wanted) refl)
+    ∙ ap (λ (e : List ℕ). e ++ flat_map (inline_html kind) (style_start look.wanted))
+    (one_highlight kind (has_element look.current) (StyleEnd look.current) refl)
+    ∙ ap (λ (s : List ℕ). optional_highlight kind (has_element look.current) (bracketed (highlight_text (StyleEnd look.current))) ++ s)
+    (one_highlight kind (has_element look.wanted) (StyleStart look.wanted) refl)
 
 -- The highlights before a code point, in the four parts in which they are written.
 pub highlights_parts : (kind : TextKind) (look : Look) (unprintable : Bool) →
     let same = is_same_style look.wanted look.current in
-    optional_highlight kind (look.unprintable && not (same && unprintable)) (bracketed (highlight_text UnprintableEnd)) ++ (optional_highlight kind (not same && has_element look.current) (bracketed (highlight_text (StyleEnd look.current)))
-    ++ (optional_highlight kind (not same && has_element look.wanted) (bracketed (highlight_text (StyleStart look.wanted))) ++ optional_highlight kind (unprintable && not (same && look.unprintable)) (bracketed (highlight_text UnprintableStart))))
+    optional_highlight kind (look.unprintable && not (same && unprintable)) (bracketed (highlight_text UnprintableEnd))
+    ++ (optional_highlight kind (not same && has_element look.current) (bracketed (highlight_text (StyleEnd look.current)))
+    ++ (optional_highlight kind (not same && has_element look.wanted) (bracketed (highlight_text (StyleStart look.wanted)))
+    ++ optional_highlight kind (unprintable && not (same && look.unprintable)) (bracketed (highlight_text UnprintableStart))))
     ≡ flat_map (inline_html kind) (highlights_between look unprintable)
 highlights_parts kind look unprintable =
     let same = is_same_style look.wanted look.current in
@@ -54,9 +62,11 @@ highlights_parts kind look unprintable =
     let end = optional_highlight kind a (bracketed (highlight_text UnprintableEnd)) in
     let start = optional_highlight kind d (bracketed (highlight_text UnprintableStart)) in
     ap (λ (t : List ℕ). end ++ t) (sym (append_assoc b c start)) ∙ sym (append_assoc end (b ++ c) start)
-    ∙ ap (λ (t : List ℕ). (end ++ t) ++ start) (sym (style_highlights kind look same)) ∙ ap (λ (t : List ℕ). (t ++ flat_map (inline_html kind) styles) ++ start) (sym (one_highlight kind a UnprintableEnd refl))
+    ∙ ap (λ (t : List ℕ). (end ++ t) ++ start) (sym (style_highlights kind look same))
+    ∙ ap (λ (t : List ℕ). (t ++ flat_map (inline_html kind) styles) ++ start) (sym (one_highlight kind a UnprintableEnd refl))
     ∙ ap (λ (t : List ℕ). t ++ start) (sym (flat_map-append (inline_html kind) (highlight_if a UnprintableEnd) styles))
-    ∙ ap (λ (t : List ℕ). flat_map (inline_html kind) (highlight_if a UnprintableEnd ++ styles) ++ t) (sym (one_highlight kind d UnprintableStart refl))
+    ∙ ap (λ (t : List ℕ). flat_map (inline_html kind) (highlight_if a UnprintableEnd ++ styles) ++ t)
+    (sym (one_highlight kind d UnprintableStart refl))
     ∙ sym (flat_map-append (inline_html kind) (highlight_if a UnprintableEnd ++ styles) (highlight_if d UnprintableStart))
 
 same_bool_itself : (bold : Bool) → same_bool bold bold ≡ true
@@ -67,16 +77,21 @@ same_as_itself : (style : Style) → is_same_style style style ≡ true
 same_as_itself style = rw (same_bool_itself style.bold, eq-eqb (hue_number style.hue) (hue_number style.hue) refl) refl
 
 -- Between two visible code points without a sequence there are no highlights.
-pub no_highlights : (kind : TextKind) (look : Look) → flat_map (inline_html kind) (highlights_between (after_code_point look false) false) ≡ []
+pub no_highlights : (kind : TextKind) (look : Look)
+    → flat_map (inline_html kind) (highlights_between (after_code_point look false) false) ≡ []
 no_highlights kind look = rw (same_as_itself look.wanted) refl
 
 -- ---- the end
 
-pub html-nil : (kind : TextKind) (look : Look) → optional_highlight kind look.unprintable (bracketed (highlight_text UnprintableEnd)) ++ optional_highlight kind (has_element look.current) (bracketed (highlight_text (StyleEnd look.current))) ≡ html_from kind look []
+pub html-nil : (kind : TextKind) (look : Look)
+    → optional_highlight kind look.unprintable (bracketed (highlight_text UnprintableEnd))
+    ++ optional_highlight kind (has_element look.current) (bracketed (highlight_text (StyleEnd look.current))) ≡ html_from kind look []
 unfolding html_from
 html-nil kind look =
-    ap (λ (t : List ℕ). t ++ optional_highlight kind (has_element look.current) (bracketed (highlight_text (StyleEnd look.current)))) (sym (one_highlight kind look.unprintable UnprintableEnd refl))
-    ∙ ap (λ (t : List ℕ). flat_map (inline_html kind) (highlight_if look.unprintable UnprintableEnd) ++ t) (sym (one_highlight kind (has_element look.current) (StyleEnd look.current) refl))
+    ap (λ (t : List ℕ). t ++ optional_highlight kind (has_element look.current) (bracketed (highlight_text (StyleEnd look.current))))
+    (sym (one_highlight kind look.unprintable UnprintableEnd refl))
+    ∙ ap (λ (t : List ℕ). flat_map (inline_html kind) (highlight_if look.unprintable UnprintableEnd) ++ t)
+    (sym (one_highlight kind (has_element look.current) (StyleEnd look.current) refl))
     ∙ sym (flat_map-append (inline_html kind) (highlight_if look.unprintable UnprintableEnd) (style_end look.current))
     ∙ ap (λ (ss : List Symbol). flat_map (inline_html kind) (inlines_from look (runs_of ss))) (sym (symbols-nil kind))
 
@@ -88,40 +103,54 @@ highlights kind look unprintable = flat_map (inline_html kind) (highlights_betwe
 abbrev pub html_of : TextKind → Look → List Run → List ℕ
 html_of kind look runs = flat_map (inline_html kind) (inlines_from look runs)
 
-pub code_points_step : (kind : TextKind) (look : Look) (code_point count : ℕ) (runs : List Run) (unprintable : Bool) → is_unprintable code_point ≡ unprintable
-    → html_of kind look (CodePoints code_point count ∷ runs) ≡ highlights kind look unprintable ++ (escaped (code_points_text code_point count) ++ html_of kind (after_code_point look unprintable) runs)
+pub code_points_step : (kind : TextKind) (look : Look) (code_point count : ℕ) (runs : List Run) (unprintable : Bool)
+    → is_unprintable code_point ≡ unprintable
+    → html_of kind look (CodePoints code_point count ∷ runs)
+    ≡ highlights kind look unprintable ++
+    (escaped (code_points_text code_point count) ++ html_of kind (after_code_point look unprintable) runs)
 code_points_step kind look code_point count runs unprintable is =
-    flat_map-append (inline_html kind) (highlights_between look (is_unprintable code_point)) (Text code_point count ∷ inlines_from (after_code_point look (is_unprintable code_point)) runs)
-    ∙ ap (λ (o : Bool). highlights kind look o ++ (escaped (code_points_text code_point count) ++ flat_map (inline_html kind) (inlines_from (after_code_point look o) runs))) is
+    flat_map-append (inline_html kind) (highlights_between look (is_unprintable code_point))
+    (Text code_point count ∷ inlines_from (after_code_point look (is_unprintable code_point)) runs)
+    ∙ ap (λ (o : Bool). highlights kind look o
+    ++ (escaped (code_points_text code_point count) ++ flat_map (inline_html kind) (inlines_from (after_code_point look o) runs))) is
 
-pub visible_step : (kind : TextKind) (look : Look) (bytes : List ℕ) (code_point : ℕ) → 0 < length bytes → first_symbol kind bytes ≡ CodePoint code_point → is_unprintable code_point ≡ false
-    → highlights kind look false ++ (escaped (encode_utf8 code_point) ++ html_from kind (after_code_point look false) (drop (symbol_len kind bytes) bytes)) ≡ html_from kind look bytes
+pub visible_step : (kind : TextKind) (look : Look) (bytes : List ℕ) (code_point : ℕ) → 0 < length bytes
+    → first_symbol kind bytes ≡ CodePoint code_point → is_unprintable code_point ≡ false
+    → highlights kind look false ++ (escaped (encode_utf8 code_point)
+    ++ html_from kind (after_code_point look false) (drop (symbol_len kind bytes) bytes)) ≡ html_from kind look bytes
 unfolding html_from
 visible_step kind look bytes code_point some first visible =
     let rest = symbols kind (drop (symbol_len kind bytes) bytes) in
     let runs = flat_map (inline_html kind) (inlines_from (after_code_point look false) (runs_of rest)) in
-    ap (λ (t : List ℕ). highlights kind look false ++ (escaped t ++ runs)) (sym (cond-false (is_unprintable code_point) (unprintable_text code_point 1) (encode_utf8 code_point) visible))
+    ap (λ (t : List ℕ). highlights kind look false ++ (escaped t ++ runs))
+    (sym (cond-false (is_unprintable code_point) (unprintable_text code_point 1) (encode_utf8 code_point) visible))
     ∙ sym (code_points_step kind look code_point 1 (runs_of rest) false visible)
     ∙ ap (λ (rs : List Run). flat_map (inline_html kind) (inlines_from look rs)) (sym (visible_run code_point (runs_of rest) visible))
-    ∙ ap (λ (ss : List Symbol). flat_map (inline_html kind) (inlines_from look (runs_of ss))) (sym (symbols-step kind bytes some ∙ ap (λ (s : Symbol). s ∷ rest) first))
+    ∙ ap (λ (ss : List Symbol). flat_map (inline_html kind) (inlines_from look (runs_of ss)))
+    (sym (symbols-step kind bytes some ∙ ap (λ (s : Symbol). s ∷ rest) first))
 
-pub unprintable_step : (kind : TextKind) (look : Look) (bytes : List ℕ) (code_point count len : ℕ) → is_unprintable code_point ≡ true → IsRepeated kind code_point bytes count len
-    → highlights kind look true ++ (escaped (unprintable_text code_point count) ++ html_from kind (after_code_point look true) (drop len bytes)) ≡ html_from kind look bytes
+pub unprintable_step : (kind : TextKind) (look : Look) (bytes : List ℕ) (code_point count len : ℕ) → is_unprintable code_point ≡ true
+    → IsRepeated kind code_point bytes count len
+    → highlights kind look true ++ (escaped (unprintable_text code_point count)
+    ++ html_from kind (after_code_point look true) (drop len bytes)) ≡ html_from kind look bytes
 unfolding html_from
 unprintable_step kind look bytes code_point zero len unprintable repeated = let some = repeated.some in absurd (omega arith)
 unprintable_step kind look bytes code_point (suc count) len unprintable repeated =
     let rest = symbols kind (drop len bytes) in
     let runs = flat_map (inline_html kind) (inlines_from (after_code_point look true) (runs_of rest)) in
-    ap (λ (t : List ℕ). highlights kind look true ++ (escaped t ++ runs)) (sym (cond-true (is_unprintable code_point) (unprintable_text code_point (suc count)) (encode_utf8 code_point) unprintable))
+    ap (λ (t : List ℕ). highlights kind look true ++ (escaped t ++ runs))
+    (sym (cond-true (is_unprintable code_point) (unprintable_text code_point (suc count)) (encode_utf8 code_point) unprintable))
     ∙ sym (code_points_step kind look code_point (suc count) (runs_of rest) true unprintable)
-    ∙ ap (λ (rs : List Run). flat_map (inline_html kind) (inlines_from look rs)) (sym (unprintable_run code_point count rest unprintable repeated.other))
+    ∙ ap (λ (rs : List Run). flat_map (inline_html kind) (inlines_from look rs))
+    (sym (unprintable_run code_point count rest unprintable repeated.other))
     ∙ ap (λ (ss : List Symbol). flat_map (inline_html kind) (inlines_from look (runs_of ss))) (sym repeated.repeated)
 
 pub sequence_step : (kind : TextKind) (look : Look) (bytes numbers : List ℕ) → 0 < length bytes → first_symbol kind bytes ≡ Sequence numbers
     → html_from kind (with_wanted look (restyled look.wanted numbers)) (drop (symbol_len kind bytes) bytes) ≡ html_from kind look bytes
 unfolding html_from
 sequence_step kind look bytes numbers some first =
-    ap (λ (ss : List Symbol). flat_map (inline_html kind) (inlines_from look (runs_of ss))) (sym (symbols-step kind bytes some ∙ ap (λ (s : Symbol). s ∷ symbols kind (drop (symbol_len kind bytes) bytes)) first))
+    ap (λ (ss : List Symbol). flat_map (inline_html kind) (inlines_from look (runs_of ss)))
+    (sym (symbols-step kind bytes some ∙ ap (λ (s : Symbol). s ∷ symbols kind (drop (symbol_len kind bytes) bytes)) first))
 
 -- ---- plain text
 
@@ -131,34 +160,64 @@ plain_shown kind (byte ∷ bytes) plain =
     let parts = and_parts (is_plain byte) (list_all is_plain bytes) plain in
     let symbol = plain_symbol kind byte bytes parts.0 in
     let visible = plain_visible byte parts.0 in
-    let step : symbols kind (byte ∷ bytes) ≡ CodePoint byte ∷ symbols kind bytes = symbols-step kind (byte ∷ bytes) (omega arith) ∙ ap (λ (s : Symbol). s ∷ symbols kind (drop (symbol_len kind (byte ∷ bytes)) (byte ∷ bytes))) symbol.0 ∙ ap (λ (n : ℕ). CodePoint byte ∷ symbols kind (drop n (byte ∷ bytes))) symbol.1 in
-    ap (λ (ss : List Symbol). flat_map run_text (runs_of ss)) step ∙ ap (flat_map run_text) (visible_run byte (runs_of (symbols kind bytes)) visible)
-    ∙ ap (λ (t : List ℕ). t ++ shown_text kind bytes) (cond-false (is_unprintable byte) (unprintable_text byte 1) (encode_utf8 byte) visible ∙ plain_encoded byte parts.0) ∙ ap (λ (t : List ℕ). byte ∷ t) (plain_shown kind bytes parts.1)
+    let step : symbols kind (byte ∷ bytes) ≡ CodePoint byte ∷ symbols kind bytes =
+    symbols-step kind (byte ∷ bytes) (omega arith)
+    ∙ ap (λ (s : Symbol). s ∷ symbols kind (drop (symbol_len kind (byte ∷ bytes)) (byte ∷ bytes))) symbol.0
+    ∙ ap (λ (n : ℕ). CodePoint byte ∷ symbols kind (drop n (byte ∷ bytes))) symbol.1 in
+    ap (λ (ss : List Symbol). flat_map run_text (runs_of ss)) step
+    ∙ ap (flat_map run_text) (visible_run byte (runs_of (symbols kind bytes)) visible)
+    ∙ ap (λ (t : List ℕ). t ++ shown_text kind bytes)
+    (cond-false (is_unprintable byte) (unprintable_text byte 1) (encode_utf8 byte) visible ∙ plain_encoded byte parts.0)
+    ∙ ap (λ (t : List ℕ). byte ∷ t) (plain_shown kind bytes parts.1)
 
 -- The notations of unprintable code points need no escaping.
-pub unprintable_written : (kind : TextKind) (look : Look) (bytes : List ℕ) (code_point count len : ℕ) → is_unprintable code_point ≡ true → IsRepeated kind code_point bytes count len
-    → highlights kind look true ++ (unprintable_text code_point count ++ html_from kind (after_code_point look true) (drop len bytes)) ≡ html_from kind look bytes
+pub unprintable_written : (kind : TextKind) (look : Look) (bytes : List ℕ) (code_point count len : ℕ) → is_unprintable code_point ≡ true
+    → IsRepeated kind code_point bytes count len
+    → highlights kind look true ++ (unprintable_text code_point count ++ html_from kind (after_code_point look true) (drop len bytes))
+    ≡ html_from kind look bytes
 unprintable_written kind look bytes code_point count len unprintable repeated =
-    ap (λ (t : List ℕ). highlights kind look true ++ (t ++ html_from kind (after_code_point look true) (drop len bytes))) (sym (safe_escaped (unprintable_text code_point count) (unprintable_safe code_point count))) ∙ unprintable_step kind look bytes code_point count len unprintable repeated
+    ap (λ (t : List ℕ). highlights kind look true ++ (t ++ html_from kind (after_code_point look true) (drop len bytes)))
+    (sym (safe_escaped (unprintable_text code_point count) (unprintable_safe code_point count)))
+    ∙ unprintable_step kind look bytes code_point count len unprintable repeated
 
 -- ---- what the functions that write highlights find
 
-module _ (kind : TextKind) (look : Look) (unprintable ends_unprintable ends_style starts_style starts_unprintable : Bool) (style_end_tag style_start_tag : List ℕ)
-    (is_ends_unprintable : ends_unprintable ≡ (look.unprintable && not (is_same_style look.wanted look.current && unprintable))) (is_ends_style : ends_style ≡ (not (is_same_style look.wanted look.current) && has_element look.current))
-    (is_starts_style : starts_style ≡ (not (is_same_style look.wanted look.current) && has_element look.wanted)) (is_starts_unprintable : starts_unprintable ≡ (unprintable && not (is_same_style look.wanted look.current && look.unprintable)))
-    (end_tag : style_end_tag ≡ bracketed (highlight_text (StyleEnd look.current))) (start_tag : style_start_tag ≡ bracketed (highlight_text (StyleStart look.wanted))) where
-  pub highlights_written : optional_highlight kind ends_unprintable (codes "</i>") ++ (optional_highlight kind ends_style style_end_tag ++ (optional_highlight kind starts_style style_start_tag ++ optional_highlight kind starts_unprintable (codes "<i>"))) ≡ flat_map (inline_html kind) (highlights_between look unprintable)
+module _ (kind : TextKind) (look : Look) (unprintable ends_unprintable ends_style starts_style starts_unprintable : Bool)
+    (style_end_tag style_start_tag : List ℕ)
+    (is_ends_unprintable : ends_unprintable ≡ (look.unprintable && not (is_same_style look.wanted look.current && unprintable)))
+    (is_ends_style : ends_style ≡ (not (is_same_style look.wanted look.current) && has_element look.current))
+    (is_starts_style : starts_style ≡ (not (is_same_style look.wanted look.current) && has_element look.wanted))
+    (is_starts_unprintable : starts_unprintable ≡ (unprintable && not (is_same_style look.wanted look.current && look.unprintable)))
+    (end_tag : style_end_tag ≡ bracketed (highlight_text (StyleEnd look.current)))
+    (start_tag : style_start_tag ≡ bracketed (highlight_text (StyleStart look.wanted))) where
+  pub highlights_written : optional_highlight kind ends_unprintable (codes "</i>")
+      ++ (optional_highlight kind ends_style style_end_tag
+      ++ (optional_highlight kind starts_style style_start_tag ++ optional_highlight kind starts_unprintable (codes "<i>")))
+      ≡ flat_map (inline_html kind) (highlights_between look unprintable)
   highlights_written =
       let ends = not (is_same_style look.wanted look.current) && has_element look.current in
       let starts = not (is_same_style look.wanted look.current) && has_element look.wanted in
-      let first = optional_highlight kind (look.unprintable && not (is_same_style look.wanted look.current && unprintable)) (codes "</i>") in
-      ap (λ (w : Bool). optional_highlight kind w (codes "</i>") ++ (optional_highlight kind ends_style style_end_tag ++ (optional_highlight kind starts_style style_start_tag ++ optional_highlight kind starts_unprintable (codes "<i>")))) is_ends_unprintable
-      ∙ ap (λ (t : List ℕ). first ++ (t ++ (optional_highlight kind starts_style style_start_tag ++ optional_highlight kind starts_unprintable (codes "<i>")))) (ap (λ (w : Bool). optional_highlight kind w style_end_tag) is_ends_style ∙ ap (optional_highlight kind ends) end_tag)
-      ∙ ap (λ (t : List ℕ). first ++ (optional_highlight kind ends (bracketed (highlight_text (StyleEnd look.current))) ++ (t ++ optional_highlight kind starts_unprintable (codes "<i>")))) (ap (λ (w : Bool). optional_highlight kind w style_start_tag) is_starts_style ∙ ap (optional_highlight kind starts) start_tag)
-      ∙ ap (λ (w : Bool). first ++ (optional_highlight kind ends (bracketed (highlight_text (StyleEnd look.current))) ++ (optional_highlight kind starts (bracketed (highlight_text (StyleStart look.wanted))) ++ optional_highlight kind w (codes "<i>")))) is_starts_unprintable
+      let first = optional_highlight kind (look.unprintable && not (is_same_style look.wanted look.current && unprintable))
+      (codes "</i>") in
+      ap (λ (w : Bool). optional_highlight kind w (codes "</i>")
+      ++ (optional_highlight kind ends_style style_end_tag
+      ++ (optional_highlight kind starts_style style_start_tag ++ optional_highlight kind starts_unprintable (codes "<i>"))))
+      is_ends_unprintable
+      ∙ ap (λ (t : List ℕ). first ++ (t ++
+      (optional_highlight kind starts_style style_start_tag ++ optional_highlight kind starts_unprintable (codes "<i>"))))
+      (ap (λ (w : Bool). optional_highlight kind w style_end_tag) is_ends_style ∙ ap (optional_highlight kind ends) end_tag)
+      ∙ ap (λ (t : List ℕ). first ++ (optional_highlight kind ends (bracketed (highlight_text (StyleEnd look.current)))
+      ++ (t ++ optional_highlight kind starts_unprintable (codes "<i>"))))
+      (ap (λ (w : Bool). optional_highlight kind w style_start_tag) is_starts_style ∙ ap (optional_highlight kind starts) start_tag)
+      ∙ ap (λ (w : Bool). first ++ (optional_highlight kind ends (bracketed (highlight_text (StyleEnd look.current)))
+      ++ (optional_highlight kind starts (bracketed (highlight_text (StyleStart look.wanted))) ++ optional_highlight kind w (codes "<i>"))))
+      is_starts_unprintable
       ∙ highlights_parts kind look unprintable
 
-pub end_written : (kind : TextKind) (look : Look) (has : Bool) (tag : List ℕ) → has ≡ has_element look.current → tag ≡ bracketed (highlight_text (StyleEnd look.current))
+pub end_written : (kind : TextKind) (look : Look) (has : Bool) (tag : List ℕ) → has ≡ has_element look.current
+    → tag ≡ bracketed (highlight_text (StyleEnd look.current))
     → optional_highlight kind look.unprintable (codes "</i>") ++ optional_highlight kind has tag ≡ html_from kind look []
 end_written kind look has tag is tag_is =
-    ap (λ (t : List ℕ). optional_highlight kind look.unprintable (codes "</i>") ++ t) (ap (λ (w : Bool). optional_highlight kind w tag) is ∙ ap (optional_highlight kind (has_element look.current)) tag_is) ∙ html-nil kind look
+    ap (λ (t : List ℕ). optional_highlight kind look.unprintable (codes "</i>") ++ t)
+    (ap (λ (w : Bool). optional_highlight kind w tag) is ∙ ap (optional_highlight kind (has_element look.current)) tag_is)
+    ∙ html-nil kind look

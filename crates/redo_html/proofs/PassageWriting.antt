@@ -9,26 +9,36 @@ use Rattle.redo_html.specs.Passage.{after_code_point, html_from}
 use Rattle.redo_html.specs.Private.Writing.{WroteUpTo, WroteSome, WroteSomeOrFailed, style_in}
 use Rattle.redo_html.proofs.WritingLemmas.{begin_parts, wrote_more, failed_part, some_failed}
 
-module _ (before : Option Output) (kind : TextKind) (look : Look) (bytes highlights part : List ℕ) (unprintable : Bool) (len : ℕ) (step : highlights ++ (part ++ html_from kind (after_code_point look unprintable) (drop len bytes)) ≡ html_from kind look bytes) where
+module _ (before : Option Output) (kind : TextKind) (look : Look) (bytes highlights part : List ℕ) (unprintable : Bool) (len : ℕ)
+    (step : highlights ++ (part ++ html_from kind (after_code_point look unprintable) (drop len bytes)) ≡ html_from kind look bytes) where
   abbrev rest : List ℕ
   rest = html_from kind (after_code_point look unprintable) (drop len bytes)
 
   start : WroteUpTo before before (html_from kind look bytes) (highlights ++ (part ++ rest))
   start = begin_parts before (html_from kind look bytes) (highlights ++ (part ++ rest)) step
 
-  pub highlights_failed : (after : Option Output) (broken : Broken) (done : Result (Look × ℕ) Broken) → IsErr done → Writes before after highlights (Err broken) → WroteSomeOrFailed before after kind look bytes done
-  highlights_failed after broken done failed wrote = some_failed before after kind look bytes broken done failed (failed_part before before after (html_from kind look bytes) highlights (part ++ rest) broken (Err broken) refl start wrote)
+  pub highlights_failed : (after : Option Output) (broken : Broken) (done : Result (Look × ℕ) Broken) → IsErr done
+      → Writes before after highlights (Err broken) → WroteSomeOrFailed before after kind look bytes done
+  highlights_failed after broken done failed wrote =
+      some_failed before after kind look bytes broken done failed
+      (failed_part before before after (html_from kind look bytes) highlights (part ++ rest) broken (Err broken) refl start wrote)
 
-  pub part_failed : (middle after : Option Output) (broken : Broken) (done : Result (Look × ℕ) Broken) → IsErr done → middle ≡ append_output before highlights 0 → Writes middle after part (Err broken) → WroteSomeOrFailed before after kind look bytes done
+  pub part_failed : (middle after : Option Output) (broken : Broken) (done : Result (Look × ℕ) Broken) → IsErr done
+      → middle ≡ append_output before highlights 0 → Writes middle after part (Err broken)
+      → WroteSomeOrFailed before after kind look bytes done
   part_failed middle after broken done failed written wrote =
       some_failed before after kind look bytes broken done failed
-      (failed_part before middle after (html_from kind look bytes) part rest broken (Err broken) refl (wrote_more before before middle (html_from kind look bytes) highlights (part ++ rest) start written) wrote)
+      (failed_part before middle after (html_from kind look bytes) part rest broken (Err broken) refl
+      (wrote_more before before middle (html_from kind look bytes) highlights (part ++ rest) start written) wrote)
 
-  pub both_written : (middle after : Option Output) (next : Look) → next ≡ after_code_point look unprintable → style_in kind look.wanted (drop len bytes) ≡ style_in kind look.wanted bytes → 0 < len → len ≤ length bytes → middle ≡ append_output before highlights 0 → after ≡ append_output middle part 0 → WroteSome before after kind look bytes next len
+  pub both_written : (middle after : Option Output) (next : Look) → next ≡ after_code_point look unprintable
+      → style_in kind look.wanted (drop len bytes) ≡ style_in kind look.wanted bytes → 0 < len → len ≤ length bytes
+      → middle ≡ append_output before highlights 0 → after ≡ append_output middle part 0 → WroteSome before after kind look bytes next len
   both_written middle after next is style some within written wrote = record {
     some = some;
     within = within;
     wrote = subst (λ (l : Look). WroteUpTo before after (html_from kind look bytes) (html_from kind l (drop len bytes))) (sym is)
-        (wrote_more before middle after (html_from kind look bytes) part rest (wrote_more before before middle (html_from kind look bytes) highlights (part ++ rest) start written) wrote);
+        (wrote_more before middle after (html_from kind look bytes) part rest
+        (wrote_more before before middle (html_from kind look bytes) highlights (part ++ rest) start written) wrote);
     style = ap (λ (l : Look). style_in kind l.wanted (drop len bytes)) is ∙ style;
   }

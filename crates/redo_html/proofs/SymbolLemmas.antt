@@ -42,28 +42,37 @@ code_point_within (Some c) size n some within = within
 pub code_point_bounds : (bytes : List ℕ) → 0 < length bytes → (0 < code_point_len bytes) × (code_point_len bytes ≤ length bytes)
 unfolding code_point_len
 code_point_bounds bytes some =
-    let bounds = piece-bounds bytes some in
-    (code_point_some (decoded bytes).char (decoded bytes).size (omega (arith, bounds.0)), code_point_within (decoded bytes).char (decoded bytes).size (length bytes) some bounds.2)
+    let bounds = piece-bounds bytes some in (
+      code_point_some (decoded bytes).char (decoded bytes).size (omega (arith, bounds.0)),
+      code_point_within (decoded bytes).char
+          (decoded bytes).size (length bytes) some bounds.2,
+    )
 
 index_within : (bytes : List ℕ) (i byte : ℕ) → slice_index bytes i ≡ byte → 0 < byte → i < length bytes
-index_within bytes i byte is some = ⊎_elim (λ inside. inside) (λ past. let none = get_or_past bytes i 0 past in absurd (omega (arith, none, is))) (cases_lt i (length bytes))
+index_within bytes i byte is some = ⊎_elim (λ inside. inside)
+    (λ past. let none = get_or_past bytes i 0 past in absurd (omega (arith, none, is))) (cases_lt i (length bytes))
 
 pub sequence_parts : (bytes : List ℕ) → 0 < sequence_len bytes → IsSequence bytes (sequence_len bytes)
 unfolding sequence_len
 sequence_parts bytes some = by (begins_sequence bytes) refl
   where
     by : (begins : Bool) → begins_sequence bytes ≡ begins → IsSequence bytes (sequence_len bytes)
-    by false is = let none : sequence_len bytes ≡ 0 = cond-false (begins_sequence bytes) (3 + parameter_count bytes) 0 is in absurd (omega (arith, none))
+    by false is = let none : sequence_len bytes ≡ 0 = cond-false (begins_sequence bytes) (3 + parameter_count bytes) 0 is in
+        absurd (omega (arith, none))
     by true is =
-        let parts = and_parts (slice_index bytes 0 == 27 && slice_index bytes 1 == 91) (final_byte bytes == 109 || final_byte bytes == 75) is in
+        let parts = and_parts (slice_index bytes 0 == 27 && slice_index bytes 1 == 91)
+        (final_byte bytes == 109 || final_byte bytes == 75) is in
         let final : (final_byte bytes ≡ 109) ⊎ (final_byte bytes ≡ 75) =
-        ⊎_elim (λ m. inl (eqb-true (final_byte bytes) 109 m)) (λ k. inr (eqb-true (final_byte bytes) 75 k)) (or_cases (final_byte bytes == 109) (final_byte bytes == 75) parts.1) in
+        ⊎_elim (λ m. inl (eqb-true (final_byte bytes) 109 m)) (λ k. inr (eqb-true (final_byte bytes) 75 k))
+        (or_cases (final_byte bytes == 109) (final_byte bytes == 75) parts.1) in
         let inside : 2 + parameter_count bytes < length bytes =
-        ⊎_elim (λ m. index_within bytes (2 + parameter_count bytes) 109 m (omega arith)) (λ k. index_within bytes (2 + parameter_count bytes) 75 k (omega arith)) final in
+        ⊎_elim (λ m. index_within bytes (2 + parameter_count bytes) 109 m (omega arith))
+        (λ k. index_within bytes (2 + parameter_count bytes) 75 k (omega arith)) final in
         let len : sequence_len bytes ≡ 3 + parameter_count bytes = cond-true (begins_sequence bytes) (3 + parameter_count bytes) 0 is in
         record { size = len; within = omega (arith, inside, len) }
 
-pub symbol_bounds : (kind : TextKind) (bytes : List ℕ) → 0 < length bytes → (0 < symbol_len kind bytes) × (symbol_len kind bytes ≤ length bytes)
+pub symbol_bounds : (kind : TextKind) (bytes : List ℕ) → 0 < length bytes
+    → (0 < symbol_len kind bytes) × (symbol_len kind bytes ≤ length bytes)
 unfolding symbol_len is_sequence
 symbol_bounds kind bytes some = by (is_sequence kind bytes) refl
   where
@@ -78,12 +87,14 @@ drop_cons : (byte : ℕ) (bytes : List ℕ) (n : ℕ) → 0 < n → drop (n - 1)
 drop_cons byte bytes zero some = absurd (omega arith)
 drop_cons byte bytes (suc n) some = ap (λ (k : ℕ). drop k bytes) (omega arith)
 
-pub symbols-step : (kind : TextKind) (bytes : List ℕ) → 0 < length bytes → symbols kind bytes ≡ first_symbol kind bytes ∷ symbols kind (drop (symbol_len kind bytes) bytes)
+pub symbols-step : (kind : TextKind) (bytes : List ℕ) → 0 < length bytes
+    → symbols kind bytes ≡ first_symbol kind bytes ∷ symbols kind (drop (symbol_len kind bytes) bytes)
 unfolding symbols_after
 symbols-step kind [] some = absurd (omega arith)
 symbols-step kind (byte ∷ bytes) some =
     ap (λ (rest : List Symbol). first_symbol kind (byte ∷ bytes) ∷ rest)
-    (skipped_symbols kind (symbol_len kind (byte ∷ bytes) - 1) bytes ∙ ap (symbols kind) (drop_cons byte bytes (symbol_len kind (byte ∷ bytes)) (symbol_bounds kind (byte ∷ bytes) some).0))
+    (skipped_symbols kind (symbol_len kind (byte ∷ bytes) - 1) bytes
+    ∙ ap (symbols kind) (drop_cons byte bytes (symbol_len kind (byte ∷ bytes)) (symbol_bounds kind (byte ∷ bytes) some).0))
 
 -- ---- plain bytes
 
@@ -92,26 +103,37 @@ plain_below byte plain = grind (arith, nat_tests)
 
 plain_facts : (byte : ℕ) → is_plain byte ≡ true → (not (byte == 27) && not (is_unprintable byte)) ≡ true
 unfolding is_unprintable
-plain_facts byte plain = ⊎_elim (λ not_plain. absurd (let e : true ≡ false = sym plain ∙ not-true (is_plain byte) not_plain in cc)) (λ facts. facts)
-    (or_cases (not (is_plain byte)) (not (byte == 27) && not (is_unprintable byte)) (agree_below_at (λ b. not (is_plain b) || (not (b == 27) && not (is_unprintable b))) (λ b. true) 128 byte refl (let below = plain_below byte plain in omega arith)))
+plain_facts byte plain = ⊎_elim (λ not_plain. absurd (let e : true ≡ false = sym plain ∙ not-true (is_plain byte) not_plain in cc))
+    (λ facts. facts)
+    (or_cases (not (is_plain byte)) (not (byte == 27) && not (is_unprintable byte))
+    (agree_below_at (λ b. not (is_plain b) || (not (b == 27) && not (is_unprintable b))) (λ b. true) 128 byte refl
+    (let below = plain_below byte plain in omega arith)))
 
 pub plain_others : (byte : ℕ) → is_plain byte ≡ true → (not (byte == 38) && (not (byte == 60) && not (byte == 62))) ≡ true
-plain_others byte plain = ⊎_elim (λ not_plain. absurd (let e : true ≡ false = sym plain ∙ not-true (is_plain byte) not_plain in cc)) (λ facts. facts)
-    (or_cases (not (is_plain byte)) (not (byte == 38) && (not (byte == 60) && not (byte == 62))) (agree_below_at (λ b. not (is_plain b) || (not (b == 38) && (not (b == 60) && not (b == 62)))) (λ b. true) 128 byte refl (let below = plain_below byte plain in omega arith)))
+plain_others byte plain = ⊎_elim (λ not_plain. absurd (let e : true ≡ false = sym plain ∙ not-true (is_plain byte) not_plain in cc))
+    (λ facts. facts)
+    (or_cases (not (is_plain byte)) (not (byte == 38) && (not (byte == 60) && not (byte == 62)))
+    (agree_below_at (λ b. not (is_plain b) || (not (b == 38) && (not (b == 60) && not (b == 62)))) (λ b. true) 128 byte refl
+    (let below = plain_below byte plain in omega arith)))
 
 pub plain_visible : (byte : ℕ) → is_plain byte ≡ true → is_unprintable byte ≡ false
-plain_visible byte plain = not-true (is_unprintable byte) (and_parts (not (byte == 27)) (not (is_unprintable byte)) (plain_facts byte plain)).1
+plain_visible byte plain = not-true (is_unprintable byte)
+    (and_parts (not (byte == 27)) (not (is_unprintable byte)) (plain_facts byte plain)).1
 
 pub no_sequence : (kind : TextKind) (byte : ℕ) (bytes : List ℕ) → (byte == 27) ≡ false → is_sequence kind (byte ∷ bytes) ≡ false
 unfolding is_sequence sequence_len
 no_sequence kind byte bytes other = and_right (has_colours kind) (nat_lt 0 (sequence_len (byte ∷ bytes))) (rw other refl)
 
-pub plain_symbol : (kind : TextKind) (byte : ℕ) (bytes : List ℕ) → is_plain byte ≡ true → (first_symbol kind (byte ∷ bytes) ≡ CodePoint byte) × (symbol_len kind (byte ∷ bytes) ≡ 1)
+pub plain_symbol : (kind : TextKind) (byte : ℕ) (bytes : List ℕ) → is_plain byte ≡ true
+    → (first_symbol kind (byte ∷ bytes) ≡ CodePoint byte) × (symbol_len kind (byte ∷ bytes) ≡ 1)
 unfolding first_symbol symbol_len first_code_point code_point_len
 plain_symbol kind byte bytes plain =
-    let none = no_sequence kind byte bytes (not-true (byte == 27) (and_parts (not (byte == 27)) (not (is_unprintable byte)) (plain_facts byte plain)).0) in
+    let none = no_sequence kind byte bytes
+    (not-true (byte == 27) (and_parts (not (byte == 27)) (not (is_unprintable byte)) (plain_facts byte plain)).0) in
     let all = byte ∷ bytes in
-    let decodes : decoded all ≡ good byte 1 = value-1 (length all) byte (slice_index all 1) (slice_index all 2) (slice_index all 3) (omega arith, (let below = plain_below byte plain in omega arith)) in
+    let decodes : decoded all ≡ good byte 1 =
+    value-1 (length all) byte (slice_index all 1) (slice_index all 2) (slice_index all 3)
+    (omega arith, (let below = plain_below byte plain in omega arith)) in
     (rw (none, decodes) refl, rw (none, decodes) refl)
 
 pub plain_encoded : (byte : ℕ) → is_plain byte ≡ true → encode_utf8 byte ≡ byte ∷ []
@@ -134,66 +156,87 @@ unfolding is_unprintable
 unprintable_byte byte below = agree_below_at (λ b. is_unprintable (0xDC00 + b)) (λ b. true) 256 byte refl below
 
 -- The bytes of a visible code point are its UTF-8.
-pub visible_bytes : (kind : TextKind) (bytes : List ℕ) (code_point : ℕ) → 0 < length bytes → slice_index bytes 0 < 256 → first_symbol kind bytes ≡ CodePoint code_point → is_unprintable code_point ≡ false → take (symbol_len kind bytes) bytes ≡ encode_utf8 code_point
+pub visible_bytes : (kind : TextKind) (bytes : List ℕ) (code_point : ℕ) → 0 < length bytes → slice_index bytes 0 < 256
+    → first_symbol kind bytes ≡ CodePoint code_point → is_unprintable code_point ≡ false
+    → take (symbol_len kind bytes) bytes ≡ encode_utf8 code_point
 unfolding first_symbol symbol_len first_code_point code_point_len
 visible_bytes kind bytes code_point some byte first visible = by (is_sequence kind bytes) refl
   where
-    spelled : (char : Option ℕ) → (decoded bytes).char ≡ char → code_point_of char (slice_index bytes 0) ≡ code_point → take (size_of char (decoded bytes).size) bytes ≡ encode_utf8 code_point
-    spelled None is same = absurd (let e : false ≡ true = sym visible ∙ ap is_unprintable (sym same) ∙ unprintable_byte (slice_index bytes 0) byte in cc)
+    spelled : (char : Option ℕ) → (decoded bytes).char ≡ char → code_point_of char (slice_index bytes 0) ≡ code_point
+        → take (size_of char (decoded bytes).size) bytes ≡ encode_utf8 code_point
+    spelled None is same = absurd (let e : false ≡ true = sym visible ∙ ap is_unprintable (sym same)
+        ∙ unprintable_byte (slice_index bytes 0) byte in cc)
     spelled (Some c) is same =
         let spells = SpellsChar-decoded bytes c is in
-        ap (λ (b : List ℕ). take (decoded bytes).size b) spells.bytes ∙ take_at (encode_utf8 c) (drop (decoded bytes).size bytes) (decoded bytes).size spells.width ∙ ap encode_utf8 same
+        ap (λ (b : List ℕ). take (decoded bytes).size b) spells.bytes
+        ∙ take_at (encode_utf8 c) (drop (decoded bytes).size bytes) (decoded bytes).size spells.width ∙ ap encode_utf8 same
 
     by : (sequence : Bool) → is_sequence kind bytes ≡ sequence → take (symbol_len kind bytes) bytes ≡ encode_utf8 code_point
-    by true is = absurd (let e : Sequence (sequence_numbers bytes) ≡ CodePoint code_point = sym (cond-true (is_sequence kind bytes) (Sequence (sequence_numbers bytes)) (CodePoint (first_code_point bytes)) is) ∙ first in cc)
+    by true is = absurd (let e : Sequence (sequence_numbers bytes)
+        ≡ CodePoint code_point = sym (cond-true (is_sequence kind bytes) (Sequence (sequence_numbers bytes))
+        (CodePoint (first_code_point bytes)) is) ∙ first in cc)
     by false is =
-        let same : CodePoint (first_code_point bytes) ≡ CodePoint code_point = sym (cond-false (is_sequence kind bytes) (Sequence (sequence_numbers bytes)) (CodePoint (first_code_point bytes)) is) ∙ first in
+        let same : CodePoint (first_code_point bytes) ≡ CodePoint code_point =
+        sym (cond-false (is_sequence kind bytes) (Sequence (sequence_numbers bytes)) (CodePoint (first_code_point bytes)) is) ∙ first in
         rw is (spelled (decoded bytes).char refl cc)
 
 -- ---- runs
 
-pub visible_run : (code_point : ℕ) (runs : List Run) → is_unprintable code_point ≡ false → with_code_point code_point runs ≡ CodePoints code_point 1 ∷ runs
+pub visible_run : (code_point : ℕ) (runs : List Run) → is_unprintable code_point ≡ false
+    → with_code_point code_point runs ≡ CodePoints code_point 1 ∷ runs
 visible_run code_point [] visible = refl
 visible_run code_point (Restyle numbers ∷ runs) visible = refl
 visible_run code_point (CodePoints next count ∷ runs) visible = rw visible refl
 
-other_run : (code_point other : ℕ) (runs : List Run) → (code_point == other) ≡ false → with_code_point code_point (with_code_point other runs) ≡ CodePoints code_point 1 ∷ with_code_point other runs
+other_run : (code_point other : ℕ) (runs : List Run) → (code_point == other) ≡ false
+    → with_code_point code_point (with_code_point other runs) ≡ CodePoints code_point 1 ∷ with_code_point other runs
 other_run code_point other [] differs = rw (and_right (is_unprintable code_point) (code_point == other) differs) refl
 other_run code_point other (Restyle numbers ∷ runs) differs = rw (and_right (is_unprintable code_point) (code_point == other) differs) refl
 other_run code_point other (CodePoints next count ∷ runs) differs = by (is_unprintable other && other == next) refl
   where
-    by : (same : Bool) → (is_unprintable other && other == next) ≡ same → with_code_point code_point (with_code_point other (CodePoints next count ∷ runs)) ≡ CodePoints code_point 1 ∷ with_code_point other (CodePoints next count ∷ runs)
+    by : (same : Bool) → (is_unprintable other && other == next) ≡ same
+        → with_code_point code_point (with_code_point other (CodePoints next count ∷ runs))
+        ≡ CodePoints code_point 1 ∷ with_code_point other (CodePoints next count ∷ runs)
     by true is =
         let equal = eqb-true other next (and_parts (is_unprintable other) (other == next) is).1 in
         let apart : (code_point == next) ≡ false = subst (λ (n : ℕ). (code_point == n) ≡ false) equal differs in
         rw (is, and_right (is_unprintable code_point) (code_point == next) apart) refl
     by false is = rw (is, and_right (is_unprintable code_point) (code_point == other) differs) refl
 
-first_run : (code_point : ℕ) (symbols : List Symbol) → BeginsOther code_point symbols → with_code_point code_point (runs_of symbols) ≡ CodePoints code_point 1 ∷ runs_of symbols
+first_run : (code_point : ℕ) (symbols : List Symbol) → BeginsOther code_point symbols
+    → with_code_point code_point (runs_of symbols) ≡ CodePoints code_point 1 ∷ runs_of symbols
 first_run code_point [] other = refl
 first_run code_point (Sequence numbers ∷ symbols) other = refl
 first_run code_point (CodePoint next ∷ symbols) other = other_run code_point next (runs_of symbols) other
 
 -- The run of an unprintable code point that occurs in a row.
-pub unprintable_run : (code_point count : ℕ) (symbols : List Symbol) → is_unprintable code_point ≡ true → BeginsOther code_point symbols → runs_of (replicate (suc count) (CodePoint code_point) ++ symbols) ≡ CodePoints code_point (suc count) ∷ runs_of symbols
+pub unprintable_run : (code_point count : ℕ) (symbols : List Symbol) → is_unprintable code_point ≡ true → BeginsOther code_point symbols
+    → runs_of (replicate (suc count) (CodePoint code_point) ++ symbols) ≡ CodePoints code_point (suc count) ∷ runs_of symbols
 unprintable_run code_point zero symbols unprintable other = first_run code_point symbols other
-unprintable_run code_point (suc count) symbols unprintable other = ap (with_code_point code_point) (unprintable_run code_point count symbols unprintable other) ∙ rw (unprintable, eq-eqb code_point code_point refl) refl
+unprintable_run code_point (suc count) symbols unprintable other =
+    ap (with_code_point code_point) (unprintable_run code_point count symbols unprintable other)
+    ∙ rw (unprintable, eq-eqb code_point code_point refl) refl
 
 -- ---- the numbers of a sequence
 
-pub numbers_of_sgr : (bytes : List ℕ) (len : ℕ) → IsSequence bytes len → slice_index bytes (len - 1) ≡ 109 → sequence_numbers bytes ≡ numbers_from 0 (take (len - 3) (take (length bytes - 2) (drop 2 bytes)))
+pub numbers_of_sgr : (bytes : List ℕ) (len : ℕ) → IsSequence bytes len → slice_index bytes (len - 1) ≡ 109
+    → sequence_numbers bytes ≡ numbers_from 0 (take (len - 3) (take (length bytes - 2) (drop 2 bytes)))
 unfolding sequence_numbers
 numbers_of_sgr bytes len sequence last =
     let count : len - 3 ≡ parameter_count bytes = omega (arith, sequence.size) in
     let at : len - 1 ≡ 2 + parameter_count bytes = omega (arith, sequence.size) in
-    cond-true (final_byte bytes == 109) (numbers_from 0 (take (parameter_count bytes) (drop 2 bytes))) [] (eq-eqb (final_byte bytes) 109 (ap (slice_index bytes) (sym at) ∙ last))
-    ∙ ap (λ (n : ℕ). numbers_from 0 (take n (drop 2 bytes))) (sym count) ∙ ap (λ (b : List ℕ). numbers_from 0 (take (len - 3) b)) (sym (take_rest bytes 2))
+    cond-true (final_byte bytes == 109) (numbers_from 0 (take (parameter_count bytes) (drop 2 bytes))) []
+    (eq-eqb (final_byte bytes) 109 (ap (slice_index bytes) (sym at) ∙ last))
+    ∙ ap (λ (n : ℕ). numbers_from 0 (take n (drop 2 bytes))) (sym count)
+    ∙ ap (λ (b : List ℕ). numbers_from 0 (take (len - 3) b)) (sym (take_rest bytes 2))
 
-pub numbers_of_other : (bytes : List ℕ) (len : ℕ) → IsSequence bytes len → (slice_index bytes (len - 1) ≡ 109 → ⊥) → sequence_numbers bytes ≡ []
+pub numbers_of_other : (bytes : List ℕ) (len : ℕ) → IsSequence bytes len → (slice_index bytes (len - 1) ≡ 109 → ⊥)
+    → sequence_numbers bytes ≡ []
 unfolding sequence_numbers
 numbers_of_other bytes len sequence last =
     let at : len - 1 ≡ 2 + parameter_count bytes = omega (arith, sequence.size) in
-    cond-false (final_byte bytes == 109) (numbers_from 0 (take (parameter_count bytes) (drop 2 bytes))) [] (ne_eqb (final_byte bytes) 109 (λ is. last (ap (slice_index bytes) at ∙ is)))
+    cond-false (final_byte bytes == 109) (numbers_from 0 (take (parameter_count bytes) (drop 2 bytes))) []
+    (ne_eqb (final_byte bytes) 109 (λ is. last (ap (slice_index bytes) at ∙ is)))
 
 -- ---- the size of a sequence
 
@@ -201,22 +244,27 @@ module _ (bytes : List ℕ) where
   pub no_escape : (slice_index bytes 0 ≡ 27 → ⊥) → 0 ≡ sequence_len bytes
   unfolding sequence_len
   no_escape other = sym (cond-false (begins_sequence bytes) (3 + parameter_count bytes) 0
-      (and_left (slice_index bytes 0 == 27 && slice_index bytes 1 == 91) (final_byte bytes == 109 || final_byte bytes == 75) (and_left (slice_index bytes 0 == 27) (slice_index bytes 1 == 91) (ne_eqb (slice_index bytes 0) 27 other))))
+      (and_left (slice_index bytes 0 == 27 && slice_index bytes 1 == 91) (final_byte bytes == 109 || final_byte bytes == 75)
+      (and_left (slice_index bytes 0 == 27) (slice_index bytes 1 == 91) (ne_eqb (slice_index bytes 0) 27 other))))
 
   pub no_bracket : (slice_index bytes 1 ≡ 91 → ⊥) → 0 ≡ sequence_len bytes
   unfolding sequence_len
   no_bracket other = sym (cond-false (begins_sequence bytes) (3 + parameter_count bytes) 0
-      (and_left (slice_index bytes 0 == 27 && slice_index bytes 1 == 91) (final_byte bytes == 109 || final_byte bytes == 75) (and_right (slice_index bytes 0 == 27) (slice_index bytes 1 == 91) (ne_eqb (slice_index bytes 1) 91 other))))
+      (and_left (slice_index bytes 0 == 27 && slice_index bytes 1 == 91) (final_byte bytes == 109 || final_byte bytes == 75)
+      (and_right (slice_index bytes 0 == 27) (slice_index bytes 1 == 91) (ne_eqb (slice_index bytes 1) 91 other))))
 
   pub no_final : (final_byte bytes == 109 || final_byte bytes == 75) ≡ false → 0 ≡ sequence_len bytes
   unfolding sequence_len
   no_final other = sym (cond-false (begins_sequence bytes) (3 + parameter_count bytes) 0
       (and_right (slice_index bytes 0 == 27 && slice_index bytes 1 == 91) (final_byte bytes == 109 || final_byte bytes == 75) other))
 
-  pub all_parts : slice_index bytes 0 ≡ 27 → slice_index bytes 1 ≡ 91 → (final_byte bytes == 109 || final_byte bytes == 75) ≡ true → 3 + parameter_count bytes ≡ sequence_len bytes
+  pub all_parts : slice_index bytes 0 ≡ 27 → slice_index bytes 1 ≡ 91 → (final_byte bytes == 109 || final_byte bytes == 75) ≡ true
+      → 3 + parameter_count bytes ≡ sequence_len bytes
   unfolding sequence_len
   all_parts escape bracket final = sym (cond-true (begins_sequence bytes) (3 + parameter_count bytes) 0
-      (and_from (slice_index bytes 0 == 27 && slice_index bytes 1 == 91) (final_byte bytes == 109 || final_byte bytes == 75) (and_from (slice_index bytes 0 == 27) (slice_index bytes 1 == 91) (eq-eqb (slice_index bytes 0) 27 escape) (eq-eqb (slice_index bytes 1) 91 bracket)) final))
+      (and_from (slice_index bytes 0 == 27 && slice_index bytes 1 == 91) (final_byte bytes == 109 || final_byte bytes == 75)
+      (and_from (slice_index bytes 0 == 27) (slice_index bytes 1 == 91) (eq-eqb (slice_index bytes 0) 27 escape)
+      (eq-eqb (slice_index bytes 1) 91 bracket)) final))
 
   pub bracket_within : slice_index bytes 1 ≡ 91 → 2 ≤ length bytes
   bracket_within is = let inside = index_within bytes 1 91 is (omega arith) in omega arith
@@ -239,17 +287,21 @@ module _ (bytes : List ℕ) (char : Option ℕ) (decodes : char ≡ (decoded byt
 -- ---- the first symbol
 
 module _ (kind : TextKind) (bytes : List ℕ) where
-  pub sequence_symbol : has_colours kind ≡ true → 0 < sequence_len bytes → (None ≡ symbol_code_point (first_symbol kind bytes)) × (sequence_len bytes ≡ symbol_len kind bytes)
+  pub sequence_symbol : has_colours kind ≡ true → 0 < sequence_len bytes
+      → (None ≡ symbol_code_point (first_symbol kind bytes)) × (sequence_len bytes ≡ symbol_len kind bytes)
   unfolding is_sequence first_symbol symbol_len
   sequence_symbol has some =
-      let is : is_sequence kind bytes ≡ true = and_from (has_colours kind) (nat_lt 0 (sequence_len bytes)) has (lt-ltb 0 (sequence_len bytes) some) in
+      let is : is_sequence kind bytes ≡ true =
+      and_from (has_colours kind) (nat_lt 0 (sequence_len bytes)) has (lt-ltb 0 (sequence_len bytes) some) in
       (rw is refl, rw is refl)
 
-  pub code_point_symbol : (has_colours kind ≡ false) ⊎ (sequence_len bytes ≡ 0) → (Some (first_code_point bytes) ≡ symbol_code_point (first_symbol kind bytes)) × (code_point_len bytes ≡ symbol_len kind bytes)
+  pub code_point_symbol : (has_colours kind ≡ false) ⊎ (sequence_len bytes ≡ 0)
+      → (Some (first_code_point bytes) ≡ symbol_code_point (first_symbol kind bytes)) × (code_point_len bytes ≡ symbol_len kind bytes)
   unfolding is_sequence first_symbol symbol_len
   code_point_symbol none =
       let is : is_sequence kind bytes ≡ false =
-      ⊎_elim (λ no. and_left (has_colours kind) (nat_lt 0 (sequence_len bytes)) no) (λ zero. and_right (has_colours kind) (nat_lt 0 (sequence_len bytes)) (le-ltb 0 (sequence_len bytes) (omega (arith, zero)))) none in
+      ⊎_elim (λ no. and_left (has_colours kind) (nat_lt 0 (sequence_len bytes)) no)
+      (λ zero. and_right (has_colours kind) (nat_lt 0 (sequence_len bytes)) (le-ltb 0 (sequence_len bytes) (omega (arith, zero)))) none in
       (rw is refl, rw is refl)
 
 -- ---- unprintable code points
@@ -258,48 +310,68 @@ pub control_unprintable : (code_point : ℕ) → is_control code_point ≡ true 
 unfolding is_unprintable
 control_unprintable code_point is = or_left (is_control code_point) (list_any (is_between code_point) unseen_ranges) is
 
-pub unseen_unprintable : (code_point : ℕ) → is_control code_point ≡ false → is_unprintable code_point ≡ list_any (is_between code_point) unseen_ranges
+pub unseen_unprintable : (code_point : ℕ) → is_control code_point ≡ false
+    → is_unprintable code_point ≡ list_any (is_between code_point) unseen_ranges
 unfolding is_unprintable
 unseen_unprintable code_point is = ap (λ (control : Bool). control || list_any (is_between code_point) unseen_ranges) is
 
 -- The ranges are in order: each begins after the end of those before it.
-in_order : (i : ℕ) → i < length unseen_ranges → list_all (λ range. nat_lt (get_or unseen_ranges i (0, 0)).1 range.0) (drop (i + 1) unseen_ranges) ≡ true
-in_order i below = agree_below_at (λ k. list_all (λ range. nat_lt (get_or unseen_ranges k (0, 0)).1 range.0) (drop (k + 1) unseen_ranges)) (λ k. true) 18 i refl below
+in_order : (i : ℕ) → i < length unseen_ranges
+    → list_all (λ range. nat_lt (get_or unseen_ranges i (0, 0)).1 range.0) (drop (i + 1) unseen_ranges) ≡ true
+in_order i below = agree_below_at (λ k. list_all (λ range. nat_lt (get_or unseen_ranges k (0, 0)).1 range.0) (drop (k + 1) unseen_ranges))
+    (λ k. true) 18 i refl below
 
-none_after : (code_point last : ℕ) (ranges : List (ℕ × ℕ)) → code_point ≤ last → list_all (λ range. nat_lt last range.0) ranges ≡ true → list_any (is_between code_point) ranges ≡ false
+none_after : (code_point last : ℕ) (ranges : List (ℕ × ℕ)) → code_point ≤ last → list_all (λ range. nat_lt last range.0) ranges ≡ true
+    → list_any (is_between code_point) ranges ≡ false
 none_after code_point last [] within later = refl
 none_after code_point last (range ∷ ranges) within later =
     let parts = and_parts (nat_lt last range.0) (list_all (λ r. nat_lt last r.0) ranges) later in
     let first = ltb-true last range.0 parts.0 in
-    or_from (is_between code_point range) (list_any (is_between code_point) ranges) (and_left (nat_le range.0 code_point) (nat_le code_point range.1) (lt-leb range.0 code_point (omega (arith, first, within)))) (none_after code_point last ranges within parts.1)
+    or_from (is_between code_point range) (list_any (is_between code_point) ranges)
+    (and_left (nat_le range.0 code_point) (nat_le code_point range.1) (lt-leb range.0 code_point (omega (arith, first, within))))
+    (none_after code_point last ranges within parts.1)
 
 -- The first range that doesn't end before a code point decides.
-pub range_decides : (code_point i : ℕ) → i < length unseen_ranges → code_point ≤ (get_or unseen_ranges i (0, 0)).1 → list_any (is_between code_point) (take i unseen_ranges) ≡ false
+pub range_decides : (code_point i : ℕ) → i < length unseen_ranges → code_point ≤ (get_or unseen_ranges i (0, 0)).1
+    → list_any (is_between code_point) (take i unseen_ranges) ≡ false
     → nat_le (get_or unseen_ranges i (0, 0)).0 code_point ≡ list_any (is_between code_point) unseen_ranges
 range_decides code_point i below within none =
     let range = get_or unseen_ranges i (0, 0) in
     let test = is_between code_point in
     let later = drop (i + 1) unseen_ranges in
-    sym (ap (list_any test) (sym (take-append-drop i unseen_ranges) ∙ ap (λ (rs : List (ℕ × ℕ)). take i unseen_ranges ++ rs) (drop_more unseen_ranges i (0, 0) below)) ∙ list_any-append test (take i unseen_ranges) (range ∷ later)
-    ∙ ap (λ (b : Bool). b || (test range || list_any test later)) none ∙ ap (λ (b : Bool). test range || b) (none_after code_point range.1 later within (in_order i below))
+    sym (ap (list_any test) (sym (take-append-drop i unseen_ranges)
+    ∙ ap (λ (rs : List (ℕ × ℕ)). take i unseen_ranges ++ rs) (drop_more unseen_ranges i (0, 0) below))
+    ∙ list_any-append test (take i unseen_ranges) (range ∷ later)
+    ∙ ap (λ (b : Bool). b || (test range || list_any test later)) none
+    ∙ ap (λ (b : Bool). test range || b) (none_after code_point range.1 later within (in_order i below))
     ∙ ap (λ (b : Bool). (nat_le range.0 code_point && b) || false) (le-leb code_point range.1 within) ∙ same (nat_le range.0 code_point))
   where
     same : (b : Bool) → ((b && true) || false) ≡ b
     same true = refl
     same false = refl
 
-pub range_before : (code_point i : ℕ) → i < length unseen_ranges → (get_or unseen_ranges i (0, 0)).1 < code_point → list_any (is_between code_point) (take i unseen_ranges) ≡ false → list_any (is_between code_point) (take (i + 1) unseen_ranges) ≡ false
+pub range_before : (code_point i : ℕ) → i < length unseen_ranges → (get_or unseen_ranges i (0, 0)).1 < code_point
+    → list_any (is_between code_point) (take i unseen_ranges) ≡ false
+    → list_any (is_between code_point) (take (i + 1) unseen_ranges) ≡ false
 range_before code_point i below past none =
     let range = get_or unseen_ranges i (0, 0) in
-    list_any_more (is_between code_point) unseen_ranges i (0, 0) below ∙ or_from _ _ none (and_right (nat_le range.0 code_point) (nat_le code_point range.1) (lt-leb code_point range.1 past))
+    list_any_more (is_between code_point) unseen_ranges i (0, 0) below
+    ∙ or_from _ _ none (and_right (nat_le range.0 code_point) (nat_le code_point range.1) (lt-leb code_point range.1 past))
 
 -- A first symbol that is no code point is a sequence.
-pub sequence_found : (kind : TextKind) (bytes : List ℕ) → None ≡ symbol_code_point (first_symbol kind bytes) → (first_symbol kind bytes ≡ Sequence (sequence_numbers bytes)) × IsSequence bytes (symbol_len kind bytes)
+pub sequence_found : (kind : TextKind) (bytes : List ℕ) → None ≡ symbol_code_point (first_symbol kind bytes)
+    → (first_symbol kind bytes ≡ Sequence (sequence_numbers bytes)) × IsSequence bytes (symbol_len kind bytes)
 unfolding first_symbol symbol_len is_sequence
 sequence_found kind bytes none = by (is_sequence kind bytes) refl
   where
-    by : (sequence : Bool) → is_sequence kind bytes ≡ sequence → (first_symbol kind bytes ≡ Sequence (sequence_numbers bytes)) × IsSequence bytes (symbol_len kind bytes)
+    by : (sequence : Bool) → is_sequence kind bytes ≡ sequence
+        → (first_symbol kind bytes ≡ Sequence (sequence_numbers bytes)) × IsSequence bytes (symbol_len kind bytes)
     by true is =
-        let positive = ltb-true 0 (sequence_len bytes) (and_parts (has_colours kind) (nat_lt 0 (sequence_len bytes)) is).1 in
-        (cond-true (is_sequence kind bytes) (Sequence (sequence_numbers bytes)) (CodePoint (first_code_point bytes)) is, rw is (sequence_parts bytes positive))
-    by false is = absurd (let code_point : None ≡ Some (first_code_point bytes) = none ∙ ap symbol_code_point (cond-false (is_sequence kind bytes) (Sequence (sequence_numbers bytes)) (CodePoint (first_code_point bytes)) is) in cc)
+        let positive = ltb-true 0 (sequence_len bytes) (and_parts (has_colours kind) (nat_lt 0 (sequence_len bytes)) is).1 in (
+          cond-true (is_sequence kind bytes) (Sequence (sequence_numbers bytes)) (CodePoint (first_code_point bytes)) is,
+          rw is
+              (sequence_parts bytes positive),
+        )
+    by false is = absurd (let code_point : None ≡ Some (first_code_point bytes) = none
+        ∙ ap symbol_code_point (cond-false (is_sequence kind bytes) (Sequence (sequence_numbers bytes))
+        (CodePoint (first_code_point bytes)) is) in cc)

@@ -36,9 +36,11 @@ abbrev pub is_element : List ℕ → Bool
 is_element [] = false
 is_element (byte ∷ bytes) = is_first_byte byte && list_all is_element_byte (byte ∷ bytes)
 
-value_byte_read : (context : Context) (byte : ℕ) (tag behind : List ℕ) → is_value_byte byte ≡ true → read_from (AttributeValue context tag) (byte ∷ behind) ≡ read_from (AttributeValue context (tag ++ byte ∷ [])) behind
+value_byte_read : (context : Context) (byte : ℕ) (tag behind : List ℕ) → is_value_byte byte ≡ true
+    → read_from (AttributeValue context tag) (byte ∷ behind) ≡ read_from (AttributeValue context (tag ++ byte ∷ [])) behind
 value_byte_read context byte tag behind is =
-    let four = or_parts (byte == 34 || byte == 38 || byte == 0) (byte == 13) (not-true _ (and_parts (is_low byte) (not (byte == 34 || byte == 38 || byte == 0 || byte == 13)) is).1) in
+    let four = or_parts (byte == 34 || byte == 38 || byte == 0) (byte == 13)
+    (not-true _ (and_parts (is_low byte) (not (byte == 34 || byte == 38 || byte == 0 || byte == 13)) is).1) in
     let three = or_parts (byte == 34 || byte == 38) (byte == 0) four.0 in
     let two = or_parts (byte == 34) (byte == 38) three.0 in
     let cr = four.1 in
@@ -47,15 +49,19 @@ value_byte_read context byte tag behind is =
     let amp = two.1 in
     rw (quote, amp, nul, cr) refl
 
-pub value_read : (context : Context) (value tag behind : List ℕ) → list_all is_value_byte value ≡ true → read_from (AttributeValue context tag) (value ++ behind) ≡ read_from (AttributeValue context (tag ++ value)) behind
+pub value_read : (context : Context) (value tag behind : List ℕ) → list_all is_value_byte value ≡ true
+    → read_from (AttributeValue context tag) (value ++ behind) ≡ read_from (AttributeValue context (tag ++ value)) behind
 value_read context [] tag behind are = ap (λ t. read_from (AttributeValue context t) behind) (sym (append-nil tag))
 value_read context (byte ∷ value) tag behind are =
     let parts = and_parts (is_value_byte byte) (list_all is_value_byte value) are in
-    value_byte_read context byte tag (value ++ behind) parts.0 ∙ value_read context value (tag ++ byte ∷ []) behind parts.1 ∙ ap (λ t. read_from (AttributeValue context t) behind) (append_assoc tag (byte ∷ []) value)
+    value_byte_read context byte tag (value ++ behind) parts.0 ∙ value_read context value (tag ++ byte ∷ []) behind parts.1
+    ∙ ap (λ t. read_from (AttributeValue context t) behind) (append_assoc tag (byte ∷ []) value)
 
-name_byte_read : (context : Context) (byte : ℕ) (tag behind : List ℕ) → is_name_byte byte ≡ true → read_from (AttributeName context tag) (byte ∷ behind) ≡ read_from (AttributeName context (tag ++ byte ∷ [])) behind
+name_byte_read : (context : Context) (byte : ℕ) (tag behind : List ℕ) → is_name_byte byte ≡ true
+    → read_from (AttributeName context tag) (byte ∷ behind) ≡ read_from (AttributeName context (tag ++ byte ∷ [])) behind
 name_byte_read context byte tag behind is =
-    let parts = and_parts (not (byte == 62 || byte == 32 || byte == 61)) (is_lower_letter byte || is_digit byte || byte == 45) (and_parts (is_low byte) _ is).1 in
+    let parts = and_parts (not (byte == 62 || byte == 32 || byte == 61)) (is_lower_letter byte || is_digit byte || byte == 45)
+    (and_parts (is_low byte) _ is).1 in
     let three = or_parts (byte == 62 || byte == 32) (byte == 61) (not-true _ parts.0) in
     let two = or_parts (byte == 62) (byte == 32) three.0 in
     let gt = two.0 in
@@ -64,13 +70,16 @@ name_byte_read context byte tag behind is =
     let name = parts.1 in
     rw (gt, space, equals, name) refl
 
-name_read : (context : Context) (name tag behind : List ℕ) → list_all is_name_byte name ≡ true → read_from (AttributeName context tag) (name ++ behind) ≡ read_from (AttributeName context (tag ++ name)) behind
+name_read : (context : Context) (name tag behind : List ℕ) → list_all is_name_byte name ≡ true
+    → read_from (AttributeName context tag) (name ++ behind) ≡ read_from (AttributeName context (tag ++ name)) behind
 name_read context [] tag behind are = ap (λ t. read_from (AttributeName context t) behind) (sym (append-nil tag))
 name_read context (byte ∷ name) tag behind are =
     let parts = and_parts (is_name_byte byte) (list_all is_name_byte name) are in
-    name_byte_read context byte tag (name ++ behind) parts.0 ∙ name_read context name (tag ++ byte ∷ []) behind parts.1 ∙ ap (λ t. read_from (AttributeName context t) behind) (append_assoc tag (byte ∷ []) name)
+    name_byte_read context byte tag (name ++ behind) parts.0 ∙ name_read context name (tag ++ byte ∷ []) behind parts.1
+    ∙ ap (λ t. read_from (AttributeName context t) behind) (append_assoc tag (byte ∷ []) name)
 
-element_byte_read : (context : Context) (byte : ℕ) (tag behind : List ℕ) → is_element_byte byte ≡ true → read_from (TagName context tag) (byte ∷ behind) ≡ read_from (TagName context (tag ++ byte ∷ [])) behind
+element_byte_read : (context : Context) (byte : ℕ) (tag behind : List ℕ) → is_element_byte byte ≡ true
+    → read_from (TagName context tag) (byte ∷ behind) ≡ read_from (TagName context (tag ++ byte ∷ [])) behind
 element_byte_read context byte tag behind is =
     let parts = and_parts (not (byte == 62 || byte == 32)) (is_lower_letter byte || is_digit byte) (and_parts (is_low byte) _ is).1 in
     let two = or_parts (byte == 62) (byte == 32) (not-true _ parts.0) in
@@ -79,11 +88,13 @@ element_byte_read context byte tag behind is =
     let name = parts.1 in
     rw (gt, space, name) refl
 
-pub element_read : (context : Context) (name tag behind : List ℕ) → list_all is_element_byte name ≡ true → read_from (TagName context tag) (name ++ behind) ≡ read_from (TagName context (tag ++ name)) behind
+pub element_read : (context : Context) (name tag behind : List ℕ) → list_all is_element_byte name ≡ true
+    → read_from (TagName context tag) (name ++ behind) ≡ read_from (TagName context (tag ++ name)) behind
 element_read context [] tag behind are = ap (λ t. read_from (TagName context t) behind) (sym (append-nil tag))
 element_read context (byte ∷ name) tag behind are =
     let parts = and_parts (is_element_byte byte) (list_all is_element_byte name) are in
-    element_byte_read context byte tag (name ++ behind) parts.0 ∙ element_read context name (tag ++ byte ∷ []) behind parts.1 ∙ ap (λ t. read_from (TagName context t) behind) (append_assoc tag (byte ∷ []) name)
+    element_byte_read context byte tag (name ++ behind) parts.0 ∙ element_read context name (tag ++ byte ∷ []) behind parts.1
+    ∙ ap (λ t. read_from (TagName context t) behind) (append_assoc tag (byte ∷ []) name)
 
 -- ---- values
 
@@ -107,7 +118,8 @@ last_digit_value number = agree_below_at (λ d. is_value_byte (48 + d)) (λ d. t
 
 percent_value : (hundredths : ℕ) → list_all is_value_byte (percent_text hundredths) ≡ true
 percent_value hundredths =
-    all_append is_value_byte (number_text (hundredths / 100)) (46 ∷ last_digit (hundredths / 10) ∷ last_digit hundredths ∷ 37 ∷ []) (number_value (hundredths / 100))
+    all_append is_value_byte (number_text (hundredths / 100)) (46 ∷ last_digit (hundredths / 10) ∷ last_digit hundredths ∷ 37 ∷ [])
+    (number_value (hundredths / 100))
     (and_from true _ refl (and_from _ _ (last_digit_value (hundredths / 10)) (and_from _ _ (last_digit_value hundredths) refl)))
 
 -- Text of the program in a value has no byte that would end it.
@@ -124,7 +136,8 @@ value_bytes (Percent hundredths) is = percent_value hundredths
 pub values_bytes : (values : List Value) → list_all is_value values ≡ true → list_all is_value_byte (flat_map value_text values) ≡ true
 values_bytes [] are = refl
 values_bytes (value ∷ values) are =
-    let parts = and_parts (is_value value) (list_all is_value values) are in all_append is_value_byte (value_text value) (flat_map value_text values) (value_bytes value parts.0) (values_bytes values parts.1)
+    let parts = and_parts (is_value value) (list_all is_value values) are in
+    all_append is_value_byte (value_text value) (flat_map value_text values) (value_bytes value parts.0) (values_bytes values parts.1)
 
 abbrev pub is_attribute : Attribute → Bool
 is_attribute attribute = is_attribute_name attribute.name && list_all is_value attribute.values
@@ -136,23 +149,31 @@ record ReadUpTo (context : Context) (tag : List ℕ) (state : State) : Type 0 wh
   space : (rest : List ℕ) → read_from state (32 ∷ rest) ≡ read_from (BeforeAttributeName context (tag ++ 32 ∷ [])) rest
   ends : (rest : List ℕ) → read_from state (62 ∷ rest) ≡ (emit_tag context tag).1 ++ read_from (emit_tag context tag).0 rest
 
-attribute_bytes : (name value rest : List ℕ) → (codes " " ++ (name ++ (codes "=\"" ++ (value ++ codes "\"")))) ++ rest ≡ 32 ∷ (name ++ 61 ∷ 34 ∷ (value ++ 34 ∷ rest))
+attribute_bytes : (name value rest : List ℕ)
+    → (codes " " ++ (name ++ (codes "=\"" ++ (value ++ codes "\"")))) ++ rest ≡ 32 ∷ (name ++ 61 ∷ 34 ∷ (value ++ 34 ∷ rest))
 attribute_bytes name value rest = simp append_assoc
 
-attribute_tag : (tag name value : List ℕ) → ((((tag ++ 32 ∷ []) ++ name) ++ 61 ∷ []) ++ 34 ∷ []) ++ value ++ 34 ∷ [] ≡ tag ++ (codes " " ++ (name ++ (codes "=\"" ++ (value ++ codes "\""))))
+attribute_tag : (tag name value : List ℕ)
+    → ((((tag ++ 32 ∷ []) ++ name) ++ 61 ∷ []) ++ 34 ∷ []) ++ value ++ 34 ∷ []
+    ≡ tag ++ (codes " " ++ (name ++ (codes "=\"" ++ (value ++ codes "\""))))
 attribute_tag tag name value = simp append_assoc
 
-first_read : (context : Context) (byte : ℕ) (tag rest : List ℕ) → is_lower_letter byte ≡ true → read_from (BeforeAttributeName context tag) (byte ∷ rest) ≡ read_from (AttributeName context (tag ++ byte ∷ [])) rest
+first_read : (context : Context) (byte : ℕ) (tag rest : List ℕ) → is_lower_letter byte ≡ true
+    → read_from (BeforeAttributeName context tag) (byte ∷ rest) ≡ read_from (AttributeName context (tag ++ byte ∷ [])) rest
 first_read context byte tag rest is = rw is refl
 
 -- A name is read up to its end.
-whole_name_read : (context : Context) (name tag rest : List ℕ) → is_attribute_name name ≡ true → read_from (BeforeAttributeName context tag) (name ++ rest) ≡ read_from (AttributeName context (tag ++ name)) rest
+whole_name_read : (context : Context) (name tag rest : List ℕ) → is_attribute_name name ≡ true
+    → read_from (BeforeAttributeName context tag) (name ++ rest) ≡ read_from (AttributeName context (tag ++ name)) rest
 whole_name_read context [] tag rest is = absurd (cc)
 whole_name_read context (byte ∷ name) tag rest is =
     let parts = and_parts (is_lower_letter byte) (list_all is_name_byte (byte ∷ name)) is in
-    first_read context byte tag (name ++ rest) parts.0 ∙ name_read context name (tag ++ byte ∷ []) rest (and_parts (is_name_byte byte) (list_all is_name_byte name) parts.1).1 ∙ ap (λ t. read_from (AttributeName context t) rest) (append_assoc tag (byte ∷ []) name)
+    first_read context byte tag (name ++ rest) parts.0
+    ∙ name_read context name (tag ++ byte ∷ []) rest (and_parts (is_name_byte byte) (list_all is_name_byte name) parts.1).1
+    ∙ ap (λ t. read_from (AttributeName context t) rest) (append_assoc tag (byte ∷ []) name)
 
-attribute_read : (context : Context) (tag : List ℕ) (state : State) → ReadUpTo context tag state → (attribute : Attribute) → is_attribute attribute ≡ true → (rest : List ℕ)
+attribute_read : (context : Context) (tag : List ℕ) (state : State) → ReadUpTo context tag state → (attribute : Attribute)
+    → is_attribute attribute ≡ true → (rest : List ℕ)
     → read_from state (attribute_text attribute ++ rest) ≡ read_from (AfterAttributeValue context (tag ++ attribute_text attribute)) rest
 attribute_read context tag state so_far attribute is rest =
     let parts = and_parts (is_attribute_name attribute.name) (list_all is_value attribute.values) is in
@@ -168,15 +189,19 @@ attribute_read context tag state so_far attribute is rest =
 abbrev pub emitted : Context → List ℕ → List ℕ → List Token
 emitted context tag behind = (emit_tag context tag).1 ++ read_from (emit_tag context tag).0 behind
 
-attributes_read : (context : Context) (tag : List ℕ) (state : State) → ReadUpTo context tag state → (attributes : List Attribute) → list_all is_attribute attributes ≡ true → (behind : List ℕ)
-    → read_from state (flat_map attribute_text attributes ++ 62 ∷ behind) ≡ emitted context (tag ++ flat_map attribute_text attributes) behind
+attributes_read : (context : Context) (tag : List ℕ) (state : State) → ReadUpTo context tag state → (attributes : List Attribute)
+    → list_all is_attribute attributes ≡ true → (behind : List ℕ)
+    → read_from state (flat_map attribute_text attributes ++ 62 ∷ behind)
+    ≡ emitted context (tag ++ flat_map attribute_text attributes) behind
 attributes_read context tag state so_far [] are behind = so_far.ends behind ∙ ap (λ t. emitted context t behind) (sym (append-nil tag))
 attributes_read context tag state so_far (attribute ∷ attributes) are behind =
     let parts = and_parts (is_attribute attribute) (list_all is_attribute attributes) are in
     let one = attribute_text attribute in
     let more = flat_map attribute_text attributes in
-    ap (read_from state) (append_assoc one more (62 ∷ behind)) ∙ attribute_read context tag state so_far attribute parts.0 (more ++ 62 ∷ behind)
-    ∙ attributes_read context (tag ++ one) (AfterAttributeValue context (tag ++ one)) (record { space = λ rest. refl; ends = λ rest. refl }) attributes parts.1 behind
+    ap (read_from state) (append_assoc one more (62 ∷ behind))
+    ∙ attribute_read context tag state so_far attribute parts.0 (more ++ 62 ∷ behind)
+    ∙ attributes_read context (tag ++ one) (AfterAttributeValue context (tag ++ one))
+    (record { space = λ rest. refl; ends = λ rest. refl }) attributes parts.1 behind
     ∙ ap (λ t. emitted context t behind) (append_assoc tag one more)
 
 -- ---- tags
@@ -184,7 +209,8 @@ attributes_read context tag state so_far (attribute ∷ attributes) are behind =
 tag_bytes : (name more behind : List ℕ) → ((name ++ more) ++ codes ">") ++ behind ≡ name ++ (more ++ 62 ∷ behind)
 tag_bytes name more behind = simp append_assoc
 
-open_read : (context : Context) (byte : ℕ) (rest : List ℕ) → is_first_byte byte ≡ true → read_from (TagOpen context) (byte ∷ rest) ≡ read_from (TagName context (byte ∷ [])) rest
+open_read : (context : Context) (byte : ℕ) (rest : List ℕ) → is_first_byte byte ≡ true
+    → read_from (TagOpen context) (byte ∷ rest) ≡ read_from (TagName context (byte ∷ [])) rest
 open_read context byte rest is =
     let parts = and_parts (not (byte == 47 || byte == 33)) (is_lower_letter byte) is in
     let two = or_parts (byte == 47) (byte == 33) (not-true _ parts.0) in
@@ -193,28 +219,37 @@ open_read context byte rest is =
     let code_point = parts.1 in
     rw (slash, bang, code_point) refl
 
-pub tag_read : (context : Context) (element : List ℕ) (attributes : List Attribute) → is_element element ≡ true → list_all is_attribute attributes ≡ true → (behind : List ℕ)
-    → read_from (TagOpen context) ((tag_text element attributes ++ codes ">") ++ behind) ≡ emitted context (tag_text element attributes) behind
+pub tag_read : (context : Context) (element : List ℕ) (attributes : List Attribute) → is_element element ≡ true
+    → list_all is_attribute attributes ≡ true → (behind : List ℕ)
+    → read_from (TagOpen context) ((tag_text element attributes ++ codes ">") ++ behind)
+    ≡ emitted context (tag_text element attributes) behind
 tag_read context [] attributes is are behind = absurd (cc)
 tag_read context (byte ∷ element) attributes is are behind =
     let parts = and_parts (is_first_byte byte) (list_all is_element_byte (byte ∷ element)) is in
     let more = flat_map attribute_text attributes in
-    ap (read_from (TagOpen context)) (tag_bytes (byte ∷ element) more behind) ∙ open_read context byte (element ++ (more ++ 62 ∷ behind)) parts.0
-    ∙ element_read context element (byte ∷ []) (more ++ 62 ∷ behind) (and_parts (is_element_byte byte) (list_all is_element_byte element) parts.1).1
-    ∙ attributes_read context (byte ∷ element) (TagName context (byte ∷ element)) (record { space = λ rest. refl; ends = λ rest. refl }) attributes are behind
+    ap (read_from (TagOpen context)) (tag_bytes (byte ∷ element) more behind)
+    ∙ open_read context byte (element ++ (more ++ 62 ∷ behind)) parts.0
+    ∙ element_read context element (byte ∷ []) (more ++ 62 ∷ behind)
+    (and_parts (is_element_byte byte) (list_all is_element_byte element) parts.1).1
+    ∙ attributes_read context (byte ∷ element) (TagName context (byte ∷ element))
+    (record { space = λ rest. refl; ends = λ rest. refl }) attributes are behind
 
 -- An end tag.
-pub end_tag_read : (context : Context) (element : List ℕ) → is_element element ≡ true → (behind : List ℕ) → read_from (EndTagOpen context) ((element ++ codes ">") ++ behind) ≡ emitted context (47 ∷ element) behind
+pub end_tag_read : (context : Context) (element : List ℕ) → is_element element ≡ true → (behind : List ℕ)
+    → read_from (EndTagOpen context) ((element ++ codes ">") ++ behind) ≡ emitted context (47 ∷ element) behind
 end_tag_read context [] is behind = absurd (cc)
 end_tag_read context (byte ∷ element) is behind =
     let parts = and_parts (is_first_byte byte) (list_all is_element_byte (byte ∷ element)) is in
     let code_point = (and_parts (not (byte == 47 || byte == 33)) (is_lower_letter byte) parts.0).1 in
-    let begun : (rest : List ℕ) → read_from (EndTagOpen context) (byte ∷ rest) ≡ read_from (TagName context (47 ∷ byte ∷ [])) rest = λ rest. rw code_point refl in
+    let begun : (rest : List ℕ) → read_from (EndTagOpen context) (byte ∷ rest) ≡ read_from (TagName context (47 ∷ byte ∷ [])) rest =
+    λ rest. rw code_point refl in
     ap (read_from (EndTagOpen context)) (append_assoc (byte ∷ element) (codes ">") behind) ∙ begun (element ++ 62 ∷ behind)
-    ∙ element_read context element (47 ∷ byte ∷ []) (62 ∷ behind) (and_parts (is_element_byte byte) (list_all is_element_byte element) parts.1).1
+    ∙ element_read context element (47 ∷ byte ∷ []) (62 ∷ behind)
+    (and_parts (is_element_byte byte) (list_all is_element_byte element) parts.1).1
 
 -- The name of the element that a tag begins.
-name_before_attributes : (bytes : List ℕ) → list_all is_element_byte bytes ≡ true → (attributes : List Attribute) → start_name (bytes ++ flat_map attribute_text attributes) ≡ bytes
+name_before_attributes : (bytes : List ℕ) → list_all is_element_byte bytes ≡ true → (attributes : List Attribute)
+    → start_name (bytes ++ flat_map attribute_text attributes) ≡ bytes
 name_before_attributes [] are [] = refl
 name_before_attributes [] are (attribute ∷ attributes) = refl
 name_before_attributes (byte ∷ bytes) are attributes =
@@ -227,11 +262,13 @@ element_bytes : (element : List ℕ) → is_element element ≡ true → list_al
 element_bytes [] is = absurd (cc)
 element_bytes (byte ∷ bytes) is = (and_parts (is_first_byte byte) (list_all is_element_byte (byte ∷ bytes)) is).1
 
-pub tag_name : (element : List ℕ) (attributes : List Attribute) → is_element element ≡ true → start_name (tag_text element attributes) ≡ element
+pub tag_name : (element : List ℕ) (attributes : List Attribute) → is_element element ≡ true
+    → start_name (tag_text element attributes) ≡ element
 tag_name element attributes is = name_before_attributes element (element_bytes element is) attributes
 
 pub not_end : (byte : ℕ) → is_first_byte byte ≡ true → (byte == 47) ≡ false
-not_end byte is = (or_parts (byte == 47) (byte == 33) (not-true _ (and_parts (not (byte == 47 || byte == 33)) (is_lower_letter byte) is).0)).0
+not_end byte is = (or_parts (byte == 47) (byte == 33)
+    (not-true _ (and_parts (not (byte == 47 || byte == 33)) (is_lower_letter byte) is).0)).0
 
 -- ---- ASCII
 
@@ -246,23 +283,29 @@ element_low byte is = (and_parts (is_low byte) _ is).0
 
 attribute_name_low : (name : List ℕ) → is_attribute_name name ≡ true → list_all is_low name ≡ true
 attribute_name_low [] is = absurd (cc)
-attribute_name_low (byte ∷ bytes) is = all_weaker is_name_byte is_low name_low (byte ∷ bytes) (and_parts (is_lower_letter byte) (list_all is_name_byte (byte ∷ bytes)) is).1
+attribute_name_low (byte ∷ bytes) is =
+    all_weaker is_name_byte is_low name_low (byte ∷ bytes) (and_parts (is_lower_letter byte) (list_all is_name_byte (byte ∷ bytes)) is).1
 
 attribute_low : (attribute : Attribute) → is_attribute attribute ≡ true → list_all is_low (attribute_text attribute) ≡ true
 attribute_low attribute is =
     let parts = and_parts (is_attribute_name attribute.name) (list_all is_value attribute.values) is in
     let value = flat_map value_text attribute.values in
-    let quoted = all_append is_low value (codes "\"") (all_weaker is_value_byte is_low value_low value (values_bytes attribute.values parts.1)) refl in
+    let quoted = all_append is_low value (codes "\"")
+    (all_weaker is_value_byte is_low value_low value (values_bytes attribute.values parts.1)) refl in
     all_append is_low attribute.name (codes "=\"" ++ (value ++ codes "\"")) (attribute_name_low attribute.name parts.0) quoted
 
-attributes_low : (attributes : List Attribute) → list_all is_attribute attributes ≡ true → list_all is_low (flat_map attribute_text attributes) ≡ true
+attributes_low : (attributes : List Attribute) → list_all is_attribute attributes ≡ true
+    → list_all is_low (flat_map attribute_text attributes) ≡ true
 attributes_low [] are = refl
 attributes_low (attribute ∷ attributes) are =
     let parts = and_parts (is_attribute attribute) (list_all is_attribute attributes) are in
-    all_append is_low (attribute_text attribute) (flat_map attribute_text attributes) (attribute_low attribute parts.0) (attributes_low attributes parts.1)
+    all_append is_low (attribute_text attribute) (flat_map attribute_text attributes) (attribute_low attribute parts.0)
+    (attributes_low attributes parts.1)
 
 pub element_name_low : (element : List ℕ) → is_element element ≡ true → list_all is_low element ≡ true
 element_name_low element is = all_weaker is_element_byte is_low element_low element (element_bytes element is)
 
-pub tag_low : (element : List ℕ) (attributes : List Attribute) → is_element element ≡ true → list_all is_attribute attributes ≡ true → list_all is_low (tag_text element attributes) ≡ true
-tag_low element attributes is are = all_append is_low element (flat_map attribute_text attributes) (element_name_low element is) (attributes_low attributes are)
+pub tag_low : (element : List ℕ) (attributes : List Attribute) → is_element element ≡ true → list_all is_attribute attributes ≡ true
+    → list_all is_low (tag_text element attributes) ≡ true
+tag_low element attributes is are = all_append is_low element (flat_map attribute_text attributes) (element_name_low element is)
+    (attributes_low attributes are)

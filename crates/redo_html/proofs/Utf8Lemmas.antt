@@ -48,7 +48,8 @@ ascii : (bytes : List ℕ) → list_all is_low bytes ≡ true → IsUtf8 bytes
 ascii bytes low = IsUtf8-from_ascii bytes (low_at bytes low)
 
 digit_low : (byte : ℕ) → is_digit byte ≡ true → is_low byte ≡ true
-digit_low byte is = let high : byte ≤ 57 = leb-true byte 57 (and_parts (nat_le 48 byte) (nat_le byte 57) is).1 in lt-ltb byte 128 (omega (arith, high))
+digit_low byte is = let high : byte ≤ 57 = leb-true byte 57 (and_parts (nat_le 48 byte) (nat_le byte 57) is).1 in
+    lt-ltb byte 128 (omega (arith, high))
 
 number_low : (number : ℕ) → list_all is_low (number_text number) ≡ true
 number_low number = all_weaker is_digit is_low digit_low (number_text number) (number_digits number)
@@ -63,13 +64,19 @@ notation_low : (code_point : ℕ) → list_all is_low (notation code_point) ≡ 
 unfolding notation
 notation_low code_point =
     let Low : List ℕ → Type 0 = λ bytes. list_all is_low bytes ≡ true in
-    cond_both (nat_lt code_point 32) _ _ Low (λ is. let small = ltb-true code_point 32 is in and_from (is_low (code_point + 64)) true (lt-ltb (code_point + 64) 128 (omega (arith, small))) refl)
+    cond_both (nat_lt code_point 32) _ _ Low
+    (λ is. let small = ltb-true code_point 32 is in
+    and_from (is_low (code_point + 64)) true (lt-ltb (code_point + 64) 128 (omega (arith, small))) refl)
     (λ not_low. cond_both (code_point == 127) _ _ Low (λ is. refl)
     (λ not_delete. cond_both (is_between code_point (0xDC00, 0xDCFF)) _ _ Low
     (λ is. and_from _ _ (lower_low ((code_point - 0xDC00) / 16)) (and_from _ _ (lower_low (code_point - 0xDC00)) refl))
     (λ not_byte. cond_both (nat_lt code_point 0x10000) _ _ Low
-    (λ is. and_from _ _ (upper_low (code_point / 4096)) (and_from _ _ (upper_low (code_point / 256)) (and_from _ _ (upper_low (code_point / 16)) (and_from _ _ (upper_low code_point) refl))))
-    (λ large. and_from _ _ (upper_low (code_point / 65536)) (and_from _ _ (upper_low (code_point / 4096)) (and_from _ _ (upper_low (code_point / 256)) (and_from _ _ (upper_low (code_point / 16)) (and_from _ _ (upper_low code_point) refl))))))))
+    (λ is. and_from _ _ (upper_low (code_point / 4096))
+    (and_from _ _ (upper_low (code_point / 256)) (and_from _ _ (upper_low (code_point / 16)) (and_from _ _ (upper_low code_point) refl))))
+    (λ large. and_from _ _ (upper_low (code_point / 65536))
+    (and_from _ _ (upper_low (code_point / 4096))
+    (and_from _ _ (upper_low (code_point / 256))
+    (and_from _ _ (upper_low (code_point / 16)) (and_from _ _ (upper_low code_point) refl))))))))
 
 repeat_low : (count : ℕ) (bytes : List ℕ) → list_all is_low bytes ≡ true → list_all is_low (repeat count bytes) ≡ true
 repeat_low zero bytes low = refl
@@ -85,9 +92,12 @@ times_utf8 = IsUtf8-encode 0xD7 (grind (arith, nat_tests))
 unprintable_utf8 : (code_point count : ℕ) → IsUtf8 (unprintable_text code_point count)
 unfolding unprintable_text
 unprintable_utf8 code_point count =
-    cond_both (nat_lt count 5) _ _ IsUtf8 (λ few. ascii (repeat count (notation code_point)) (repeat_low count (notation code_point) (notation_low code_point)))
+    cond_both (nat_lt count 5) _ _ IsUtf8
+    (λ few. ascii (repeat count (notation code_point)) (repeat_low count (notation code_point) (notation_low code_point)))
     (λ many. IsUtf8-append ((notation code_point ++ (0xC3 ∷ 0x97 ∷ [])) ++ number_text count) (codes " ")
-    (IsUtf8-append (notation code_point ++ (0xC3 ∷ 0x97 ∷ [])) (number_text count) (IsUtf8-append (notation code_point) (0xC3 ∷ 0x97 ∷ []) (ascii (notation code_point) (notation_low code_point)) times_utf8) (ascii (number_text count) (number_low count)))
+    (IsUtf8-append (notation code_point ++ (0xC3 ∷ 0x97 ∷ [])) (number_text count)
+    (IsUtf8-append (notation code_point) (0xC3 ∷ 0x97 ∷ []) (ascii (notation code_point) (notation_low code_point)) times_utf8)
+    (ascii (number_text count) (number_low count)))
     (ascii (codes " ") refl))
 
 -- A code point that is unprintable or a character.
@@ -95,13 +105,16 @@ abbrev IsShowable : ℕ → Type 0
 IsShowable code_point = is_unprintable code_point ≡ false → IsScalar code_point
 
 code_points_utf8 : (code_point count : ℕ) → IsShowable code_point → IsUtf8 (code_points_text code_point count)
-code_points_utf8 code_point count showable = cond_both (is_unprintable code_point) (unprintable_text code_point count) (encode_utf8 code_point) IsUtf8 (λ unprintable. unprintable_utf8 code_point count) (λ visible. IsUtf8-encode code_point (showable visible))
+code_points_utf8 code_point count showable =
+    cond_both (is_unprintable code_point) (unprintable_text code_point count) (encode_utf8 code_point) IsUtf8
+    (λ unprintable. unprintable_utf8 code_point count) (λ visible. IsUtf8-encode code_point (showable visible))
 
 escaped_encoded : (code_point : ℕ) → IsScalar code_point → IsUtf8 (escaped (encode_utf8 code_point))
 unfolding encode_utf8
 escaped_encoded code_point scalar = amp (code_point == 38) refl
   where
-    gt : (code_point == 38) ≡ false → (code_point == 60) ≡ false → (is : Bool) → (code_point == 62) ≡ is → IsUtf8 (escaped (encode_utf8 code_point))
+    gt : (code_point == 38) ≡ false → (code_point == 60) ≡ false → (is : Bool) → (code_point == 62) ≡ is
+        → IsUtf8 (escaped (encode_utf8 code_point))
     gt a l true is = subst (λ n. IsUtf8 (escaped (encode_utf8 n))) (sym (eqb-true code_point 62 is)) (ascii (codes "&gt;") refl)
     gt a l false is = subst IsUtf8 (sym (encoded_escaped code_point a l is)) (IsUtf8-encode code_point scalar)
 
@@ -115,7 +128,9 @@ escaped_encoded code_point scalar = amp (code_point == 38) refl
 
 escaped_utf8 : (code_point count : ℕ) → IsShowable code_point → IsUtf8 (escaped (code_points_text code_point count))
 escaped_utf8 code_point count showable =
-    cond_both (is_unprintable code_point) (unprintable_text code_point count) (encode_utf8 code_point) (λ text. IsUtf8 (escaped text)) (λ unprintable. subst IsUtf8 (sym (safe_escaped (unprintable_text code_point count) (unprintable_safe code_point count))) (unprintable_utf8 code_point count))
+    cond_both (is_unprintable code_point) (unprintable_text code_point count) (encode_utf8 code_point) (λ text. IsUtf8 (escaped text))
+    (λ unprintable. subst IsUtf8 (sym (safe_escaped (unprintable_text code_point count) (unprintable_safe code_point count)))
+    (unprintable_utf8 code_point count))
     (λ visible. escaped_encoded code_point (showable visible))
 
 -- ---- symbols and runs
@@ -129,31 +144,43 @@ unfolding first_symbol first_code_point
 first_showable kind bytes below = cond_both (is_sequence kind bytes) _ _ IsShowableSymbol (λ is. tt) (λ is. by (decoded bytes).char refl)
   where
     by : (char : Option ℕ) → (decoded bytes).char ≡ char → IsShowable (code_point_of (decoded bytes).char (slice_index bytes 0))
-    by None is visible = absurd (let e : true ≡ false = sym (unprintable_byte (slice_index bytes 0) below) ∙ ap (λ (o : Option ℕ). is_unprintable (code_point_of o (slice_index bytes 0))) (sym is) ∙ visible in cc)
-    by (Some c) is visible = subst (λ (o : Option ℕ). IsScalar (code_point_of o (slice_index bytes 0))) (sym is) (SpellsChar-decoded bytes c is).scalar
+    by None is visible = absurd (let e : true ≡ false = sym (unprintable_byte (slice_index bytes 0) below)
+        ∙ ap (λ (o : Option ℕ). is_unprintable (code_point_of o (slice_index bytes 0))) (sym is) ∙ visible in cc)
+    by (Some c) is visible = subst (λ (o : Option ℕ). IsScalar (code_point_of o (slice_index bytes 0))) (sym is)
+        (SpellsChar-decoded bytes c is).scalar
 
-symbols_showable : (kind : TextKind) (skipped : ℕ) (bytes : List ℕ) → list_all is_byte bytes ≡ true → AllByRecursion IsShowableSymbol (symbols_after kind skipped bytes)
+symbols_showable : (kind : TextKind) (skipped : ℕ) (bytes : List ℕ) → list_all is_byte bytes ≡ true
+    → AllByRecursion IsShowableSymbol (symbols_after kind skipped bytes)
 unfolding symbols_after
 symbols_showable kind skipped [] are = tt
 symbols_showable kind zero (byte ∷ bytes) are =
-    let parts = and_parts (is_byte byte) (list_all is_byte bytes) are in (first_showable kind (byte ∷ bytes) (ltb-true byte 256 parts.0), symbols_showable kind (symbol_len kind (byte ∷ bytes) - 1) bytes parts.1)
-symbols_showable kind (suc skipped) (byte ∷ bytes) are = symbols_showable kind skipped bytes (and_parts (is_byte byte) (list_all is_byte bytes) are).1
+    let parts = and_parts (is_byte byte) (list_all is_byte bytes) are in (
+      first_showable kind (byte ∷ bytes) (ltb-true byte 256 parts.0),
+      symbols_showable kind
+          (symbol_len kind (byte ∷ bytes) - 1) bytes parts.1,
+    )
+symbols_showable kind (suc skipped) (byte ∷ bytes) are =
+    symbols_showable kind skipped bytes (and_parts (is_byte byte) (list_all is_byte bytes) are).1
 
 abbrev IsShowableRun : Run → Type 0
 IsShowableRun (CodePoints code_point count) = IsShowable code_point
 IsShowableRun (Restyle numbers) = ⊤
 
-code_point_showable : (code_point : ℕ) (runs : List Run) → IsShowable code_point → AllByRecursion IsShowableRun runs → AllByRecursion IsShowableRun (with_code_point code_point runs)
+code_point_showable : (code_point : ℕ) (runs : List Run) → IsShowable code_point → AllByRecursion IsShowableRun runs
+    → AllByRecursion IsShowableRun (with_code_point code_point runs)
 code_point_showable code_point [] one all = (one, tt)
 code_point_showable code_point (Restyle numbers ∷ runs) one all = (one, all)
-code_point_showable code_point (CodePoints next count ∷ runs) one all = cond_both (is_unprintable code_point && code_point == next) _ _ (AllByRecursion IsShowableRun) (λ same. (all.0, all.1)) (λ other. (one, all))
+code_point_showable code_point (CodePoints next count ∷ runs) one all =
+    cond_both (is_unprintable code_point && code_point == next) _ _ (AllByRecursion IsShowableRun) (λ same. (all.0, all.1))
+    (λ other. (one, all))
 
 runs_showable : (symbols : List Symbol) → AllByRecursion IsShowableSymbol symbols → AllByRecursion IsShowableRun (runs_of symbols)
 runs_showable [] all = tt
 runs_showable (CodePoint code_point ∷ symbols) all = code_point_showable code_point (runs_of symbols) all.0 (runs_showable symbols all.1)
 runs_showable (Sequence numbers ∷ symbols) all = (tt, runs_showable symbols all.1)
 
-each_utf8 : {X : Type 0} (f : X → List ℕ) (P : X → Type 0) → ((x : X) → P x → IsUtf8 (f x)) → (xs : List X) → AllByRecursion P xs → IsUtf8 (flat_map f xs)
+each_utf8 : {X : Type 0} (f : X → List ℕ) (P : X → Type 0) → ((x : X) → P x → IsUtf8 (f x)) → (xs : List X) → AllByRecursion P xs
+    → IsUtf8 (flat_map f xs)
 each_utf8 f P one [] all = IsUtf8-nil
 each_utf8 f P one (x ∷ xs) all = IsUtf8-append (f x) (flat_map f xs) (one x all.0) (each_utf8 f P one xs all.1)
 
@@ -162,7 +189,8 @@ run_utf8 (CodePoints code_point count) showable = code_points_utf8 code_point co
 run_utf8 (Restyle numbers) showable = IsUtf8-nil
 
 -- The runs of bytes are showable.
-text_showable : (kind : TextKind) (bytes : List ℕ) → list_all is_byte bytes ≡ true → AllByRecursion IsShowableRun (runs_of (symbols kind bytes))
+text_showable : (kind : TextKind) (bytes : List ℕ) → list_all is_byte bytes ≡ true
+    → AllByRecursion IsShowableRun (runs_of (symbols kind bytes))
 text_showable kind bytes are = runs_showable (symbols kind bytes) (symbols_showable kind 0 bytes are)
 
 pub shown_utf8 : (kind : TextKind) (bytes : List ℕ) → list_all is_byte bytes ≡ true → IsUtf8 (shown_text kind bytes)
@@ -178,7 +206,8 @@ IsShowableInline (StyleEnd style) = ⊤
 IsShowableInline (Text code_point count) = IsShowable code_point
 
 highlight_utf8 : (kind : TextKind) (tag : List ℕ) → list_all is_low tag ≡ true → IsUtf8 (highlight_html kind tag)
-highlight_utf8 kind tag low = cond_both (has_highlights kind) _ _ IsUtf8 (λ has. ascii (60 ∷ (tag ++ 62 ∷ [])) (and_from true _ refl (all_append is_low tag (62 ∷ []) low refl))) (λ none. IsUtf8-nil)
+highlight_utf8 kind tag low = cond_both (has_highlights kind) _ _ IsUtf8
+    (λ has. ascii (60 ∷ (tag ++ 62 ∷ [])) (and_from true _ refl (all_append is_low tag (62 ∷ []) low refl))) (λ none. IsUtf8-nil)
 
 style_low : (bold : Bool) (hue : Hue) → list_all is_low (style_name bold ++ hue_class hue) ≡ true
 style_low true Plain = refl
@@ -203,15 +232,18 @@ style_end_low false = refl
 inline_utf8 : (kind : TextKind) (inline : Inline) → IsShowableInline inline → IsUtf8 (inline_html kind inline)
 inline_utf8 kind UnprintableStart showable = highlight_utf8 kind (codes "i") refl
 inline_utf8 kind UnprintableEnd showable = highlight_utf8 kind (codes "/i") refl
-inline_utf8 kind (StyleStart style) showable = highlight_utf8 kind (style_name style.bold ++ hue_class style.hue) (style_low style.bold style.hue)
+inline_utf8 kind (StyleStart style) showable =
+    highlight_utf8 kind (style_name style.bold ++ hue_class style.hue) (style_low style.bold style.hue)
 inline_utf8 kind (StyleEnd style) showable = highlight_utf8 kind (47 ∷ style_name style.bold) (style_end_low style.bold)
 inline_utf8 kind (Text code_point count) showable = escaped_utf8 code_point count showable
 
-both_showable : (a b : List Inline) → AllByRecursion IsShowableInline a → AllByRecursion IsShowableInline b → AllByRecursion IsShowableInline (a ++ b)
+both_showable : (a b : List Inline) → AllByRecursion IsShowableInline a → AllByRecursion IsShowableInline b
+    → AllByRecursion IsShowableInline (a ++ b)
 both_showable [] b first second = second
 both_showable (inline ∷ a) b first second = (first.0, both_showable a b first.1 second)
 
-highlight_showable : (wanted : Bool) (highlight : Inline) → IsShowableInline highlight → AllByRecursion IsShowableInline (highlight_if wanted highlight)
+highlight_showable : (wanted : Bool) (highlight : Inline) → IsShowableInline highlight
+    → AllByRecursion IsShowableInline (highlight_if wanted highlight)
 highlight_showable true highlight showable = (showable, tt)
 highlight_showable false highlight showable = tt
 
@@ -223,27 +255,40 @@ between_showable look unprintable =
     let last = highlight_if (unprintable && not (same && look.unprintable)) UnprintableStart in
     both_showable (first ++ styles) last
     (both_showable first styles (highlight_showable (look.unprintable && not (same && unprintable)) UnprintableEnd tt)
-    (cond_both same [] (style_end look.current ++ style_start look.wanted) (AllByRecursion IsShowableInline) (λ is. tt) (λ other. both_showable (style_end look.current) (style_start look.wanted) (highlight_showable (has_element look.current) (StyleEnd look.current) tt) (highlight_showable (has_element look.wanted) (StyleStart look.wanted) tt))))
+    (cond_both same [] (style_end look.current ++ style_start look.wanted) (AllByRecursion IsShowableInline) (λ is. tt)
+    (λ other. both_showable (style_end look.current) (style_start look.wanted)
+    (highlight_showable (has_element look.current) (StyleEnd look.current) tt)
+    (highlight_showable (has_element look.wanted) (StyleStart look.wanted) tt))))
     (highlight_showable (unprintable && not (same && look.unprintable)) UnprintableStart tt)
 
-inlines_showable : (look : Look) (runs : List Run) → AllByRecursion IsShowableRun runs → AllByRecursion IsShowableInline (inlines_from look runs)
-inlines_showable look [] all = both_showable (highlight_if look.unprintable UnprintableEnd) (style_end look.current) (highlight_showable look.unprintable UnprintableEnd tt) (highlight_showable (has_element look.current) (StyleEnd look.current) tt)
+inlines_showable : (look : Look) (runs : List Run) → AllByRecursion IsShowableRun runs
+    → AllByRecursion IsShowableInline (inlines_from look runs)
+inlines_showable look [] all = both_showable (highlight_if look.unprintable UnprintableEnd) (style_end look.current)
+    (highlight_showable look.unprintable UnprintableEnd tt) (highlight_showable (has_element look.current) (StyleEnd look.current) tt)
 inlines_showable look (Restyle numbers ∷ runs) all = inlines_showable (with_wanted look (restyled look.wanted numbers)) runs all.1
 inlines_showable look (CodePoints code_point count ∷ runs) all =
-    both_showable (highlights_between look (is_unprintable code_point)) (Text code_point count ∷ inlines_from (after_code_point look (is_unprintable code_point)) runs) (between_showable look (is_unprintable code_point))
+    both_showable (highlights_between look (is_unprintable code_point))
+    (Text code_point count ∷ inlines_from (after_code_point look (is_unprintable code_point)) runs)
+    (between_showable look (is_unprintable code_point))
     (all.0, inlines_showable (after_code_point look (is_unprintable code_point)) runs all.1)
 
-pub passage_utf8 : (kind : TextKind) (style : Style) (bytes : List ℕ) → list_all is_byte bytes ≡ true → IsUtf8 (passage_html kind style bytes)
+pub passage_utf8 : (kind : TextKind) (style : Style) (bytes : List ℕ) → list_all is_byte bytes ≡ true
+    → IsUtf8 (passage_html kind style bytes)
 unfolding html_from
 passage_utf8 kind style bytes are =
-    each_utf8 (inline_html kind) IsShowableInline (inline_utf8 kind) (inlines_from (start_look style) (runs_of (symbols kind bytes))) (inlines_showable (start_look style) (runs_of (symbols kind bytes)) (text_showable kind bytes are))
+    each_utf8 (inline_html kind) IsShowableInline (inline_utf8 kind) (inlines_from (start_look style) (runs_of (symbols kind bytes)))
+    (inlines_showable (start_look style) (runs_of (symbols kind bytes)) (text_showable kind bytes are))
 
 -- ---- tags
 
-numbered_low : (begin : List ℕ) (number : ℕ) → list_all is_low begin ≡ true → list_all is_low (codes "<" ++ (begin ++ number_text number ++ codes "\"") ++ codes ">" ++ []) ≡ true
+numbered_low : (begin : List ℕ) (number : ℕ) → list_all is_low begin ≡ true
+    → list_all is_low (codes "<" ++ (begin ++ number_text number ++ codes "\"") ++ codes ">" ++ []) ≡ true
 numbered_low begin number low =
     let tag = (begin ++ number_text number) ++ codes "\"" in
-    all_append is_low ((codes "<" ++ tag) ++ codes ">") [] (all_append is_low (codes "<" ++ tag) (codes ">") (and_from true _ refl (all_append is_low (begin ++ number_text number) (codes "\"") (all_append is_low begin (number_text number) low (number_low number)) refl)) refl) refl
+    all_append is_low ((codes "<" ++ tag) ++ codes ">") []
+    (all_append is_low (codes "<" ++ tag) (codes ">")
+    (and_from true _ refl (all_append is_low (begin ++ number_text number) (codes "\"")
+    (all_append is_low begin (number_text number) low (number_low number)) refl)) refl) refl
 
 markup_low : (markup : Markup) → list_all is_low (markup_html markup) ≡ true
 markup_low Doctype = refl
@@ -360,8 +405,12 @@ sheet_low = refl
 node_utf8 : (node : Node) → is_well_formed node ≡ true → node_has_bytes node ≡ true → IsUtf8 (node_html node)
 node_utf8 (StartTag element attributes) well are =
     let parts = and_parts (is_element element) (list_all is_attribute attributes) well in
-    ascii (node_html (StartTag element attributes)) (all_append is_low (codes "<") (tag_text element attributes ++ codes ">") refl (all_append is_low (tag_text element attributes) (codes ">") (tag_low element attributes parts.0 parts.1) refl))
-node_utf8 (EndTag element) well are = ascii (node_html (EndTag element)) (all_append is_low (codes "</") (element ++ codes ">") refl (all_append is_low element (codes ">") (element_name_low element well) refl))
+    ascii (node_html (StartTag element attributes))
+    (all_append is_low (codes "<") (tag_text element attributes ++ codes ">") refl
+    (all_append is_low (tag_text element attributes) (codes ">") (tag_low element attributes parts.0 parts.1) refl))
+node_utf8 (EndTag element) well are =
+    ascii (node_html (EndTag element)) (all_append is_low (codes "</") (element ++ codes ">") refl
+    (all_append is_low element (codes ">") (element_name_low element well) refl))
 node_utf8 (Words text) well are = passage_utf8 Title plain_style text are
 
 nodes_utf8 : (nodes : List Node) → list_all is_well_formed nodes ≡ true → list_all node_has_bytes nodes ≡ true → IsUtf8 (nodes_html nodes)
@@ -377,10 +426,16 @@ part_utf8 (LogPart style text) are = passage_utf8 Log style text are
 part_utf8 (TextPart text) are = passage_utf8 Monochrome plain_style text are
 part_utf8 (NumberPart number) are = ascii (number_text number) (number_low number)
 part_utf8 (TitlePart title) are =
-    IsUtf8-append (codes "<title>" ++ passage_html Title plain_style title) (codes "</title>") (IsUtf8-append (codes "<title>") (passage_html Title plain_style title) (ascii (codes "<title>") refl) (passage_utf8 Title plain_style title are)) (ascii (codes "</title>") refl)
-part_utf8 StylePart are = ascii (codes "<style>" ++ style_sheet ++ codes "</style>") (all_append is_low (codes "<style>" ++ style_sheet) (codes "</style>") (all_append is_low (codes "<style>") style_sheet refl sheet_low) refl)
-part_utf8 (ChartPart drawing) are = nodes_utf8 (drawing_nodes drawing) (nodes_well_formed Normal Normal (drawing_nodes drawing) (drawing_contexts drawing)) are
-part_utf8 (MeterPart width) are = nodes_utf8 (meter_nodes width) (nodes_well_formed Normal Normal (meter_nodes width) (meter_contexts width)) refl
+    IsUtf8-append (codes "<title>" ++ passage_html Title plain_style title) (codes "</title>")
+    (IsUtf8-append (codes "<title>") (passage_html Title plain_style title) (ascii (codes "<title>") refl)
+    (passage_utf8 Title plain_style title are)) (ascii (codes "</title>") refl)
+part_utf8 StylePart are = ascii (codes "<style>" ++ style_sheet ++ codes "</style>")
+    (all_append is_low (codes "<style>" ++ style_sheet) (codes "</style>")
+    (all_append is_low (codes "<style>") style_sheet refl sheet_low) refl)
+part_utf8 (ChartPart drawing) are = nodes_utf8 (drawing_nodes drawing)
+    (nodes_well_formed Normal Normal (drawing_nodes drawing) (drawing_contexts drawing)) are
+part_utf8 (MeterPart width) are = nodes_utf8 (meter_nodes width)
+    (nodes_well_formed Normal Normal (meter_nodes width) (meter_contexts width)) refl
 
 pub parts_utf8 : (parts : List Part) → list_all has_bytes parts ≡ true → IsUtf8 (flat_map part_html parts)
 parts_utf8 [] are = IsUtf8-nil

@@ -34,9 +34,11 @@ visible : (code_point : ℕ) → is_verbatim code_point ≡ true → is_unprinta
 visible code_point verbatim = not-true (is_unprintable code_point) (and_parts (not (is_unprintable code_point)) _ verbatim).0
 
 plain_is_verbatim : (byte : ℕ) → is_plain byte ≡ true → is_verbatim byte ≡ true
-plain_is_verbatim byte plain = and_from (not (is_unprintable byte)) _ (not_from_false (is_unprintable byte) (plain_visible byte plain)) (plain_others byte plain)
+plain_is_verbatim byte plain = and_from (not (is_unprintable byte)) _ (not_from_false (is_unprintable byte) (plain_visible byte plain))
+    (plain_others byte plain)
 
-pub plain_code_points : (count : ℕ) (bytes : List ℕ) → count ≤ length bytes → list_all is_plain (take count bytes) ≡ true → IsVerbatim bytes count
+pub plain_code_points : (count : ℕ) (bytes : List ℕ) → count ≤ length bytes → list_all is_plain (take count bytes) ≡ true
+    → IsVerbatim bytes count
 plain_code_points zero bytes within plain = no_code_points bytes
 plain_code_points (suc count) [] within plain = absurd (omega arith)
 plain_code_points (suc count) (byte ∷ bytes) within plain =
@@ -46,41 +48,52 @@ plain_code_points (suc count) (byte ∷ bytes) within plain =
       within = within;
       code_points = byte ∷ rest.code_points;
       verbatim = and_from (is_verbatim byte) (list_all is_verbatim rest.code_points) (plain_is_verbatim byte parts.0) rest.verbatim;
-      bytes_are = ap (λ (b : List ℕ). byte ∷ b) rest.bytes_are ∙ ap (λ (e : List ℕ). e ++ flat_map encode_utf8 rest.code_points) (sym (plain_encoded byte parts.0));
+      bytes_are = ap (λ (b : List ℕ). byte ∷ b) rest.bytes_are
+          ∙ ap (λ (e : List ℕ). e ++ flat_map encode_utf8 rest.code_points) (sym (plain_encoded byte parts.0));
       symbols_are = λ kind.
           let symbol = plain_symbol kind byte bytes parts.0 in
-          symbols-step kind (byte ∷ bytes) (omega arith) ∙ ap (λ (s : Symbol). s ∷ symbols kind (drop (symbol_len kind (byte ∷ bytes)) (byte ∷ bytes))) symbol.0
-          ∙ ap (λ (n : ℕ). CodePoint byte ∷ symbols kind (drop n (byte ∷ bytes))) symbol.1 ∙ ap (λ (ss : List Symbol). CodePoint byte ∷ ss) (rest.symbols_are kind);
+          symbols-step kind (byte ∷ bytes) (omega arith)
+          ∙ ap (λ (s : Symbol). s ∷ symbols kind (drop (symbol_len kind (byte ∷ bytes)) (byte ∷ bytes))) symbol.0
+          ∙ ap (λ (n : ℕ). CodePoint byte ∷ symbols kind (drop n (byte ∷ bytes))) symbol.1
+          ∙ ap (λ (ss : List Symbol). CodePoint byte ∷ ss) (rest.symbols_are kind);
     }
 
-pub plain_more : (count more : ℕ) (bytes : List ℕ) → list_all is_plain (take count bytes) ≡ true → list_all is_plain (take more (drop count bytes)) ≡ true → list_all is_plain (take (count + more) bytes) ≡ true
+pub plain_more : (count more : ℕ) (bytes : List ℕ) → list_all is_plain (take count bytes) ≡ true
+    → list_all is_plain (take more (drop count bytes)) ≡ true → list_all is_plain (take (count + more) bytes) ≡ true
 plain_more count more bytes first next =
     ap (list_all is_plain) (take-add count more bytes) ∙ list_all-append is_plain (take count bytes) (take more (drop count bytes))
     ∙ and_from (list_all is_plain (take count bytes)) (list_all is_plain (take more (drop count bytes))) first next
 
 -- ---- a code point that isn't in ASCII
 
-high_symbol : (kind : TextKind) (byte : ℕ) (bytes : List ℕ) (code_point : ℕ) → 128 ≤ byte → (decoded (byte ∷ bytes)).char ≡ Some code_point → (first_symbol kind (byte ∷ bytes) ≡ CodePoint code_point) × (symbol_len kind (byte ∷ bytes) ≡ (decoded (byte ∷ bytes)).size)
+high_symbol : (kind : TextKind) (byte : ℕ) (bytes : List ℕ) (code_point : ℕ) → 128 ≤ byte → (decoded (byte ∷ bytes)).char ≡ Some code_point
+    → (first_symbol kind (byte ∷ bytes) ≡ CodePoint code_point) × (symbol_len kind (byte ∷ bytes) ≡ (decoded (byte ∷ bytes)).size)
 unfolding first_symbol symbol_len first_code_point code_point_len
 high_symbol kind byte bytes code_point high is =
-    let none = no_sequence kind byte bytes (ne_eqb byte 27 (λ same. omega (arith, same, high))) in
-    (rw none (ap (λ (o : Option ℕ). CodePoint (code_point_of o byte)) is), rw none (ap (λ (o : Option ℕ). size_of o (decoded (byte ∷ bytes)).size) is))
+    let none = no_sequence kind byte bytes (ne_eqb byte 27 (λ same. omega (arith, same, high))) in (
+      rw none (ap (λ (o : Option ℕ). CodePoint (code_point_of o byte)) is),
+      rw none
+          (ap (λ (o : Option ℕ). size_of o (decoded (byte ∷ bytes)).size) is),
+    )
 
 -- A code point whose first byte isn't in ASCII isn't in ASCII either.
-high_code_point : (byte : ℕ) (bytes : List ℕ) (code_point size : ℕ) → 128 ≤ byte → byte ∷ bytes ≡ encode_utf8 code_point ++ drop size (byte ∷ bytes) → 128 ≤ code_point
+high_code_point : (byte : ℕ) (bytes : List ℕ) (code_point size : ℕ) → 128 ≤ byte
+    → byte ∷ bytes ≡ encode_utf8 code_point ++ drop size (byte ∷ bytes) → 128 ≤ code_point
 unfolding encode_utf8
 high_code_point byte bytes code_point size high is = ⊎_elim (λ low. absurd (below low)) (λ above. above) (cases_lt code_point 128)
   where
     below : code_point < 128 → ⊥
     below low =
-        let same : byte ∷ bytes ≡ code_point ∷ drop size (byte ∷ bytes) = is ∙ ap (λ (e : List ℕ). e ++ drop size (byte ∷ bytes)) (cond-true _ _ _ (lt-ltb code_point 128 low)) in
+        let same : byte ∷ bytes ≡ code_point ∷ drop size (byte ∷ bytes) =
+        is ∙ ap (λ (e : List ℕ). e ++ drop size (byte ∷ bytes)) (cond-true _ _ _ (lt-ltb code_point 128 low)) in
         let first : byte ≡ code_point = cc in
         omega (arith, high, low, first)
 
 other_byte : (code_point n : ℕ) → n < 128 → 128 ≤ code_point → not (code_point == n) ≡ true
 other_byte code_point n low high = not_from_false (code_point == n) (ne_eqb code_point n (λ same. omega (arith, low, high, same)))
 
-pub high_code_points : (bytes : List ℕ) (code_point : ℕ) → 0 < length bytes → 128 ≤ slice_index bytes 0 → (decoded bytes).char ≡ Some code_point → is_unprintable code_point ≡ false → IsVerbatim bytes (decoded bytes).size
+pub high_code_points : (bytes : List ℕ) (code_point : ℕ) → 0 < length bytes → 128 ≤ slice_index bytes 0
+    → (decoded bytes).char ≡ Some code_point → is_unprintable code_point ≡ false → IsVerbatim bytes (decoded bytes).size
 high_code_points [] code_point some high is visible = absurd (omega arith)
 high_code_points (byte ∷ bytes) code_point some high is visible =
     let all = byte ∷ bytes in
@@ -92,25 +105,33 @@ high_code_points (byte ∷ bytes) code_point some high is visible =
       within = bounds.2;
       code_points = code_point ∷ [];
       verbatim = and_from _ true (and_from (not (is_unprintable code_point)) _ (not_from_false (is_unprintable code_point) visible)
-          (and_from (not (code_point == 38)) _ (other_byte code_point 38 (omega arith) above) (and_from (not (code_point == 60)) (not (code_point == 62)) (other_byte code_point 60 (omega arith) above) (other_byte code_point 62 (omega arith) above)))) refl;
-      bytes_are = ap (take size) spells.bytes ∙ take_at (encode_utf8 code_point) (drop size all) size spells.width ∙ sym (append-nil (encode_utf8 code_point));
+          (and_from (not (code_point == 38)) _ (other_byte code_point 38 (omega arith) above)
+          (and_from (not (code_point == 60)) (not (code_point == 62)) (other_byte code_point 60 (omega arith) above)
+          (other_byte code_point 62 (omega arith) above)))) refl;
+      bytes_are = ap (take size) spells.bytes ∙ take_at (encode_utf8 code_point) (drop size all) size spells.width
+          ∙ sym (append-nil (encode_utf8 code_point));
       symbols_are = λ kind.
           let symbol = high_symbol kind byte bytes code_point high is in
-          symbols-step kind all some ∙ ap (λ (s : Symbol). s ∷ symbols kind (drop (symbol_len kind all) all)) symbol.0 ∙ ap (λ (n : ℕ). CodePoint code_point ∷ symbols kind (drop n all)) symbol.1;
+          symbols-step kind all some ∙ ap (λ (s : Symbol). s ∷ symbols kind (drop (symbol_len kind all) all)) symbol.0
+          ∙ ap (λ (n : ℕ). CodePoint code_point ∷ symbols kind (drop n all)) symbol.1;
     }
 
 -- ---- more code points
 
-pub more_code_points : (bytes : List ℕ) (len more : ℕ) → IsVerbatim bytes len → IsVerbatim (drop len bytes) more → IsVerbatim bytes (len + more)
+pub more_code_points : (bytes : List ℕ) (len more : ℕ) → IsVerbatim bytes len → IsVerbatim (drop len bytes) more
+    → IsVerbatim bytes (len + more)
 more_code_points bytes len more first second = record {
   within = let one = first.within in let two = second.within in let size = length-drop len bytes in omega (arith, one, two, size);
   code_points = first.code_points ++ second.code_points;
-  verbatim = list_all-append is_verbatim first.code_points second.code_points ∙ and_from (list_all is_verbatim first.code_points) (list_all is_verbatim second.code_points) first.verbatim second.verbatim;
-  bytes_are = take-add len more bytes ∙ ap (λ (b : List ℕ). b ++ take more (drop len bytes)) first.bytes_are ∙ ap (λ (b : List ℕ). flat_map encode_utf8 first.code_points ++ b) second.bytes_are
+  verbatim = list_all-append is_verbatim first.code_points second.code_points
+      ∙ and_from (list_all is_verbatim first.code_points) (list_all is_verbatim second.code_points) first.verbatim second.verbatim;
+  bytes_are = take-add len more bytes ∙ ap (λ (b : List ℕ). b ++ take more (drop len bytes)) first.bytes_are
+      ∙ ap (λ (b : List ℕ). flat_map encode_utf8 first.code_points ++ b) second.bytes_are
       ∙ sym (flat_map-append encode_utf8 first.code_points second.code_points);
   symbols_are = λ kind.
       let left = symbols kind (drop more (drop len bytes)) in
-      first.symbols_are kind ∙ ap (λ (ss : List Symbol). map CodePoint first.code_points ++ ss) (second.symbols_are kind) ∙ sym (append_assoc (map CodePoint first.code_points) (map CodePoint second.code_points) left)
+      first.symbols_are kind ∙ ap (λ (ss : List Symbol). map CodePoint first.code_points ++ ss) (second.symbols_are kind)
+      ∙ sym (append_assoc (map CodePoint first.code_points) (map CodePoint second.code_points) left)
       ∙ ap (λ (ss : List Symbol). ss ++ left) (sym (map-append CodePoint first.code_points second.code_points))
       ∙ ap (λ (b : List ℕ). map CodePoint (first.code_points ++ second.code_points) ++ symbols kind b) (drop-drop more len bytes);
 }
@@ -120,65 +141,91 @@ more_code_points bytes len more first second = record {
 abbrev code_point_run : ℕ → Run
 code_point_run code_point = CodePoints code_point 1
 
-code_points_runs : (code_points : List ℕ) (more : List Symbol) → list_all is_verbatim code_points ≡ true → runs_of (map CodePoint code_points ++ more) ≡ map code_point_run code_points ++ runs_of more
+code_points_runs : (code_points : List ℕ) (more : List Symbol) → list_all is_verbatim code_points ≡ true
+    → runs_of (map CodePoint code_points ++ more) ≡ map code_point_run code_points ++ runs_of more
 code_points_runs [] more verbatim = refl
 code_points_runs (code_point ∷ code_points) more verbatim =
     let parts = and_parts (is_verbatim code_point) (list_all is_verbatim code_points) verbatim in
-    ap (with_code_point code_point) (code_points_runs code_points more parts.1) ∙ visible_run code_point (map code_point_run code_points ++ runs_of more) (visible code_point parts.0)
+    ap (with_code_point code_point) (code_points_runs code_points more parts.1)
+    ∙ visible_run code_point (map code_point_run code_points ++ runs_of more) (visible code_point parts.0)
 
 -- A code point after others.
 next_code_point : (kind : TextKind) (look : Look) (code_point : ℕ) (runs : List Run) → is_verbatim code_point ≡ true
-    → html_of kind look (CodePoints code_point 1 ∷ runs) ≡ highlights kind look false ++ (encode_utf8 code_point ++ html_of kind (after_code_point look false) runs)
+    → html_of kind look (CodePoints code_point 1 ∷ runs)
+    ≡ highlights kind look false ++ (encode_utf8 code_point ++ html_of kind (after_code_point look false) runs)
 next_code_point kind look code_point runs verbatim =
-    let others = and_parts (not (code_point == 38)) (not (code_point == 60) && not (code_point == 62)) (and_parts (not (is_unprintable code_point)) _ verbatim).1 in
+    let others = and_parts (not (code_point == 38)) (not (code_point == 60) && not (code_point == 62))
+    (and_parts (not (is_unprintable code_point)) _ verbatim).1 in
     let two = and_parts (not (code_point == 60)) (not (code_point == 62)) others.1 in
     code_points_step kind look code_point 1 runs false (visible code_point verbatim)
-    ∙ ap (λ (t : List ℕ). highlights kind look false ++ (escaped t ++ html_of kind (after_code_point look false) runs)) (cond-false (is_unprintable code_point) (unprintable_text code_point 1) (encode_utf8 code_point) (visible code_point verbatim))
-    ∙ ap (λ (t : List ℕ). highlights kind look false ++ (t ++ html_of kind (after_code_point look false) runs)) (encoded_escaped code_point (not-true (code_point == 38) others.0) (not-true (code_point == 60) two.0) (not-true (code_point == 62) two.1))
+    ∙ ap (λ (t : List ℕ). highlights kind look false ++ (escaped t ++ html_of kind (after_code_point look false) runs))
+    (cond-false (is_unprintable code_point) (unprintable_text code_point 1) (encode_utf8 code_point) (visible code_point verbatim))
+    ∙ ap (λ (t : List ℕ). highlights kind look false ++ (t ++ html_of kind (after_code_point look false) runs))
+    (encoded_escaped code_point (not-true (code_point == 38) others.0) (not-true (code_point == 60) two.0)
+    (not-true (code_point == 62) two.1))
 
 code_points_html : (kind : TextKind) (look : Look) (code_points : List ℕ) (runs : List Run) → list_all is_verbatim code_points ≡ true
-    → flat_map encode_utf8 code_points ++ html_of kind (after_code_point look false) runs ≡ html_of kind (after_code_point look false) (map code_point_run code_points ++ runs)
+    → flat_map encode_utf8 code_points ++ html_of kind (after_code_point look false) runs
+    ≡ html_of kind (after_code_point look false) (map code_point_run code_points ++ runs)
 code_points_html kind look [] runs verbatim = refl
 code_points_html kind look (code_point ∷ code_points) runs verbatim =
     let parts = and_parts (is_verbatim code_point) (list_all is_verbatim code_points) verbatim in
     let after = after_code_point look false in
-    append_assoc (encode_utf8 code_point) (flat_map encode_utf8 code_points) (html_of kind after runs) ∙ ap (λ (t : List ℕ). encode_utf8 code_point ++ t) (code_points_html kind look code_points runs parts.1)
-    ∙ ap (λ (m : List ℕ). m ++ (encode_utf8 code_point ++ html_of kind after (map code_point_run code_points ++ runs))) (sym (no_highlights kind look))
+    append_assoc (encode_utf8 code_point) (flat_map encode_utf8 code_points) (html_of kind after runs)
+    ∙ ap (λ (t : List ℕ). encode_utf8 code_point ++ t) (code_points_html kind look code_points runs parts.1)
+    ∙ ap (λ (m : List ℕ). m ++ (encode_utf8 code_point ++ html_of kind after (map code_point_run code_points ++ runs)))
+    (sym (no_highlights kind look))
     ∙ sym (next_code_point kind after code_point (map code_point_run code_points ++ runs) parts.0)
 
 -- Code points after a visible code point, or at the start of a passage with the plain style.
-pub verbatim_html : (kind : TextKind) (look : Look) (bytes : List ℕ) (len : ℕ) → IsVerbatim bytes len → take len bytes ++ html_from kind (after_code_point look false) (drop len bytes) ≡ html_from kind (after_code_point look false) bytes
+pub verbatim_html : (kind : TextKind) (look : Look) (bytes : List ℕ) (len : ℕ) → IsVerbatim bytes len
+    → take len bytes ++ html_from kind (after_code_point look false) (drop len bytes) ≡ html_from kind (after_code_point look false) bytes
 unfolding html_from
 verbatim_html kind look bytes len all =
     let runs = runs_of (symbols kind (drop len bytes)) in
-    ap (λ (b : List ℕ). b ++ html_of kind (after_code_point look false) runs) all.bytes_are ∙ code_points_html kind look all.code_points runs all.verbatim
-    ∙ ap (html_of kind (after_code_point look false)) (sym (code_points_runs all.code_points (symbols kind (drop len bytes)) all.verbatim) ∙ ap runs_of (sym (all.symbols_are kind)))
+    ap (λ (b : List ℕ). b ++ html_of kind (after_code_point look false) runs) all.bytes_are
+    ∙ code_points_html kind look all.code_points runs all.verbatim
+    ∙ ap (html_of kind (after_code_point look false))
+    (sym (code_points_runs all.code_points (symbols kind (drop len bytes)) all.verbatim) ∙ ap runs_of (sym (all.symbols_are kind)))
 
-pub verbatim_step : (kind : TextKind) (look : Look) (bytes : List ℕ) (len : ℕ) → 0 < len → IsVerbatim bytes len → highlights kind look false ++ (take len bytes ++ html_from kind (after_code_point look false) (drop len bytes)) ≡ html_from kind look bytes
+pub verbatim_step : (kind : TextKind) (look : Look) (bytes : List ℕ) (len : ℕ) → 0 < len → IsVerbatim bytes len
+    → highlights kind look false ++ (take len bytes ++ html_from kind (after_code_point look false) (drop len bytes))
+    ≡ html_from kind look bytes
 unfolding html_from
 verbatim_step kind look bytes len some all = by all.code_points refl
   where
     runs : List Run
     runs = runs_of (symbols kind (drop len bytes))
 
-    by : (code_points : List ℕ) → all.code_points ≡ code_points → highlights kind look false ++ (take len bytes ++ html_of kind (after_code_point look false) runs) ≡ html_of kind look (runs_of (symbols kind bytes))
+    by : (code_points : List ℕ) → all.code_points ≡ code_points
+        → highlights kind look false ++ (take len bytes ++ html_of kind (after_code_point look false) runs)
+        ≡ html_of kind look (runs_of (symbols kind bytes))
     by [] none =
         let empty : length (take len bytes) ≡ 0 = ap length (all.bytes_are ∙ ap (flat_map encode_utf8) none) in
         absurd (omega (arith, some, empty, length-take-le len bytes all.within))
     by (code_point ∷ code_points) is =
-        let parts = and_parts (is_verbatim code_point) (list_all is_verbatim code_points) (ap (list_all is_verbatim) (sym is) ∙ all.verbatim) in
-        ap (λ (b : List ℕ). highlights kind look false ++ (b ++ html_of kind (after_code_point look false) runs)) (all.bytes_are ∙ ap (flat_map encode_utf8) is)
-        ∙ ap (λ (t : List ℕ). highlights kind look false ++ t) (append_assoc (encode_utf8 code_point) (flat_map encode_utf8 code_points) (html_of kind (after_code_point look false) runs) ∙ ap (λ (t : List ℕ). encode_utf8 code_point ++ t) (code_points_html kind look code_points runs parts.1))
+        let parts = and_parts (is_verbatim code_point) (list_all is_verbatim code_points)
+        (ap (list_all is_verbatim) (sym is) ∙ all.verbatim) in
+        ap (λ (b : List ℕ). highlights kind look false ++ (b ++ html_of kind (after_code_point look false) runs))
+        (all.bytes_are ∙ ap (flat_map encode_utf8) is)
+        ∙ ap (λ (t : List ℕ). highlights kind look false ++ t)
+        (append_assoc (encode_utf8 code_point) (flat_map encode_utf8 code_points) (html_of kind (after_code_point look false) runs)
+        ∙ ap (λ (t : List ℕ). encode_utf8 code_point ++ t) (code_points_html kind look code_points runs parts.1))
         ∙ sym (next_code_point kind look code_point (map code_point_run code_points ++ runs) parts.0)
         ∙ ap (λ (ls : List ℕ). html_of kind look (map code_point_run ls ++ runs)) (sym is)
-        ∙ ap (html_of kind look) (sym (code_points_runs all.code_points (symbols kind (drop len bytes)) all.verbatim) ∙ ap runs_of (sym (all.symbols_are kind)))
+        ∙ ap (html_of kind look) (sym (code_points_runs all.code_points (symbols kind (drop len bytes)) all.verbatim)
+        ∙ ap runs_of (sym (all.symbols_are kind)))
 
-code_points_style : (style : Style) (code_points : List ℕ) (more : List Symbol) → fold style_after_symbol style (map CodePoint code_points ++ more) ≡ fold style_after_symbol style more
+code_points_style : (style : Style) (code_points : List ℕ) (more : List Symbol)
+    → fold style_after_symbol style (map CodePoint code_points ++ more) ≡ fold style_after_symbol style more
 code_points_style style [] more = refl
 code_points_style style (code_point ∷ code_points) more = code_points_style style code_points more
 
-pub verbatim_style : (kind : TextKind) (style : Style) (bytes : List ℕ) (len : ℕ) → IsVerbatim bytes len → style_in kind style (drop len bytes) ≡ style_in kind style bytes
-verbatim_style kind style bytes len all = sym (ap (fold style_after_symbol style) (all.symbols_are kind) ∙ code_points_style style all.code_points (symbols kind (drop len bytes)))
+pub verbatim_style : (kind : TextKind) (style : Style) (bytes : List ℕ) (len : ℕ) → IsVerbatim bytes len
+    → style_in kind style (drop len bytes) ≡ style_in kind style bytes
+verbatim_style kind style bytes len all =
+    sym (ap (fold style_after_symbol style) (all.symbols_are kind)
+    ∙ code_points_style style all.code_points (symbols kind (drop len bytes)))
 
 -- ---- plain text
 
@@ -188,7 +235,8 @@ plain_written kind bytes plain =
     let front = take_all n bytes (le_refl n) in
     let look = start_look plain_style in
     sym (verbatim_html kind look bytes n (plain_code_points n bytes (le_refl n) (ap (list_all is_plain) front ∙ plain)))
-    ∙ ap (λ (t : List ℕ). t ++ html_from kind look (drop n bytes)) front ∙ ap (λ (d : List ℕ). bytes ++ html_from kind look d) (drop_all n bytes (le_refl n))
+    ∙ ap (λ (t : List ℕ). t ++ html_from kind look (drop n bytes)) front
+    ∙ ap (λ (d : List ℕ). bytes ++ html_from kind look d) (drop_all n bytes (le_refl n))
     ∙ ap (λ (t : List ℕ). bytes ++ t) (nothing kind) ∙ append-nil bytes
   where
     nothing : (kind : TextKind) → html_from kind (start_look plain_style) [] ≡ []

@@ -69,12 +69,16 @@ forgets_lt_in_tooltip is = let same : Lost ∷ [] ≡ Character 60 ∷ Character
 -- A tooltip ends its own element.
 escapes_nothing_in_tooltip : IsTooltipEscape (λ byte. byte ∷ []) (codes "</title>") → ⊥
 escapes_nothing_in_tooltip is =
-    let same : Tag (codes "/title") ∷ Lost ∷ [] ≡ Character 60 ∷ Character 47 ∷ Character 116 ∷ Character 105 ∷ Character 116 ∷ Character 108 ∷ Character 101 ∷ Character 62 ∷ Lost ∷ [] = is [] in cc
+    let same : Tag (codes "/title") ∷ Lost ∷ []
+    ≡ Character 60 ∷ Character 47 ∷ Character 116 ∷ Character 105 ∷ Character 116 ∷ Character 108 ∷ Character 101 ∷ Character 62 ∷ Lost
+    ∷ [] = is [] in cc
 
 forgets_amp_in_tooltip : IsTooltipEscape (except 38 (codes "&")) (codes "&lt;") → ⊥
-forgets_amp_in_tooltip is = let same : Character 60 ∷ Lost ∷ [] ≡ Character 38 ∷ Character 108 ∷ Character 116 ∷ Character 59 ∷ Lost ∷ [] = is [] in cc
+forgets_amp_in_tooltip is = let same : Character 60 ∷ Lost ∷ [] ≡ Character 38 ∷ Character 108 ∷ Character 116 ∷ Character 59 ∷ Lost ∷ [] =
+    is [] in cc
 
 -- A highlight in a label would end the chart.
-highlights_a_label : ReadsIn (Svg (codes "text") (codes "svg" ∷ [])) (passage_html Monochrome plain_style (1 ∷ [])) (passage_tokens Monochrome plain_style (1 ∷ [])) → ⊥
+highlights_a_label : ReadsIn (Svg (codes "text") (codes "svg" ∷ [])) (passage_html Monochrome plain_style (1 ∷ []))
+    (passage_tokens Monochrome plain_style (1 ∷ [])) → ⊥
 unfolding symbols_after first_symbol symbol_len is_sequence sequence_len sequence_numbers first_code_point code_point_len is_unprintable notation unprintable_text number_text encode_utf8 digits html_from
 highlights_a_label is = let same : Lost ∷ [] ≡ Tag (codes "i") ∷ Character 94 ∷ Character 65 ∷ Tag (codes "/i") ∷ Lost ∷ [] = is [] in cc

@@ -18,10 +18,12 @@ pub unsigned_is : (E : Type 0) (G : List ℕ → Result ℕ E → Type 0) (found
     → unwrap_or answer default ≡ number_or default id (rows_of found)
 unsigned_is E G found id default answer only is none some = go (one_of id (rows_of found)) refl is
   where
-    value : (text : Text) (read : Option ℕ) → IsUnsignedIn 0 18446744073709551615 text → ReadsOne G text read → unwrap_or read default ≡ number_of text
+    value : (text : Text) (read : Option ℕ) → IsUnsignedIn 0 18446744073709551615 text → ReadsOne G text read
+        → unwrap_or read default ≡ number_of text
     value text (Some n) is read = (only text (Ok n) read).1
     value text None is read = absurd (only text (Err read.0) read.1 (is.0, is.1))
 
-    go : (text : Option Text) → one_of id (rows_of found) ≡ text → IfSome text (IsUnsignedIn 0 18446744073709551615) → unwrap_or answer default ≡ option_map_or number_of text default
+    go : (text : Option Text) → one_of id (rows_of found) ≡ text → IfSome text (IsUnsignedIn 0 18446744073709551615)
+        → unwrap_or answer default ≡ option_map_or number_of text default
     go None at is = rw (none (one_text-rows found id ∙ at)) refl
     go (Some text) at is = value text answer is (some text (one_text-rows found id ∙ at))

@@ -21,28 +21,48 @@ use Rattle.redo_html_args.specs.Private.Matches.{AreSound}
 
 unchanged-parsed : HoldsOfBoth redo_log_html (IsParsedBy (codes "unchanged") vp.Bool)
 unfolding redo_log_html
-unchanged-parsed = ((other, (other, (other, (λ _. refl, (other, (other, (other, (other, tt)))))))), (other, (other, (other, (λ _. refl, (other, (other, (other, (other, (other, tt))))))))))
+unchanged-parsed = (
+  (other, (other, (other, (λ _. refl, (other, (other, (other, (other, tt)))))))),
+  (other, (other, (other, (λ _. refl, (other, (other, (other, (other, (other, tt))))))))),
+)
 
 debug_locks-parsed : HoldsOfBoth redo_log_html (IsParsedBy (codes "debug_locks") vp.Bool)
 unfolding redo_log_html
-debug_locks-parsed = ((other, (other, (other, (other, (λ _. refl, (other, (other, (other, tt)))))))), (other, (other, (other, (other, (λ _. refl, (other, (other, (other, (other, tt))))))))))
+debug_locks-parsed = (
+  (other, (other, (other, (other, (λ _. refl, (other, (other, (other, tt)))))))),
+  (other, (other, (other, (other, (λ _. refl, (other, (other, (other, (other, tt))))))))),
+)
 
 max_bytes-parsed : HoldsOfBoth redo_log_html (IsParsedBy (codes "max-bytes") (vp.Unsigned 0 18446744073709551615))
 unfolding redo_log_html
-max_bytes-parsed = ((other, (other, (other, (other, (other, (λ _. refl, (other, (other, tt)))))))), (other, (other, (other, (other, (other, (λ _. refl, (other, (other, (other, tt))))))))))
+max_bytes-parsed = (
+  (other, (other, (other, (other, (other, (λ _. refl, (other, (other, tt)))))))),
+  (other, (other, (other, (other, (other, (λ _. refl, (other, (other, (other, tt))))))))),
+)
 
 senders-parsed : HoldsOfBoth redo_log_html (IsParsedBy (codes "senders") (vp.Signed (pos 1) (pos 64)))
 unfolding redo_log_html
-senders-parsed = ((other, (other, (other, (other, (other, (other, (λ _. refl, (other, tt)))))))), (other, (other, (other, (other, (other, (other, (λ _. refl, (other, (other, tt))))))))))
+senders-parsed = (
+  (other, (other, (other, (other, (other, (other, (λ _. refl, (other, tt)))))))),
+  (other, (other, (other, (other, (other, (other, (λ _. refl, (other, (other, tt))))))))),
+)
 
 target-filled : HoldsOfBoth redo_log_html (TakesWords (codes "target"))
 unfolding redo_log_html
-target-filled =
-    ((other, (other, (other, (other, (other, (other, (other, (λ _. (refl, refl, refl), tt)))))))), (other, (other, (other, (other, (other, (other, (other, (λ _. (refl, refl, refl), (other, tt))))))))))
+target-filled = (
+  (other, (other, (other, (other, (other, (other, (other, (λ _. (refl, refl, refl), tt)))))))),
+  (other, (other, (other, (other, (other, (other, (other, (λ _. (refl, refl, refl), (other, tt))))))))),
+)
 
 all_plain : AllByRecursion IsPlainRule redo_log_html.top.rules
 unfolding redo_log_html
-all_plain = ((refl, refl), ((refl, refl), ((refl, refl), ((refl, refl), ((refl, refl), ((refl, refl), ((refl, refl), ((refl, refl), tt))))))))
+all_plain = (
+  (refl, refl),
+  (
+    (refl, refl),
+    ((refl, refl), ((refl, refl), ((refl, refl), ((refl, refl), ((refl, refl), ((refl, refl), tt)))))),
+  ),
+)
 
 settings : (redo_log_html.top.is_plain ≡ true) × (is_buildable redo_log_html ≡ true)
 unfolding redo_log_html
@@ -73,7 +93,8 @@ unsigned_text : (text : Text) → IsAccepted (vp.Unsigned 0 18446744073709551615
 unsigned_text text (written, is, ignore_case, accepted) = subst (IsUnsignedIn 0 18446744073709551615) (sym is) accepted
 
 -- Arguments that are given, or the default, are not empty.
-some_words : (matched : Option MatchedArg) → (is_some matched ≡ true → 0 < length (unwrap_or (option_map raw_values matched) [])) → 0 < length (unwrap_or (option_map raw_values matched) (codes "all" ∷ []))
+some_words : (matched : Option MatchedArg) → (is_some matched ≡ true → 0 < length (unwrap_or (option_map raw_values matched) []))
+    → 0 < length (unwrap_or (option_map raw_values matched) (codes "all" ∷ []))
 some_words None filled = omega arith
 some_words (Some one) filled = filled refl
 
@@ -83,9 +104,12 @@ sound old new m parse =
     record {
       unchanged_is = sound_flag redo_log_html plain_app old new m parse (codes "unchanged") (λ e. cc) unchanged-parsed;
       debug_locks_are = sound_flag redo_log_html plain_app old new m parse (codes "debug_locks") (λ e. cc) debug_locks-parsed;
-      max_bytes_are = weaker _ _ _ unsigned_text (sound_text redo_log_html plain_app old new m parse (vp.Unsigned 0 18446744073709551615) (codes "max-bytes") (λ e. cc) max_bytes-parsed);
+      max_bytes_are = weaker _ _ _ unsigned_text
+          (sound_text redo_log_html plain_app old new m parse (vp.Unsigned 0 18446744073709551615) (codes "max-bytes")
+          (λ e. cc) max_bytes-parsed);
       senders_are = sound_number redo_log_html plain_app old new m parse 64 (codes "senders") (λ e. cc) senders-parsed;
       some_target =
           subst (λ (o : Option (List Text)). 0 < length (unwrap_or o (codes "all" ∷ []))) (raw_values-rows (found_of m) (codes "target"))
-          (some_words (matched_of (found_of m) (codes "target")) (sound_words redo_log_html plain_app old new m parse (codes "target") (λ e. cc) target-filled));
+          (some_words (matched_of (found_of m) (codes "target"))
+          (sound_words redo_log_html plain_app old new m parse (codes "target") (λ e. cc) target-filled));
     }

@@ -16,18 +16,35 @@ record Row : Type 0 where
 -- senders and targets.
 abbrev asks : List (List ℕ) → List ℕ → Option (List ℕ) → Option (List ℕ) → Bool → Bool → ℕ → ℕ → List (List ℕ) → Row
 asks words dir output title unchanged debug_locks max_bytes senders targets =
-    record { words = words; parts_are = record { dir = dir; output = output; title = title; unchanged = unchanged; debug_locks = debug_locks; max_bytes = max_bytes; senders = senders; targets = targets } }
+    record {
+      words = words;
+      parts_are =
+          record {
+            dir = dir;
+            output = output;
+            title = title;
+            unchanged = unchanged;
+            debug_locks = debug_locks;
+            max_bytes = max_bytes;
+            senders = senders;
+            targets = targets;
+          };
+    }
 
 abbrev jobs : List Row
 jobs =
     asks [] (codes ".") None None false false 16000000 4 (codes "all" ∷ []) ∷
     asks (codes "b" ∷ codes "a" ∷ []) (codes ".") None None false false 16000000 4 (codes "b" ∷ codes "a" ∷ []) ∷
-    asks (codes "--dir" ∷ codes "d" ∷ codes "--output" ∷ codes "f" ∷ codes "--title" ∷ codes "t" ∷ codes "-u" ∷ codes "--senders" ∷ codes "2" ∷ codes "--" ∷ codes "-x" ∷ []) (codes "d") (Some (codes "f"))
+    asks (codes "--dir" ∷ codes "d" ∷ codes "--output" ∷ codes "f" ∷ codes "--title" ∷ codes "t" ∷ codes "-u" ∷ codes "--senders"
+    ∷ codes "2" ∷ codes "--" ∷ codes "-x" ∷ []) (codes "d") (Some (codes "f"))
     (Some (codes "t")) true false 16000000 2 (codes "-x" ∷ []) ∷
-    asks (codes "--unchanged" ∷ codes "--debug-locks" ∷ codes "--title=" ∷ codes "--output=-" ∷ []) (codes ".") (Some (codes "-")) (Some []) true true 16000000 4 (codes "all" ∷ []) ∷
-    asks (codes "b" ∷ codes "--dir=" ∷ [] ∷ codes "--senders=64" ∷ codes "-" ∷ []) [] None None false false 16000000 64 (codes "b" ∷ [] ∷ codes "-" ∷ []) ∷
+    asks (codes "--unchanged" ∷ codes "--debug-locks" ∷ codes "--title=" ∷ codes "--output=-" ∷ []) (codes ".") (Some (codes "-"))
+    (Some []) true true 16000000 4 (codes "all" ∷ []) ∷
+    asks (codes "b" ∷ codes "--dir=" ∷ [] ∷ codes "--senders=64" ∷ codes "-" ∷ []) [] None None false false 16000000 64
+    (codes "b" ∷ [] ∷ codes "-" ∷ []) ∷
     asks (codes "--max-bytes" ∷ codes "0" ∷ []) (codes ".") None None false false 0 4 (codes "all" ∷ []) ∷
-    asks (codes "--max-bytes=18446744073709551615" ∷ codes "--senders=5" ∷ []) (codes ".") None None false false 18446744073709551615 5 (codes "all" ∷ []) ∷
+    asks (codes "--max-bytes=18446744073709551615" ∷ codes "--senders=5" ∷ []) (codes ".") None None false false 18446744073709551615 5
+    (codes "all" ∷ []) ∷
     []
 
 these_jobs : AllByRecursion (λ row. (fault_of_words row.words ≡ None) × (parse_parts row.words ≡ row.parts_are)) jobs

@@ -19,23 +19,30 @@ some_stream None P given = given
 some_stream (Some stream) P given = (stream, given)
 
 -- What holds of the stream of a reader holds of the stream of the log that it gives.
-of_log : (known contents : Option Stream) (P Q : Stream → Type 0) → Gives known contents → ((stream : Stream) → P stream → Q stream) → SomeStream contents P → SomeStream known Q
+of_log : (known contents : Option Stream) (P Q : Stream → Type 0) → Gives known contents → ((stream : Stream) → P stream → Q stream)
+    → SomeStream contents P → SomeStream known Q
 of_log None contents P Q gives weaker given = let found = some_stream contents P given in (found.0, weaker found.0 found.1)
 of_log (Some first) contents P Q gives weaker given = weaker first (subst (λ c. SomeStream c P) gives given)
 
 -- What holds of the streams of readers holds of the streams of the logs that they give.
-of_logs : (logs readers : List (Option Stream)) (P : List Stream → Type 0) → AllGive logs readers → SomeStreams readers P → SomeStreams logs P
+of_logs : (logs readers : List (Option Stream)) (P : List Stream → Type 0) → AllGive logs readers → SomeStreams readers P
+    → SomeStreams logs P
 of_logs [] [] P give given = given
 of_logs [] (reader ∷ readers) P give given = absurd give
 of_logs (log ∷ logs) [] P give given = absurd give
 of_logs (log ∷ logs) (reader ∷ readers) P give given =
-    of_log log reader (λ stream. SomeStreams readers (λ streams. P (stream ∷ streams))) (λ stream. SomeStreams logs (λ streams. P (stream ∷ streams))) give.0
+    of_log log reader (λ stream. SomeStreams readers (λ streams. P (stream ∷ streams)))
+    (λ stream. SomeStreams logs (λ streams. P (stream ∷ streams))) give.0
     (λ stream some. of_logs logs readers (λ streams. P (stream ∷ streams)) give.1 some) given
 
 -- The times of readers are times of the logs that they give.
-pub times_of_logs : {A : Type 0} (contents : A → Option Stream) (known : ℕ → Option Stream) (index : List IndexEntry) (readers : List A) (times : List Times)
-    → AllGive (known_logs known index) (map contents readers) → AreTimesOfReaders byte_limit (listed_targets index) (map contents readers) times → AreTimesOfLogs known index times
-times_of_logs contents known index readers times give given = of_logs (known_logs known index) (map contents readers) (λ streams. times ≡ times_of_all byte_limit (listed_targets index) streams) give given
+pub times_of_logs : {A : Type 0} (contents : A → Option Stream) (known : ℕ → Option Stream) (index : List IndexEntry) (readers : List A)
+    (times : List Times)
+    → AllGive (known_logs known index) (map contents readers)
+    → AreTimesOfReaders byte_limit (listed_targets index) (map contents readers) times → AreTimesOfLogs known index times
+times_of_logs contents known index readers times give given =
+    of_logs (known_logs known index) (map contents readers)
+    (λ streams. times ≡ times_of_all byte_limit (listed_targets index) streams) give given
 
 -- A stream of a log: the known one, if there is one.
 abbrev stream_or_empty : Option Stream → Stream
@@ -48,17 +55,20 @@ some_log (Some stream) P given = given
 
 some_logs : (logs : List (Option Stream)) (P : List Stream → Type 0) → P (map stream_or_empty logs) → SomeStreams logs P
 some_logs [] P given = given
-some_logs (log ∷ logs) P given = some_log log (λ stream. SomeStreams logs (λ streams. P (stream ∷ streams))) (some_logs logs (λ streams. P (stream_or_empty log ∷ streams)) given)
+some_logs (log ∷ logs) P given = some_log log (λ stream. SomeStreams logs (λ streams. P (stream ∷ streams)))
+    (some_logs logs (λ streams. P (stream_or_empty log ∷ streams)) given)
 
 -- The times by these streams.
 abbrev some_times : (ℕ → Option Stream) → List IndexEntry → List Times
 some_times known index = times_of_all byte_limit (listed_targets index) (map stream_or_empty (known_logs known index))
 
 are_times : (known : ℕ → Option Stream) (index : List IndexEntry) → AreTimesOfLogs known index (some_times known index)
-are_times known index = some_logs (known_logs known index) (λ streams. some_times known index ≡ times_of_all byte_limit (listed_targets index) streams) refl
+are_times known index = some_logs (known_logs known index)
+    (λ streams. some_times known index ≡ times_of_all byte_limit (listed_targets index) streams) refl
 
 -- Running out of memory before the run writes nothing, whatever the times are.
-pub is_out_of_memory : (first second : ℕ → Option Stream) (job : PageParts) (index : List IndexEntry) (output : Option Output) (result : Result (Unit {0}) Failure)
+pub is_out_of_memory : (first second : ℕ → Option Stream) (job : PageParts) (index : List IndexEntry) (output : Option Output)
+    (result : Result (Unit {0}) Failure)
     → IsErrAnd result (λ failure. failure ≡ Memory) → IsPageWritten first second job index output output result
 is_out_of_memory first second job index output result is = record {
   times = some_times first index;

@@ -120,7 +120,35 @@ static UNTIMED: [ChartItem<'static>; 2] = [
 ];
 
 static HTML: &[u8] =
-    b"<svg role=\"img\" aria-label=\"A bar for each target, from its start to its end, in 2 lanes\" width=\"100%\" height=\"90\" font-size=\"11\"><g class=\"axis\" stroke=\"#8886\" fill=\"currentColor\" stroke-width=\".5\"><line x1=\"0.00%\" x2=\"0.00%\" y1=\"15\" y2=\"86\"></line><text x=\"0.00%\" y=\"11\">0</text><line x1=\"25.00%\" x2=\"25.00%\" y1=\"15\" y2=\"86\"></line><text x=\"25.00%\" y=\"11\" text-anchor=\"middle\">1 s</text><text x=\"98.76%\" y=\"11\" text-anchor=\"end\">&lt;^A&gt;</text></g><g class=\"w\" fill=\"#8886\"><a href=\"#t0\" tabindex=\"-1\"><svg x=\"0.00%\" y=\"20\" width=\"100.00%\" height=\"12\"><title>all, 4 s</title><rect width=\"100%\" height=\"12\"></rect><text x=\"4\" y=\"9\" fill=\"currentColor\">all</text></svg></a><a href=\"#t1\" tabindex=\"-1\"><svg x=\"0.05%\" y=\"34\" width=\"99.95%\" height=\"12\"><title>lib, exit 2</title><rect width=\"100%\" height=\"12\" class=\"f\" fill=\"#c62828\"></rect><text x=\"4\" y=\"9\" fill=\"#fff\">lib</text></svg></a></g><g class=\"k\" fill=\"#3a6ea5\"><a href=\"#t7\" tabindex=\"-1\"><rect x=\"12.34%\" y=\"54\" width=\"0.30%\" height=\"16\"><title>out/&lt;a&gt;&amp;\"b'.o, 0.01 s</title></rect></a><a href=\"#t8\" tabindex=\"-1\"><rect x=\"12.64%\" y=\"54\" width=\"7.00%\" height=\"16\" class=\"f\" fill=\"#c62828\"><title>&lt;/title&gt;\\xff</title></rect></a><a href=\"#t9\" tabindex=\"-1\"><svg x=\"20.00%\" y=\"72\" width=\"3.50%\" height=\"16\"><title>c, exit 1</title><rect width=\"100%\" height=\"16\" class=\"f\" fill=\"#c62828\"></rect><text x=\"4\" y=\"12\" fill=\"#fff\">a&lt;b&gt;&amp;</text></svg></a><a href=\"#t12\" tabindex=\"-1\"><svg x=\"23.50%\" y=\"72\" width=\"4.00%\" height=\"3\"><title>^[[1md</title><rect width=\"100%\" height=\"3\"></rect><text x=\"4\" y=\"0\" fill=\"#fff\">d^[[m</text></svg></a></g><g class=\"e\" fill=\"#8a6d3b\"><a href=\"#t18446744073709551615\" tabindex=\"-1\"><rect x=\"99.99%\" y=\"90\" width=\"0.10%\" height=\"14\"><title>e</title></rect></a><a href=\"#t13\" tabindex=\"-1\"><svg x=\"0.00%\" y=\"90\" width=\"3.50%\" height=\"14\"><title>f</title><rect width=\"100%\" height=\"14\"></rect><text x=\"4\" y=\"9\" fill=\"#fff\">f</text></svg></a></g></svg>";
+    b"<svg role=\"img\" aria-label=\"A bar for each target, from its start to its end, in 2 \
+        lanes\" width=\"100%\" height=\"90\" font-size=\"11\">\
+        <g class=\"axis\" stroke=\"#8886\" fill=\"currentColor\" stroke-width=\".5\">\
+        <line x1=\"0.00%\" x2=\"0.00%\" y1=\"15\" y2=\"86\"></line>\
+        <text x=\"0.00%\" y=\"11\">0</text><line x1=\"25.00%\" x2=\"25.00%\" y1=\"15\" y2=\"86\">\
+        </line><text x=\"25.00%\" y=\"11\" text-anchor=\"middle\">1 s</text>\
+        <text x=\"98.76%\" y=\"11\" text-anchor=\"end\">&lt;^A&gt;</text></g>\
+        <g class=\"w\" fill=\"#8886\"><a href=\"#t0\" tabindex=\"-1\">\
+        <svg x=\"0.00%\" y=\"20\" width=\"100.00%\" height=\"12\"><title>all, 4 s</title>\
+        <rect width=\"100%\" height=\"12\"></rect><text x=\"4\" y=\"9\" \
+        fill=\"currentColor\">all</text></svg></a><a href=\"#t1\" tabindex=\"-1\">\
+        <svg x=\"0.05%\" y=\"34\" width=\"99.95%\" height=\"12\"><title>lib, exit 2</title>\
+        <rect width=\"100%\" height=\"12\" class=\"f\" fill=\"#c62828\"></rect>\
+        <text x=\"4\" y=\"9\" fill=\"#fff\">lib</text></svg></a></g><g class=\"k\" fill=\"#3a6ea5\">\
+        <a href=\"#t7\" tabindex=\"-1\"><rect x=\"12.34%\" y=\"54\" width=\"0.30%\" height=\"16\">\
+        <title>out/&lt;a&gt;&amp;\"b'.o, 0.01 s</title></rect></a><a href=\"#t8\" tabindex=\"-1\">\
+        <rect x=\"12.64%\" y=\"54\" width=\"7.00%\" height=\"16\" class=\"f\" fill=\"#c62828\">\
+        <title>&lt;/title&gt;\\xff</title></rect></a><a href=\"#t9\" tabindex=\"-1\">\
+        <svg x=\"20.00%\" y=\"72\" width=\"3.50%\" height=\"16\"><title>c, exit 1</title>\
+        <rect width=\"100%\" height=\"16\" class=\"f\" fill=\"#c62828\"></rect>\
+        <text x=\"4\" y=\"12\" fill=\"#fff\">a&lt;b&gt;&amp;</text></svg></a>\
+        <a href=\"#t12\" tabindex=\"-1\"><svg x=\"23.50%\" y=\"72\" width=\"4.00%\" height=\"3\">\
+        <title>^[[1md</title><rect width=\"100%\" height=\"3\"></rect>\
+        <text x=\"4\" y=\"0\" fill=\"#fff\">d^[[m</text></svg></a></g>\
+        <g class=\"e\" fill=\"#8a6d3b\"><a href=\"#t18446744073709551615\" tabindex=\"-1\">\
+        <rect x=\"99.99%\" y=\"90\" width=\"0.10%\" height=\"14\"><title>e</title></rect></a>\
+        <a href=\"#t13\" tabindex=\"-1\"><svg x=\"0.00%\" y=\"90\" width=\"3.50%\" height=\"14\">\
+        <title>f</title><rect width=\"100%\" height=\"14\"></rect>\
+        <text x=\"4\" y=\"9\" fill=\"#fff\">f</text></svg></a></g></svg>";
 
 /// Widths of meters, and their HTML.
 static METERS: [(u64, &[u8]); 4] = [
@@ -188,7 +216,9 @@ fn empty_chart_is_written(rt: HostRuntime) -> Result<(), Fail> {
     assert_eq!(&rt; write_chart(chart, &mut out), Ok(()));
     assert_eq!(&rt;
         out.bytes(),
-        b"<svg role=\"img\" aria-label=\"A bar for each target, from its start to its end, in 1 lane\" width=\"100%\" height=\"0\" font-size=\"11\"></svg>".as_slice()
+        b"<svg role=\"img\" aria-label=\"A bar for each target, from its start to its end, in 1 \
+            lane\" width=\"100%\" height=\"0\" font-size=\"11\"></svg>"
+            .as_slice()
     );
     Ok(())
 }
@@ -225,7 +255,17 @@ fn charts_are_pieces(rt: HostRuntime) -> Result<(), Fail> {
     assert_eq!(&rt; write_pieces(&pieces, &mut out), Ok(()));
     assert_eq!(&rt;
         out.bytes(),
-        b"<td class=\"m\"><svg width=\"100%\" height=\"10\" aria-hidden=\"true\"><rect width=\"0.05%\" height=\"10\" fill=\"#3a6ea5\"></rect></svg></td><div class=\"scroll\" tabindex=\"0\" role=\"region\" aria-labelledby=\"h-timeline\"><svg role=\"img\" aria-label=\"A bar for each target, from its start to its end, in 1 lane\" width=\"100%\" height=\"20\" font-size=\"11\"><g class=\"e\" fill=\"#8a6d3b\"><a href=\"#t18446744073709551615\" tabindex=\"-1\"><rect x=\"99.99%\" y=\"90\" width=\"0.10%\" height=\"14\"><title>e</title></rect></a><a href=\"#t13\" tabindex=\"-1\"><svg x=\"0.00%\" y=\"90\" width=\"3.50%\" height=\"14\"><title>f</title><rect width=\"100%\" height=\"14\"></rect><text x=\"4\" y=\"9\" fill=\"#fff\">f</text></svg></a></g></svg></div>".as_slice()
+        b"<td class=\"m\"><svg width=\"100%\" height=\"10\" aria-hidden=\"true\">\
+            <rect width=\"0.05%\" height=\"10\" fill=\"#3a6ea5\"></rect></svg></td>\
+            <div class=\"scroll\" tabindex=\"0\" role=\"region\" aria-labelledby=\"h-timeline\">\
+            <svg role=\"img\" aria-label=\"A bar for each target, from its start to its end, in 1 \
+            lane\" width=\"100%\" height=\"20\" font-size=\"11\"><g class=\"e\" fill=\"#8a6d3b\">\
+            <a href=\"#t18446744073709551615\" tabindex=\"-1\">\
+            <rect x=\"99.99%\" y=\"90\" width=\"0.10%\" height=\"14\"><title>e</title></rect></a>\
+            <a href=\"#t13\" tabindex=\"-1\"><svg x=\"0.00%\" y=\"90\" width=\"3.50%\" \
+            height=\"14\"><title>f</title><rect width=\"100%\" height=\"14\"></rect>\
+            <text x=\"4\" y=\"9\" fill=\"#fff\">f</text></svg></a></g></svg></div>"
+            .as_slice()
     );
     Ok(())
 }

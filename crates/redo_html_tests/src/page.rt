@@ -43,7 +43,11 @@ static PIECES: [Piece<'static>; 30] = [
 ];
 
 static PAGE: &[u8] =
-    b"<!doctype html><html lang=\"en\"><head><title>a &lt; b\\xff&lt;/title&gt;</title></head><body class=\"bad\"><h1>2 of 18446744073709551615 failed</h1><details open id=\"t0\"><summary><bdi>&lt;a.o&gt;</bdi></summary><pre>\n\n<span class=\"r\">a&amp;b</span></pre><span class=\"g\"><i>^[</i>[1</span>c</details><a href=\"#t12\"></a><article id=\"f7\"></article></body></html>";
+    b"<!doctype html><html lang=\"en\"><head><title>a &lt; b\\xff&lt;/title&gt;</title></head>\
+        <body class=\"bad\"><h1>2 of 18446744073709551615 failed</h1><details open id=\"t0\">\
+        <summary><bdi>&lt;a.o&gt;</bdi></summary><pre>\n\n\
+        <span class=\"r\">a&amp;b</span></pre><span class=\"g\"><i>^[</i>[1</span>c</details>\
+        <a href=\"#t12\"></a><article id=\"f7\"></article></body></html>";
 
 #[test]
 fn pieces_are_written_in_order(rt: HostRuntime) -> Result<(), Fail> {

@@ -17,7 +17,8 @@ abbrev pub FaultFreeFrom : List (List ℕ) → List (List ℕ) → Type 0
 FaultFreeFrom before [] = Unit {0}
 FaultFreeFrom before (line ∷ lines) = (fault_at before line ≡ None) × FaultFreeFrom (before ++ line ∷ []) lines
 
-fault_free_at : (before lines prefix : List (List ℕ)) (line : List ℕ) (after : List (List ℕ)) → FaultFreeFrom before lines → lines ≡ prefix ++ line ∷ after → fault_at (before ++ prefix) line ≡ None
+fault_free_at : (before lines prefix : List (List ℕ)) (line : List ℕ) (after : List (List ℕ)) → FaultFreeFrom before lines
+    → lines ≡ prefix ++ line ∷ after → fault_at (before ++ prefix) line ≡ None
 fault_free_at before [] [] line after fault_free is = absurd (cc)
 fault_free_at before [] (first ∷ prefix) line after fault_free is = absurd (cc)
 fault_free_at before (next ∷ lines) [] line after fault_free is =
@@ -32,10 +33,14 @@ fault_free_at before (next ∷ lines) (first ∷ prefix) line after fault_free i
 pub fault_free_lines : (lines : List (List ℕ)) → FaultFreeFrom [] lines → AreFaultFree lines
 fault_free_lines lines fault_free before line after is = fault_free_at [] lines before line after fault_free is
 
-fault_free_more : (before lines : List (List ℕ)) (line : List ℕ) → FaultFreeFrom before lines → fault_at (before ++ lines) line ≡ None → FaultFreeFrom before (lines ++ line ∷ [])
+fault_free_more : (before lines : List (List ℕ)) (line : List ℕ) → FaultFreeFrom before lines → fault_at (before ++ lines) line ≡ None
+    → FaultFreeFrom before (lines ++ line ∷ [])
 fault_free_more before [] line fault_free is = (ap (λ b. fault_at b line) (sym (append-nil before)) ∙ is, tt)
-fault_free_more before (next ∷ lines) line fault_free is =
-    (fault_free.0, fault_free_more (before ++ next ∷ []) lines line fault_free.1 (ap (λ b. fault_at b line) (append_assoc before (next ∷ []) lines) ∙ is))
+fault_free_more before (next ∷ lines) line fault_free is = (
+  fault_free.0,
+  fault_free_more (before ++ next ∷ []) lines line fault_free.1
+      (ap (λ b. fault_at b line) (append_assoc before (next ∷ []) lines) ∙ is),
+)
 
 -- The state of reading an index: no line before `left` is rejected, and `numbers` and `entries` store what these lines list.
 pub record SoFar (bytes left : List ℕ) (numbers : List ℕ) (entries : List (List ℕ × TargetLog)) : Type 0 where
@@ -56,7 +61,9 @@ nothing_yet bytes = record {
 
 module _ (bytes left : List ℕ) (numbers : List ℕ) (entries : List (List ℕ × TargetLog)) (so_far : SoFar bytes left numbers entries) where
   module _ (line suffix : List ℕ) (first : all_lines left ≡ line ∷ all_lines suffix) where
-    pub rejected_here : (fault : IndexFault) → fault_after (length (parse_lines so_far.before)) (parse_lines so_far.before) (parse_line line) ≡ Some fault → IsRejected (all_lines bytes) fault
+    pub rejected_here : (fault : IndexFault)
+        → fault_after (length (parse_lines so_far.before)) (parse_lines so_far.before) (parse_line line) ≡ Some fault
+        → IsRejected (all_lines bytes) fault
     rejected_here fault fault_is = record {
       before = so_far.before;
       line = line;
@@ -66,28 +73,44 @@ module _ (bytes left : List ℕ) (numbers : List ℕ) (entries : List (List ℕ 
       fault_is = ap (λ n. fault_after n (parse_lines so_far.before) (parse_line line)) (sym so_far.count) ∙ fault_is;
     }
 
-    pub one_more : (numbers' : List ℕ) (entries' : List (List ℕ × TargetLog)) → HoldMore (parse_lines so_far.before) line numbers' entries' → SoFar bytes suffix numbers' entries'
+    pub one_more : (numbers' : List ℕ) (entries' : List (List ℕ × TargetLog)) → HoldMore (parse_lines so_far.before) line numbers' entries'
+        → SoFar bytes suffix numbers' entries'
     one_more numbers' entries' lists =
         let own : parse_lines (line ∷ []) ≡ lists.last ∷ [] = ap (λ e. cons_option e []) lists.form in
         let more : parse_lines (so_far.before ++ line ∷ []) ≡ parse_lines so_far.before ++ lists.last ∷ [] =
         filter_map-append parse_line so_far.before (line ∷ []) ∙ ap (λ es. parse_lines so_far.before ++ es) own in
         let no_fault : fault_at so_far.before line ≡ None =
-        ap (λ n. fault_after n (parse_lines so_far.before) (parse_line line)) (sym so_far.count) ∙ ap (fault_after (length (parse_lines so_far.before)) (parse_lines so_far.before)) lists.form ∙ lists.no_fault in
+        ap (λ n. fault_after n (parse_lines so_far.before) (parse_line line)) (sym so_far.count)
+        ∙ ap (fault_after (length (parse_lines so_far.before)) (parse_lines so_far.before)) lists.form ∙ lists.no_fault in
         record {
           before = so_far.before ++ line ∷ [];
-          lines_are = so_far.lines_are ∙ ap (λ ls. so_far.before ++ ls) first ∙ sym (append_assoc so_far.before (line ∷ []) (all_lines suffix));
+          lines_are = so_far.lines_are ∙ ap (λ ls. so_far.before ++ ls) first
+              ∙ sym (append_assoc so_far.before (line ∷ []) (all_lines suffix));
           fault_free = fault_free_more [] so_far.before line so_far.fault_free no_fault;
-          count = omega (arith, ap length more, length-append (parse_lines so_far.before) (lists.last ∷ []), length-append so_far.before (line ∷ []), so_far.count);
+          count = omega (
+            arith,
+            ap length more,
+            length-append (parse_lines so_far.before) (lists.last ∷ []),
+            length-append so_far.before
+                (line ∷ []),
+            so_far.count,
+          );
           holds = subst (λ es. Hold numbers' entries' es) (sym more) lists.hold;
         }
 
   pub all_parsed : (length left == 0) ≡ true → AreFaultFree (all_lines bytes) × Hold numbers entries (parse_lines (all_lines bytes))
   all_parsed none_left =
       let none : left ≡ [] = nil_from_length left (eqb-true (length left) 0 none_left) in
-      let all : all_lines bytes ≡ so_far.before = so_far.lines_are ∙ ap (λ b. so_far.before ++ all_lines b) none ∙ ap (λ ls. so_far.before ++ ls) no_lines ∙ append-nil so_far.before in
-      (subst AreFaultFree (sym all) (fault_free_lines so_far.before so_far.fault_free), subst (λ ls. Hold numbers entries (parse_lines ls)) (sym all) so_far.holds)
+      let all : all_lines bytes ≡ so_far.before =
+      so_far.lines_are ∙ ap (λ b. so_far.before ++ all_lines b) none ∙ ap (λ ls. so_far.before ++ ls) no_lines
+      ∙ append-nil so_far.before in (
+        subst AreFaultFree (sym all) (fault_free_lines so_far.before so_far.fault_free),
+        subst (λ ls. Hold numbers entries (parse_lines ls))
+            (sym all) so_far.holds,
+      )
 
 -- A fault that `?` forwards.
-pub propagated : {X : Type 0} (result : Result X IndexFault) (given : IndexFault) (P : IndexFault → Type 0) → IsErrAnd result (λ fault. fault ≡ given) → P given → IfErr result P
+pub propagated : {X : Type 0} (result : Result X IndexFault) (given : IndexFault) (P : IndexFault → Type 0)
+    → IsErrAnd result (λ fault. fault ≡ given) → P given → IfErr result P
 propagated (Ok index) given P is p = tt
 propagated (Err fault) given P is p = subst P (sym is) p

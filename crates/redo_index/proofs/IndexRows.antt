@@ -59,16 +59,80 @@ lines =
 
 these_lines : AllByRecursion (λ row. parse_line row.line ≡ row.entry) lines
 unfolding reduce_suffix normal number parse_fields
-these_lines = (refl, (refl, (refl, (refl, (refl, (refl, (refl, (refl, (refl, (refl, (refl, (refl, (refl, (refl, (refl, (refl, (refl, (refl, (refl, (refl, (refl, (refl, (refl, (refl, tt))))))))))))))))))))))))
+these_lines = (
+  refl,
+  (
+    refl,
+    (
+      refl,
+      (
+        refl,
+        (
+          refl,
+          (
+            refl,
+            (
+              refl,
+              (
+                refl,
+                (
+                  refl,
+                  (
+                    refl,
+                    (
+                      refl,
+                      (
+                        refl,
+                        (
+                          refl,
+                          (
+                            refl,
+                            (refl, (refl, (refl, (refl, (refl, (refl, (refl, (refl, (refl, (refl, tt)))))))))),
+                          ),
+                        ),
+                      ),
+                    ),
+                  ),
+                ),
+              ),
+            ),
+          ),
+        ),
+      ),
+    ),
+  ),
+)
 
 -- The parts of two lines.
 unflagged_line : IsIndexLine (codes "1 a") (one 1 (codes "a"))
 unfolding reduce_suffix normal number
-unflagged_line = record { digits = codes "1"; name = codes "a"; whole = refl; form = record { digits_are = record { some = omega arith; few = omega arith; each = ((omega arith, omega arith), tt) }; first_not_0 = λ others same. let byte = ap (λ (bytes : List ℕ). get_or bytes 0 0) same in omega (arith, byte) }; number_is = refl; some = λ same. cc; target_is = refl }
+unflagged_line = record {
+  digits = codes "1";
+  name = codes "a";
+  whole = refl;
+  form = record {
+    digits_are = record { some = omega arith; few = omega arith; each = ((omega arith, omega arith), tt) };
+    first_not_0 = λ others same. let byte = ap (λ (bytes : List ℕ). get_or bytes 0 0) same in omega (arith, byte);
+  };
+  number_is = refl;
+  some = λ same. cc;
+  target_is = refl;
+}
 
 flagged_line : IsIndexLine (codes "!9 ./ a") (flagged 9 (codes " a"))
 unfolding reduce_suffix normal number
-flagged_line = record { digits = codes "9"; name = codes "./ a"; whole = refl; form = record { digits_are = record { some = omega arith; few = omega arith; each = ((omega arith, omega arith), tt) }; first_not_0 = λ others same. let byte = ap (λ (bytes : List ℕ). get_or bytes 0 0) same in omega (arith, byte) }; number_is = refl; some = λ same. cc; target_is = refl }
+flagged_line = record {
+  digits = codes "9";
+  name = codes "./ a";
+  whole = refl;
+  form = record {
+    digits_are = record { some = omega arith; few = omega arith; each = ((omega arith, omega arith), tt) };
+    first_not_0 = λ others same. let byte = ap (λ (bytes : List ℕ). get_or bytes 0 0) same in omega (arith, byte);
+  };
+  number_is = refl;
+  some = λ same. cc;
+  target_is = refl;
+}
 
 -- ---- why a line is rejected
 
@@ -100,7 +164,8 @@ unfolding reduce_suffix normal number parse_fields
 these_faults = (refl, (refl, (refl, (refl, (refl, (refl, (refl, (refl, (refl, (refl, tt))))))))))
 
 -- After 1,048,575 lines another line is rejected; after 1,048,574 it isn't.
-the_limit : (max_targets ≡ 1048575) × (fault_after 1048574 [] (Some (one 1 (codes "a"))) ≡ None) × (fault_after 1048575 [] (Some (one 1 (codes "a"))) ≡ Some TooMany)
+the_limit : (max_targets ≡ 1048575) × (fault_after 1048574 [] (Some (one 1 (codes "a"))) ≡ None)
+    × (fault_after 1048575 [] (Some (one 1 (codes "a"))) ≡ Some TooMany)
 the_limit = (refl, refl, refl)
 
 -- After 1,048,575 lines, a duplicate number is the cause and not the limit, and so is a duplicate name or a bad line.
@@ -117,7 +182,8 @@ no_lines_are_fault_free before line after same = absurd (let n = ap length same 
 
 one_line_is_fault_free : (only : List ℕ) → fault_at [] only ≡ None → AreFaultFree (only ∷ [])
 one_line_is_fault_free only is [] line after same = let e : line ≡ only = cc in rw e is
-one_line_is_fault_free only is (first ∷ before) line after same = absurd (let n = ap length same in omega (arith, n, length-append before (line ∷ after)))
+one_line_is_fault_free only is (first ∷ before) line after same =
+    absurd (let n = ap length same in omega (arith, n, length-append before (line ∷ after)))
 
 no_line : IsIndexOf [] []
 no_line = record { fault_free = no_lines_are_fault_free; lists = refl }
@@ -140,11 +206,25 @@ not_an_index is = let none : Some (BadLine 1) ≡ None = is.fault_free [] (codes
 
 first_line_rejected : IsRejected (codes "x" ∷ codes "1 b" ∷ []) (BadLine 1)
 unfolding reduce_suffix normal number parse_fields
-first_line_rejected = record { before = []; line = codes "x"; after = codes "1 b" ∷ []; lines_are = refl; fault_free_before = no_lines_are_fault_free; fault_is = refl }
+first_line_rejected = record {
+  before = [];
+  line = codes "x";
+  after = codes "1 b" ∷ [];
+  lines_are = refl;
+  fault_free_before = no_lines_are_fault_free;
+  fault_is = refl;
+}
 
 second_line_rejected : IsRejected (codes "1 a" ∷ codes "2 a" ∷ codes "x" ∷ []) (NameTwice 2)
 unfolding reduce_suffix normal number parse_fields
-second_line_rejected = record { before = codes "1 a" ∷ []; line = codes "2 a"; after = codes "x" ∷ []; lines_are = refl; fault_free_before = one_line_is_fault_free (codes "1 a") refl; fault_is = refl }
+second_line_rejected = record {
+  before = codes "1 a" ∷ [];
+  line = codes "2 a";
+  after = codes "x" ∷ [];
+  lines_are = refl;
+  fault_free_before = one_line_is_fault_free (codes "1 a") refl;
+  fault_is = refl;
+}
 
 -- The numbers, names and flags of an index, and its invariant.
 abbrev two : List IndexEntry
@@ -157,7 +237,8 @@ two_entries = (refl, refl, refl)
 abbrev three : List IndexEntry
 three = one 7 (codes "b") ∷ one 3 (codes "a") ∷ flagged 5 (codes "c") ∷ []
 
-three_told : (numbers_of three ≡ 7 ∷ 3 ∷ 5 ∷ []) × (listed_targets three ≡ codes "b" ∷ codes "a" ∷ codes "c" ∷ []) × (must_close_flags three ≡ false ∷ false ∷ true ∷ [])
+three_told : (numbers_of three ≡ 7 ∷ 3 ∷ 5 ∷ []) × (listed_targets three ≡ codes "b" ∷ codes "a" ∷ codes "c" ∷ [])
+    × (must_close_flags three ≡ false ∷ false ∷ true ∷ [])
 three_told = (refl, refl, refl)
 
 two_differ : IsIndex two

@@ -4,10 +4,12 @@ use Rattle.std.specs.Prelude.{codes}
 use Rattle.std.specs.List.{AllByRecursion}
 use Rattle.redo_line.specs.Decimal.{number, AreDigits, are_digits, number_of}
 
-digits : (are_digits 3 (codes "007") ≡ true) × (are_digits 3 (codes "1000") ≡ false) × (are_digits 3 [] ≡ false) × (are_digits 3 (codes "1/") ≡ false) × (are_digits 3 (codes ":1") ≡ false)
+digits : (are_digits 3 (codes "007") ≡ true) × (are_digits 3 (codes "1000") ≡ false) × (are_digits 3 [] ≡ false)
+    × (are_digits 3 (codes "1/") ≡ false) × (are_digits 3 (codes ":1") ≡ false)
 digits = (refl, refl, refl, refl, refl)
 
-numbers : (number_of 3 (codes "120") ≡ Some 120) × (number_of 3 (codes "007") ≡ Some 7) × (number_of 3 (codes "1x") ≡ None) × (number_of 2 (codes "120") ≡ None)
+numbers : (number_of 3 (codes "120") ≡ Some 120) × (number_of 3 (codes "007") ≡ Some 7) × (number_of 3 (codes "1x") ≡ None)
+    × (number_of 2 (codes "120") ≡ None)
 unfolding number
 numbers = (refl, refl, refl, refl)
 

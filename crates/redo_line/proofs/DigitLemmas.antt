@@ -12,7 +12,8 @@ pub leb-Decides : (a b : ℕ) → Decides (leb a b) (a ≤ b)
 leb-Decides a b = (leb-true a b, le-leb a b)
 
 -- A test of each element.
-pub list_all-Decides : {X : Type 0} (test : X → Bool) (P : X → Type 0) → ((x : X) → Decides (test x) (P x)) → (xs : List X) → Decides (list_all test xs) (AllByRecursion P xs)
+pub list_all-Decides : {X : Type 0} (test : X → Bool) (P : X → Type 0) → ((x : X) → Decides (test x) (P x)) → (xs : List X)
+    → Decides (list_all test xs) (AllByRecursion P xs)
 list_all-Decides test P each [] = (λ is. tt, λ holds. refl)
 list_all-Decides test P each (x ∷ xs) = Decides-and (test x) (list_all test xs) (each x) (list_all-Decides test P each xs)
 
@@ -24,9 +25,11 @@ digit-Decides byte = Decides-and (leb 48 byte) (leb byte 57) (leb-Decides 48 byt
 
 pub are_digits-Decides : (most : ℕ) (bytes : List ℕ) → Decides (are_digits most bytes) (AreDigits most bytes)
 are_digits-Decides most bytes =
-    let size = Decides-and (leb 1 (length bytes)) (leb (length bytes) most) (leb-Decides 1 (length bytes)) (leb-Decides (length bytes) most) in
+    let size = Decides-and (leb 1 (length bytes)) (leb (length bytes) most) (leb-Decides 1 (length bytes))
+    (leb-Decides (length bytes) most) in
     let each = list_all-Decides is_ascii_digit IsDigit digit-Decides bytes in
-    Decides-like (are_digits most bytes) (λ so. record { some = so.0.0; few = so.0.1; each = so.1 }) (λ are. ((are.some, are.few), are.each))
+    Decides-like (are_digits most bytes) (λ so. record { some = so.0.0; few = so.0.1; each = so.1 })
+    (λ are. ((are.some, are.few), are.each))
     (Decides-and (leb 1 (length bytes) && leb (length bytes) most) (list_all is_ascii_digit bytes) size each)
 
 each-free : (at : ℕ) (bytes : List ℕ) → (IsDigit at → ⊥) → AllByRecursion IsDigit bytes → HasNo at bytes

@@ -20,7 +20,9 @@ names = codes "cd/b"
 abbrev places : List EntryAt
 places = at.Texts 2 0 4 ∷ at.Mention 7 Made 0 1 ∷ at.Done 8 (pos 1) 1 4 ∷ at.Closing 9 (pos 0) ∷ at.Note 6 4 9 10 ∷ []
 
-stand_there : entries_at bytes names places ≡ Text (codes "ab") ∷ Text [] ∷ Mention 7 Made (codes "c") ∷ Done 8 (pos 1) (codes "d/b") ∷ Closing 9 (pos 0) ∷ Note 6 (codes "check") (codes "x") ∷ []
+stand_there : entries_at bytes names places
+    ≡ Text (codes "ab") ∷ Text [] ∷ Mention 7 Made (codes "c") ∷ Done 8 (pos 1) (codes "d/b") ∷ Closing 9 (pos 0)
+    ∷ Note 6 (codes "check") (codes "x") ∷ []
 unfolding split_lines ended
 stand_there = refl
 
@@ -32,7 +34,25 @@ are_within : AreWithin bytes names places
 unfolding reduce_suffix normal
 are_within = (
   (omega arith, omega arith, are_whole),
-  ((omega arith, omega arith, refl), ((omega arith, omega arith, refl), (tt, ((omega arith, omega arith, omega arith, ((λ is. absurd (cc)), ((λ is. absurd (cc)), ((λ is. absurd (cc)), ((λ is. absurd (cc)), ((λ is. absurd (cc)), tt))))), ((λ is. absurd (cc)), tt)), tt)))),
+  (
+    (omega arith, omega arith, refl),
+    (
+      (omega arith, omega arith, refl),
+      (
+        tt,
+        (
+          (
+            omega arith,
+            omega arith,
+            omega arith,
+            ((λ is. absurd (cc)), ((λ is. absurd (cc)), ((λ is. absurd (cc)), ((λ is. absurd (cc)), ((λ is. absurd (cc)), tt))))),
+            ((λ is. absurd (cc)), tt),
+          ),
+          tt,
+        ),
+      ),
+    ),
+  ),
 )
 
 -- Not `IsWithin`: lines whose last one isn't ended, one line too many, or none; offsets out of order, or past the end; line feeds
@@ -66,7 +86,11 @@ not_within = (
 
 no_name : (IsNameAt bytes names 1 0 → ⊥) × (IsNameAt bytes names 0 5 → ⊥) × (IsNameAt bytes (codes "./a") 0 3 → ⊥)
 unfolding reduce_suffix normal
-no_name = ((λ is. omega (arith, is.0)), (λ is. omega (arith, is.1)), (λ is. let same : Some (codes "a") ≡ Some (codes "./a") = is.2 in absurd (cc)))
+no_name = (
+  (λ is. omega (arith, is.0)),
+  (λ is. omega (arith, is.1)),
+  (λ is. let same : Some (codes "a") ≡ Some (codes "./a") = is.2 in absurd (cc)),
+)
 
 are_at : AreStoredAt bytes names (at.Texts 2 0 4 ∷ []) (Text (codes "ab") ∷ Text [] ∷ [])
 unfolding split_lines ended
@@ -87,7 +111,11 @@ not_at = (
 -- The buffers themselves.
 abbrev layout : List EntryAt → Layout
 layout places =
-    record { bytes = record { ref_ptr = (0, 0); now = bytes }; names = record { ref_ptr = (0, 0); now = names }; places = record { ref_ptr = (0, 0); now = places } }
+    record {
+      bytes = record { ref_ptr = (0, 0); now = bytes };
+      names = record { ref_ptr = (0, 0); now = names };
+      places = record { ref_ptr = (0, 0); now = places };
+    }
 
 laid_out : IsLayout (layout (at.Texts 2 0 4 ∷ at.Mention 7 Made 0 1 ∷ [])) (Text (codes "ab") ∷ Text [] ∷ Mention 7 Made (codes "c") ∷ [])
 unfolding split_lines ended reduce_suffix normal

@@ -39,7 +39,8 @@ module _ (target : List ℕ) (pid : ℕ) where
   abbrev done_written : List ℕ → ℤ → Option Entry
   done_written written status = option_and_then (done_named status) (normal (Some target) written)
 
-  done_cut : (text : List ℕ) (cut : Option (List ℕ × List ℕ)) (entry : Entry) (name : List ℕ) → split_once space text ≡ cut → done_entry target pid cut ≡ Some entry → IsEntryOfFields target kind.Done name pid text entry
+  done_cut : (text : List ℕ) (cut : Option (List ℕ × List ℕ)) (entry : Entry) (name : List ℕ) → split_once space text ≡ cut
+      → done_entry target pid cut ≡ Some entry → IsEntryOfFields target kind.Done name pid text entry
   done_cut text None entry name cut so = absurd (none-some entry so)
   done_cut text (Some parts) entry name cut so =
       option_and_then_some (done_written parts.1) (status_of parts.0) entry so (λ status is so_status.
@@ -55,13 +56,16 @@ module _ (target : List ℕ) (pid : ℕ) where
         entry_is = sym (same_Some (done_or_closing target pid status value) entry last);
       }))
 
-  says : (is : Kind) (name text : List ℕ) (entry : Entry) → entry_of_fields target is name pid text ≡ Some entry → IsEntryOfFields target is name pid text entry
+  says : (is : Kind) (name text : List ℕ) (entry : Entry) → entry_of_fields target is name pid text ≡ Some entry
+      → IsEntryOfFields target is name pid text entry
   says (kind.Mention how) name text entry so =
-      option_and_then_some (mention how) (normal (Some target) text) entry so (λ mentioned is last. (mentioned, is, sym (same_Some (Mention pid how mentioned) entry last)))
+      option_and_then_some (mention how) (normal (Some target) text) entry so
+      (λ mentioned is last. (mentioned, is, sym (same_Some (Mention pid how mentioned) entry last)))
   says kind.Done name text entry so = done_cut text (split_once space text) entry name refl so
   says kind.Note name text entry so = sym (same_Some (Note pid name text) entry so)
 
-  it_says : (is : Kind) (name text : List ℕ) (entry : Entry) → IsEntryOfFields target is name pid text entry → entry_of_fields target is name pid text ≡ Some entry
+  it_says : (is : Kind) (name text : List ℕ) (entry : Entry) → IsEntryOfFields target is name pid text entry
+      → entry_of_fields target is name pid text ≡ Some entry
   it_says (kind.Mention how) name text entry (mentioned, is, entry_is) = ap (option_and_then (mention how)) is ∙ ap Some (sym entry_is)
   it_says kind.Done name text entry says =
       ap (λ (bs : List ℕ). done_entry target pid (split_once space bs)) says.whole
@@ -84,7 +88,8 @@ module _ (target : List ℕ) (pid : ℕ) where
   says_fits kind.Note name text entry is = tt
 
   fits_says : (is : Kind) (name text : List ℕ) → FitsKind is text → (entry : Entry) × IsEntryOfFields target is name pid text entry
-  fits_says (kind.Mention how) name text fits = let value = has_normal (Some target) text fits in (Mention pid how value.0, (value.0, value.1, refl))
+  fits_says (kind.Mention how) name text fits = let value = has_normal (Some target) text fits in
+      (Mention pid how value.0, (value.0, value.1, refl))
   fits_says kind.Done name text fits =
       let value = has_normal (Some target) fits.name fits.some in (
         done_or_closing target pid fits.value value.0,
@@ -106,18 +111,21 @@ module _ (target : List ℕ) where
   abbrev of_fields : Fields → Option Entry
   of_fields fields = entry_of_fields target (kind_of fields.kind) fields.kind (number fields.pid) fields.text
 
-  record_read : (line bytes : List ℕ) (entry : Entry) → line ≡ record_prefix ++ bytes → record_entry target bytes ≡ Some entry → IsRecordEntry target line entry
+  record_read : (line bytes : List ℕ) (entry : Entry) → line ≡ record_prefix ++ bytes → record_entry target bytes ≡ Some entry
+      → IsRecordEntry target line entry
   unfolding record_entry
   record_read line bytes entry begins so =
       option_and_then_some of_fields (fields_of bytes) entry so (λ fields is last.
       let so_says = says target (number fields.pid) (kind_of fields.kind) fields.kind fields.text entry last in
       record {
         fields = fields;
-        fields_are = fields_record line bytes fields begins is (says_fits target (number fields.pid) (kind_of fields.kind) fields.kind fields.text entry so_says);
+        fields_are = fields_record line bytes fields begins is
+            (says_fits target (number fields.pid) (kind_of fields.kind) fields.kind fields.text entry so_says);
         says = so_says;
       })
 
-  record_is : (line bytes : List ℕ) (entry : Entry) → line ≡ record_prefix ++ bytes → IsRecordEntry target line entry → record_entry target bytes ≡ Some entry
+  record_is : (line bytes : List ℕ) (entry : Entry) → line ≡ record_prefix ++ bytes → IsRecordEntry target line entry
+      → record_entry target bytes ≡ Some entry
   unfolding record_entry
   record_is line bytes entry begins is =
       ap (option_and_then of_fields) (record_fields line bytes is.fields begins is.fields_are)
@@ -128,18 +136,25 @@ module _ (target : List ℕ) where
   unfolding entry_of
   candidate line bytes begins = ap (line_entry target line) (ap (after_prefix record_prefix) begins ∙ behind_front record_prefix bytes)
 
-  read_cut : (line : List ℕ) (cut : Option (List ℕ)) (entry : Entry) → after_prefix record_prefix line ≡ cut → line_entry target line cut ≡ Some entry → IsEntry target line true entry
+  read_cut : (line : List ℕ) (cut : Option (List ℕ)) (entry : Entry) → after_prefix record_prefix line ≡ cut
+      → line_entry target line cut ≡ Some entry → IsEntry target line true entry
   read_cut line None entry cut so =
-      inl ((λ is. none-some is.1.0 (sym cut ∙ ap (after_prefix record_prefix) is.1.1 ∙ behind_front record_prefix is.1.0)), sym (same_Some (Text line) entry so))
+      inl (
+        (λ is. none-some is.1.0 (sym cut ∙ ap (after_prefix record_prefix) is.1.1 ∙ behind_front record_prefix is.1.0)),
+        sym
+            (same_Some (Text line) entry so),
+      )
   read_cut line (Some bytes) entry cut so =
       let begins = front_whole record_prefix line bytes cut in inr ((refl, (bytes, begins)), record_read line bytes entry begins so)
 
-  pub entry_read : (line : List ℕ) (ended : Bool) (entry : Entry) → entry_of target line ended ≡ Some entry → IsEntry target line ended entry
+  pub entry_read : (line : List ℕ) (ended : Bool) (entry : Entry) → entry_of target line ended ≡ Some entry
+      → IsEntry target line ended entry
   unfolding entry_of
   entry_read line true entry so = read_cut line (after_prefix record_prefix line) entry refl so
   entry_read line false entry so = inl ((λ is. false≢true is.0), sym (same_Some (Text line) entry so))
 
-  text_cut : (line : List ℕ) (cut : Option (List ℕ)) → after_prefix record_prefix line ≡ cut → (IsCandidate line true → ⊥) → line_entry target line cut ≡ Some (Text line)
+  text_cut : (line : List ℕ) (cut : Option (List ℕ)) → after_prefix record_prefix line ≡ cut → (IsCandidate line true → ⊥)
+      → line_entry target line cut ≡ Some (Text line)
   text_cut line None cut none = refl
   text_cut line (Some bytes) cut none = absurd (none (refl, (bytes, front_whole record_prefix line bytes cut)))
 
@@ -155,5 +170,6 @@ module _ (target : List ℕ) where
       let begins = record_begins line fields is in
       let entry = fits_says target (number fields.pid) (kind_of fields.kind) fields.kind fields.text is.text_fits in
       let entry_is : entry_of target line true ≡ Some entry.0 =
-      candidate line begins.0 begins.1 ∙ record_is line begins.0 entry.0 begins.1 (record { fields = fields; fields_are = is; says = entry.1 }) in
+      candidate line begins.0 begins.1 ∙ record_is line begins.0 entry.0 begins.1
+      (record { fields = fields; fields_are = is; says = entry.1 }) in
       subst IsSome (sym entry_is) refl

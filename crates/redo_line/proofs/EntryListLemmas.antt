@@ -19,16 +19,19 @@ first_fault-append-none false line (Some entry ∷ xs) ys none =
     first_fault-append-none (closes (Some entry)) (line + 1) xs ys none ∙ ap (λ n. first_fault (closed_by (closes (Some entry)) xs) n ys) e
 
 -- A fault among the first entries is the fault of all.
-pub first_fault-append-some : (closed : Bool) (line : ℕ) (xs ys : List (Option Entry)) (fault : StreamFault) → first_fault closed line xs ≡ Some fault
+pub first_fault-append-some : (closed : Bool) (line : ℕ) (xs ys : List (Option Entry)) (fault : StreamFault)
+    → first_fault closed line xs ≡ Some fault
     → first_fault closed line (xs ++ ys) ≡ Some fault
 unfolding first_fault
 first_fault-append-some closed line [] ys fault some = absurd (cc)
 first_fault-append-some true line (entry ∷ xs) ys fault some = some
 first_fault-append-some false line (None ∷ xs) ys fault some = some
-first_fault-append-some false line (Some entry ∷ xs) ys fault some = first_fault-append-some (closes (Some entry)) (line + 1) xs ys fault some
+first_fault-append-some false line (Some entry ∷ xs) ys fault some =
+    first_fault-append-some (closes (Some entry)) (line + 1) xs ys fault some
 
 -- If all entries have no fault, the first of them have none.
-pub first_fault-front-none : (closed : Bool) (line : ℕ) (xs ys : List (Option Entry)) → first_fault closed line (xs ++ ys) ≡ None → first_fault closed line xs ≡ None
+pub first_fault-front-none : (closed : Bool) (line : ℕ) (xs ys : List (Option Entry)) → first_fault closed line (xs ++ ys) ≡ None
+    → first_fault closed line xs ≡ None
 unfolding first_fault
 first_fault-front-none closed line [] ys none = refl
 first_fault-front-none true line (entry ∷ xs) ys none = none
@@ -46,7 +49,8 @@ pub first_fault-bad : (line : ℕ) (xs : List (Option Entry)) → first_fault fa
 unfolding first_fault
 first_fault-bad line xs = refl
 
-pub first_fault-fine : (line : ℕ) (entry : Entry) (xs : List (Option Entry)) → first_fault false line (Some entry ∷ xs) ≡ first_fault (closes (Some entry)) (line + 1) xs
+pub first_fault-fine : (line : ℕ) (entry : Entry) (xs : List (Option Entry))
+    → first_fault false line (Some entry ∷ xs) ≡ first_fault (closes (Some entry)) (line + 1) xs
 unfolding first_fault
 first_fault-fine line entry xs = refl
 
@@ -80,7 +84,8 @@ fault_within false line (Some entry ∷ xs) fault some =
     (behind.0 + 1, omega arith, next_place line behind.0 fault behind.2)
 
 -- If no line is invalid, each has an entry.
-pub each_some : (closed : Bool) (line : ℕ) (xs : List (Option Entry)) → first_fault closed line xs ≡ None → map Some (filter_map (λ entry. entry) xs) ≡ xs
+pub each_some : (closed : Bool) (line : ℕ) (xs : List (Option Entry)) → first_fault closed line xs ≡ None
+    → map Some (filter_map (λ entry. entry) xs) ≡ xs
 unfolding first_fault
 each_some closed line [] none = refl
 each_some true line (entry ∷ xs) none = absurd (cc)

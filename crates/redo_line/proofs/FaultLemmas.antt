@@ -22,7 +22,8 @@ rest_entries target last = map (λ line. entry_of target line false) (option_to_
 
 -- The entries of bytes and more bytes: the entries of the lines that ended before, and the entries of the remainder with the more
 -- bytes.
-pub entries_of-append : (target bytes more : List ℕ) → entries_of target (bytes ++ more) ≡ line_entries target (ended bytes) ++ entries_of target (rest bytes ++ more)
+pub entries_of-append : (target bytes more : List ℕ)
+    → entries_of target (bytes ++ more) ≡ line_entries target (ended bytes) ++ entries_of target (rest bytes ++ more)
 entries_of-append target bytes more =
     let behind = rest bytes ++ more in
     ap (λ lines. line_entries target lines ++ rest_entries target (rest (bytes ++ more))) (ended-append bytes more)
@@ -31,18 +32,21 @@ entries_of-append target bytes more =
     ∙ append_assoc (line_entries target (ended bytes)) (line_entries target (ended behind)) (rest_entries target (rest behind))
 
 -- Any byte after the line that closes the log has a fault.
-late : (target : List ℕ) (line byte : ℕ) (bytes : List ℕ) (lines : List (List ℕ)) (last : List ℕ) → byte ∷ bytes ≡ flat_map with_line_feed lines ++ last
+late : (target : List ℕ) (line byte : ℕ) (bytes : List ℕ) (lines : List (List ℕ)) (last : List ℕ)
+    → byte ∷ bytes ≡ flat_map with_line_feed lines ++ last
     → first_fault true line (line_entries target lines ++ rest_entries target last) ≡ Some (AfterClose line)
 unfolding first_fault
 late target line byte bytes [] [] whole = absurd (cc)
 late target line byte bytes [] (first ∷ last) whole = refl
 late target line byte bytes (first ∷ lines) last whole = refl
 
-pub late_byte : (target : List ℕ) (line byte : ℕ) (bytes : List ℕ) → first_fault true line (entries_of target (byte ∷ bytes)) ≡ Some (AfterClose line)
+pub late_byte : (target : List ℕ) (line byte : ℕ) (bytes : List ℕ)
+    → first_fault true line (entries_of target (byte ∷ bytes)) ≡ Some (AfterClose line)
 late_byte target line byte bytes = late target line byte bytes (ended (byte ∷ bytes)) (rest (byte ∷ bytes)) (are_lines (byte ∷ bytes)).whole
 
 -- The fault of an unended line stays, whatever bytes follow it.
-pub rest_fault-append : (target : List ℕ) (closed : Bool) (line : ℕ) (last more : List ℕ) (fault : StreamFault) → first_fault closed line (rest_entries target last) ≡ Some fault
+pub rest_fault-append : (target : List ℕ) (closed : Bool) (line : ℕ) (last more : List ℕ) (fault : StreamFault)
+    → first_fault closed line (rest_entries target last) ≡ Some fault
     → first_fault closed line (entries_of target (last ++ more)) ≡ Some fault
 unfolding first_fault entry_of
 rest_fault-append target closed line [] more fault some = absurd (cc)
@@ -50,7 +54,8 @@ rest_fault-append target true line (byte ∷ last) more fault some = late_byte t
 rest_fault-append target false line (byte ∷ last) more fault some = absurd (cc)
 
 -- The fault of a line stays, whatever bytes follow.
-pub line_fault-append : (target bytes more : List ℕ) (fault : StreamFault) → line_fault target bytes ≡ Some fault → line_fault target (bytes ++ more) ≡ Some fault
+pub line_fault-append : (target bytes more : List ℕ) (fault : StreamFault) → line_fault target bytes ≡ Some fault
+    → line_fault target (bytes ++ more) ≡ Some fault
 line_fault-append target bytes more fault some =
     ap (first_fault false 1) (entries_of-append target bytes more) ∙ by (first_fault false 1 (line_entries target (ended bytes))) refl
   where
@@ -78,24 +83,28 @@ Early target max_bytes bytes fault =
     (line_fault target (take max_bytes bytes) ≡ Some fault)
     ⊎ ((line_fault target (take max_bytes bytes) ≡ None) × (max_bytes < length bytes) × (fault ≡ TooLong))
 
-ending_early : (over failed : Bool) (fault : StreamFault) → fault ≢ Read → cond over (Some TooLong) (cond failed (Some Read) None) ≡ Some fault → (over ≡ true) × (fault ≡ TooLong)
+ending_early : (over failed : Bool) (fault : StreamFault) → fault ≢ Read
+    → cond over (Some TooLong) (cond failed (Some Read) None) ≡ Some fault → (over ≡ true) × (fault ≡ TooLong)
 ending_early true failed fault other is = let same : fault ≡ TooLong = cc in (refl, same)
 ending_early false true fault other is = let same : fault ≡ Read = cc in absurd (other same)
 ending_early false false fault other is = absurd (cc)
 
-early : (target : List ℕ) (max_bytes : ℕ) (bytes : List ℕ) (failed : Bool) (fault : StreamFault) → fault ≢ Read → fault_of target max_bytes (stream_of bytes failed) ≡ Some fault
+early : (target : List ℕ) (max_bytes : ℕ) (bytes : List ℕ) (failed : Bool) (fault : StreamFault) → fault ≢ Read
+    → fault_of target max_bytes (stream_of bytes failed) ≡ Some fault
     → Early target max_bytes bytes fault
 early target max_bytes bytes failed fault other is = by (line_fault target (take max_bytes bytes)) refl
   where
     by : (among : Option StreamFault) → line_fault target (take max_bytes bytes) ≡ among → Early target max_bytes bytes fault
     by (Some first) among = inl (among ∙ sym (ap (λ o. or_else o (end_fault max_bytes (stream_of bytes failed))) among) ∙ is)
     by None among =
-        let ending = ending_early (ltb max_bytes (length bytes)) failed fault other (sym (ap (λ o. or_else o (end_fault max_bytes (stream_of bytes failed))) among) ∙ is) in
+        let ending = ending_early (ltb max_bytes (length bytes)) failed fault other
+        (sym (ap (λ o. or_else o (end_fault max_bytes (stream_of bytes failed))) among) ∙ is) in
         inr (among, ltb-true max_bytes (length bytes) ending.0, ending.1)
 
 -- So a fault that is known early is the fault of the whole stream, with the same entries before it.
 pub early_fault : (target : List ℕ) (max_bytes : ℕ) (bytes more : List ℕ) (failed fails : Bool) (fault : StreamFault) → fault ≢ Read
-    → fault_of target max_bytes (stream_of bytes failed) ≡ Some fault → fault_of target max_bytes (stream_of (bytes ++ more) fails) ≡ Some fault
+    → fault_of target max_bytes (stream_of bytes failed) ≡ Some fault
+    → fault_of target max_bytes (stream_of (bytes ++ more) fails) ≡ Some fault
 early_fault target max_bytes bytes more failed fails fault other is = by (early target max_bytes bytes failed fault other is)
   where
     by : Early target max_bytes bytes fault → fault_of target max_bytes (stream_of (bytes ++ more) fails) ≡ Some fault
@@ -107,7 +116,8 @@ early_fault target max_bytes bytes more failed fails fault other is = by (early 
         let same : take max_bytes (bytes ++ more) ≡ take max_bytes bytes = take-append-le max_bytes bytes more (omega arith) in
         let over : max_bytes < length (bytes ++ more) = omega (arith, length-append bytes more) in
         ap (λ o. or_else o (end_fault max_bytes (stream_of (bytes ++ more) fails))) (ap (line_fault target) same ∙ long.0)
-        ∙ ap (λ b. cond b (Some TooLong) (cond fails (Some Read) None)) (lt-ltb max_bytes (length (bytes ++ more)) over) ∙ ap Some (sym long.2)
+        ∙ ap (λ b. cond b (Some TooLong) (cond fails (Some Read) None)) (lt-ltb max_bytes (length (bytes ++ more)) over)
+        ∙ ap Some (sym long.2)
 
 pub not_a_read : (fault : StreamFault) → IsEarlyFault fault → fault ≢ Read
 not_a_read (BadRecord line) met is = absurd (cc)
@@ -121,9 +131,11 @@ not_a_read NotClosed met is = absurd met
 pub lines_before-append : (place : ℕ) (fault : StreamFault) (lines more : List (List ℕ)) → IsFaultAt 1 place fault → place ≤ length lines
     → lines_before (Some fault) (lines ++ more) ≡ lines_before (Some fault) lines
 lines_before-append place fault lines more (inl is) within =
-    ap (λ f. lines_before (Some f) (lines ++ more)) is ∙ take-append-le (1 + place - 1) lines more (omega arith) ∙ ap (λ f. lines_before (Some f) lines) (sym is)
+    ap (λ f. lines_before (Some f) (lines ++ more)) is ∙ take-append-le (1 + place - 1) lines more (omega arith)
+    ∙ ap (λ f. lines_before (Some f) lines) (sym is)
 lines_before-append place fault lines more (inr is) within =
-    ap (λ f. lines_before (Some f) (lines ++ more)) is ∙ take-append-le (1 + place - 1) lines more (omega arith) ∙ ap (λ f. lines_before (Some f) lines) (sym is)
+    ap (λ f. lines_before (Some f) (lines ++ more)) is ∙ take-append-le (1 + place - 1) lines more (omega arith)
+    ∙ ap (λ f. lines_before (Some f) lines) (sym is)
 
 -- A remainder is at most one line.
 rest_entries-few : (target last : List ℕ) → length (rest_entries target last) ≤ 1
@@ -131,7 +143,8 @@ rest_entries-few target [] = omega arith
 rest_entries-few target (byte ∷ last) = omega arith
 
 -- The invalid line is an ended line, or directly follows the ended lines.
-pub fault_line : (target bytes : List ℕ) (fault : StreamFault) → line_fault target bytes ≡ Some fault → (place : ℕ) × (place ≤ length (ended bytes)) × IsFaultAt 1 place fault
+pub fault_line : (target bytes : List ℕ) (fault : StreamFault) → line_fault target bytes ≡ Some fault
+    → (place : ℕ) × (place ≤ length (ended bytes)) × IsFaultAt 1 place fault
 fault_line target bytes fault some =
     let within = fault_within false 1 (entries_of target bytes) fault some in
     let inside = within.1 in
@@ -152,10 +165,13 @@ early_lines target max_bytes bytes more fault (inr long) =
     ap (λ front. lines_before (Some fault) (ended front)) same
 
 pub early_part : (target : List ℕ) (max_bytes : ℕ) (bytes more : List ℕ) (failed fails : Bool) (fault : StreamFault) → fault ≢ Read
-    → fault_of target max_bytes (stream_of bytes failed) ≡ Some fault → entries_before_fault target max_bytes (stream_of (bytes ++ more) fails) ≡ entries_before_fault target max_bytes (stream_of bytes failed)
+    → fault_of target max_bytes (stream_of bytes failed) ≡ Some fault
+    → entries_before_fault target max_bytes (stream_of (bytes ++ more) fails)
+    ≡ entries_before_fault target max_bytes (stream_of bytes failed)
 early_part target max_bytes bytes more failed fails fault other is =
     let entries = filter_map (λ line. entry_of target line true) in
-    ap (λ o. entries (lines_before o (ended (take max_bytes (bytes ++ more))))) (early_fault target max_bytes bytes more failed fails fault other is)
+    ap (λ o. entries (lines_before o (ended (take max_bytes (bytes ++ more)))))
+    (early_fault target max_bytes bytes more failed fails fault other is)
     ∙ ap entries (early_lines target max_bytes bytes more fault (early target max_bytes bytes failed fault other is))
     ∙ sym (ap (λ o. entries (lines_before o (ended (take max_bytes bytes)))) is)
 
@@ -178,11 +194,13 @@ no_fault target max_bytes stream none =
     (ap (line_fault target) (sym (take_all max_bytes stream.bytes within)) ∙ parts.0, within, ending.1)
 
 -- So a log has an entry for each line.
-pub an_entry_for_each_line : (target : List ℕ) (max_bytes : ℕ) (stream : Stream) (entries : List Entry) → log_of target max_bytes stream ≡ Some entries
+pub an_entry_for_each_line : (target : List ℕ) (max_bytes : ℕ) (stream : Stream) (entries : List Entry)
+    → log_of target max_bytes stream ≡ Some entries
     → map Some entries ≡ entries_of target stream.bytes
 an_entry_for_each_line target max_bytes stream entries is = by (fault_of target max_bytes stream) refl is
   where
-    by : (fault : Option StreamFault) → fault_of target max_bytes stream ≡ fault → unless_fault fault (filter_map (λ entry. entry) (entries_of target stream.bytes)) ≡ Some entries
+    by : (fault : Option StreamFault) → fault_of target max_bytes stream ≡ fault
+        → unless_fault fault (filter_map (λ entry. entry) (entries_of target stream.bytes)) ≡ Some entries
         → map Some entries ≡ entries_of target stream.bytes
     by (Some fault) fault_is log = absurd (cc)
     by None fault_is log =
@@ -190,7 +208,8 @@ an_entry_for_each_line target max_bytes stream entries is = by (fault_of target 
         ap (map Some) (sym same) ∙ each_some false 1 (entries_of target stream.bytes) (no_fault target max_bytes stream fault_is).0
 
 -- If a read fails after bytes without a fault, that is their fault, with the same entries before it.
-pub failed_read : (target : List ℕ) (max_bytes : ℕ) (bytes : List ℕ) → fault_of target max_bytes (stream_of bytes false) ≡ None → fault_of target max_bytes (stream_of bytes true) ≡ Some Read
+pub failed_read : (target : List ℕ) (max_bytes : ℕ) (bytes : List ℕ) → fault_of target max_bytes (stream_of bytes false) ≡ None
+    → fault_of target max_bytes (stream_of bytes true) ≡ Some Read
 failed_read target max_bytes bytes none =
     let parts = or_else-none (line_fault target (take max_bytes bytes)) (end_fault max_bytes (stream_of bytes false)) none in
     let within = (no_fault target max_bytes (stream_of bytes false) none).1 in
@@ -200,5 +219,6 @@ failed_read target max_bytes bytes none =
 pub failed_part : (target : List ℕ) (max_bytes : ℕ) (bytes : List ℕ) → fault_of target max_bytes (stream_of bytes false) ≡ None
     → entries_before_fault target max_bytes (stream_of bytes true) ≡ entries_before_fault target max_bytes (stream_of bytes false)
 failed_part target max_bytes bytes none =
-    let before = λ (o : Option StreamFault). filter_map (λ line. entry_of target line true) (lines_before o (ended (take max_bytes bytes))) in
+    let before = λ (o : Option StreamFault).
+    filter_map (λ line. entry_of target line true) (lines_before o (ended (take max_bytes bytes))) in
     ap before (failed_read target max_bytes bytes none) ∙ sym (ap before none)

@@ -56,14 +56,16 @@ module _ (bytes : List ℕ) where
           unfolding fields_of
           fields_are = rw (kind_is, pid_is, time_is, text_is)
 
-          pub fields_found : (value : ℕ) → is_kind kind ≡ true → pid_of pid ≡ Some value → is_time time ≡ true → option_map parts_of (fields_of bytes) ≡ Some (kind, value, text)
+          pub fields_found : (value : ℕ) → is_kind kind ≡ true → pid_of pid ≡ Some value → is_time time ≡ true
+              → option_map parts_of (fields_of bytes) ≡ Some (kind, value, text)
           fields_found value kind_fits pid_stands time_fits =
               let pid_is = cond_some (is_pid pid) (number pid) value pid_stands in
               let pid_fits : is_pid pid ≡ true = pid_is.0 in
               ap (option_map parts_of) fields_are ∙ rw (kind_fits, pid_fits, time_fits) (ap (λ (n : ℕ). Some (kind, n, text)) pid_is.1)
 
           -- The time of the same fields.
-          pub time_found : (value : ℕ) → is_kind kind ≡ true → pid_of pid ≡ Some value → is_time time ≡ true → option_map (λ (fields : Fields). fields.time) (fields_of bytes) ≡ Some time
+          pub time_found : (value : ℕ) → is_kind kind ≡ true → pid_of pid ≡ Some value → is_time time ≡ true
+              → option_map (λ (fields : Fields). fields.time) (fields_of bytes) ≡ Some time
           time_found value kind_fits pid_stands time_fits =
               let pid_fits : is_pid pid ≡ true = (cond_some (is_pid pid) (number pid) value pid_stands).0 in
               ap (option_map (λ (fields : Fields). fields.time)) fields_are ∙ rw (kind_fits, pid_fits, time_fits) refl
@@ -72,7 +74,8 @@ module _ (bytes : List ℕ) where
           fields_refused is = fields_are ∙ rw is
 
 -- The kind, the time and the text of fields of which they are known.
-pub timed_found : (found : Option Fields) (kind time text : List ℕ) (pid : ℕ) → option_map parts_of found ≡ Some (kind, pid, text) → option_map (λ (fields : Fields). fields.time) found ≡ Some time
+pub timed_found : (found : Option Fields) (kind time text : List ℕ) (pid : ℕ) → option_map parts_of found ≡ Some (kind, pid, text)
+    → option_map (λ (fields : Fields). fields.time) found ≡ Some time
     → option_map timed_parts found ≡ Some (kind, time, text)
 timed_found None kind time text pid parts is = absurd (cc)
 timed_found (Some fields) kind time text pid parts is =

@@ -25,14 +25,16 @@ module _ (p : Progress) (u : List ℕ) (after : IsAfter p u) (byte : ℕ) where
   one = byte ∷ []
 
   -- Within the limit and in a log that isn't closed, neither a line feed nor another byte has such a fault.
-  module _ (room : ℕ) (room_is : p.max_bytes - p.taken ≡ suc room) (closed : p.closed ≡ false) (fault : StreamFault) (late_or_too_long : IsAfterCloseOrTooLong fault)
+  module _ (room : ℕ) (room_is : p.max_bytes - p.taken ≡ suc room) (closed : p.closed ≡ false) (fault : StreamFault)
+      (late_or_too_long : IsAfterCloseOrTooLong fault)
       (is : fault_so_far p.target p.max_bytes (u ++ one) ≡ Some fault) where
     one_is : one ≡ take (p.max_bytes - p.taken) one
     one_is = sym (ap (λ n. take n one) room_is ∙ ap (λ b. byte ∷ b) (take-nil room))
 
     no_line : eqb byte line_feed ≡ false → ⊥
     no_line other =
-        let fine = (ends_none p u after one one one_is (p.kept ++ one) (cuts_none p.kept one (eqb-false byte line_feed other, tt)) (inl closed) refl).no_fault in
+        let fine = (ends_none p u after one one one_is (p.kept ++ one) (cuts_none p.kept one (eqb-false byte line_feed other, tt))
+        (inl closed) refl).no_fault in
         let none : None ≡ Some fault = sym fine ∙ is in
         absurd (cc)
 
@@ -44,10 +46,12 @@ module _ (p : Progress) (u : List ℕ) (after : IsAfter p u) (byte : ℕ) where
 
         by : (entry : Option Entry) → entry_of p.target (p.kept ++ []) true ≡ entry → ⊥
         by None none =
-            let told = (bad_refuses p u after one one one_is one [] ((p.kept ++ []) ∷ []) cut refl (p.kept ++ []) refl closed none).fault_is in
+            let told = (bad_refuses p u after one one one_is one [] ((p.kept ++ []) ∷ []) cut refl
+            (p.kept ++ []) refl closed none).fault_is in
             no_bad_record (subst IsAfterCloseOrTooLong (same_Some fault (BadRecord (p.lines + 1)) (sym is ∙ told)) late_or_too_long)
         by (Some entry) some =
-            let fine = (end_lines p u after one one one_is one [] ((p.kept ++ []) ∷ []) cut refl (entry ∷ []) (ap (λ e. e ∷ []) some) (one_fine p.closed (p.lines + 1) entry closed)).no_fault in
+            let fine = (end_lines p u after one one one_is one [] ((p.kept ++ []) ∷ []) cut refl (entry ∷ []) (ap (λ e. e ∷ []) some)
+            (one_fine p.closed (p.lines + 1) entry closed)).no_fault in
             let none : None ≡ Some fault = sym fine ∙ is in
             absurd (cc)
 
@@ -59,18 +63,23 @@ module _ (p : Progress) (u : List ℕ) (after : IsAfter p u) (byte : ℕ) where
         by false other = no_line other
 
   -- If a fault is known from the position of the byte, it is the fault of the bytes.
-  known_is : (known fault : StreamFault) → first_byte_fault p one ≡ Some known → fault_so_far p.target p.max_bytes (u ++ one) ≡ Some fault → first_byte_fault p one ≡ Some fault
-  known_is known fault told is = told ∙ sym (refuses_first p p refl u after one one (take (p.max_bytes - p.taken) one) 0 refl refl known told).fault_is ∙ is
+  known_is : (known fault : StreamFault) → first_byte_fault p one ≡ Some known → fault_so_far p.target p.max_bytes (u ++ one) ≡ Some fault
+      → first_byte_fault p one ≡ Some fault
+  known_is known fault told is = told
+      ∙ sym (refuses_first p p refl u after one one (take (p.max_bytes - p.taken) one) 0 refl refl known told).fault_is ∙ is
 
-  one_fault : (fault : StreamFault) → IsAfterCloseOrTooLong fault → fault_so_far p.target p.max_bytes (u ++ one) ≡ Some fault → first_byte_fault p one ≡ Some fault
+  one_fault : (fault : StreamFault) → IsAfterCloseOrTooLong fault → fault_so_far p.target p.max_bytes (u ++ one) ≡ Some fault
+      → first_byte_fault p one ≡ Some fault
   one_fault fault late_or_too_long is = by (p.max_bytes - p.taken) p.closed refl refl
     where
       by : (room : ℕ) (closed : Bool) → p.max_bytes - p.taken ≡ room → p.closed ≡ closed → first_byte_fault p one ≡ Some fault
       by zero closed room_is closed_is = known_is _ fault (ap (λ n. byte_fault n p.lines p.closed) room_is) is
-      by (suc room) true room_is closed_is = known_is _ fault (ap (λ n. byte_fault n p.lines p.closed) room_is ∙ ap (byte_fault (suc room) p.lines) closed_is) is
+      by (suc room) true room_is closed_is =
+          known_is _ fault (ap (λ n. byte_fault n p.lines p.closed) room_is ∙ ap (byte_fault (suc room) p.lines) closed_is) is
       by (suc room) false room_is closed_is = absurd (none_here room room_is closed_is fault late_or_too_long is)
 
-pub first_fault_known : (p : Progress) (u left : List ℕ) (fault : StreamFault) → IsAfter p u → IsAfterCloseOrTooLong fault → fault_so_far p.target p.max_bytes (u ++ take 1 left) ≡ Some fault
+pub first_fault_known : (p : Progress) (u left : List ℕ) (fault : StreamFault) → IsAfter p u → IsAfterCloseOrTooLong fault
+    → fault_so_far p.target p.max_bytes (u ++ take 1 left) ≡ Some fault
     → first_byte_fault p left ≡ Some fault
 first_fault_known p u [] fault after late_or_too_long is =
     let none : None ≡ Some fault = sym after.no_fault ∙ ap (fault_so_far p.target p.max_bytes) (sym (append-nil u)) ∙ is in
@@ -79,7 +88,10 @@ first_fault_known p u (byte ∷ left) fault after late_or_too_long is = one_faul
 
 -- The same for the model of a scan with this state.
 pub known_of : (p : Progress) (u left : List ℕ) (must_close : Bool) (refused : Option StreamFault) (seen : Scanned) (fault : StreamFault)
-    → record { target = p.target; max_bytes = p.max_bytes; must_close = must_close; bytes = u; failed_with = refused } ≡ seen → IsAfter p u → FirstByteIsPastEnd seen left fault → first_byte_fault p left ≡ Some fault
+    → record { target = p.target; max_bytes = p.max_bytes; must_close = must_close; bytes = u; failed_with = refused } ≡ seen → IsAfter p u
+    → FirstByteIsPastEnd seen left fault → first_byte_fault p left ≡ Some fault
 known_of p u left must_close refused seen fault seen_is after first =
-    let here : FirstByteIsPastEnd (record { target = p.target; max_bytes = p.max_bytes; must_close = must_close; bytes = u; failed_with = refused }) left fault = subst (λ (s : Scanned). FirstByteIsPastEnd s left fault) (sym seen_is) first in
+    let here : FirstByteIsPastEnd (record
+    { target = p.target; max_bytes = p.max_bytes; must_close = must_close; bytes = u; failed_with = refused }) left fault = subst
+    (λ (s : Scanned). FirstByteIsPastEnd s left fault) (sym seen_is) first in
     first_fault_known p u left fault after here.after_close_or_too_long here.fault_is

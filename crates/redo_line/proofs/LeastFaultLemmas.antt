@@ -33,16 +33,20 @@ AtFault closed line entries place fault =
 abbrev Fine : Bool → List (Option Entry) → ℕ → Type 0
 Fine closed entries place = (Late entries place closed → ⊥) × (Bad entries place → ⊥)
 
-next_place : (line place : ℕ) (entry : Entry) (entries : List (Option Entry)) (fault : StreamFault) → AtFault (closes (Some entry)) (line + 1) entries place fault
+next_place : (line place : ℕ) (entry : Entry) (entries : List (Option Entry)) (fault : StreamFault)
+    → AtFault (closes (Some entry)) (line + 1) entries place fault
     → AtFault false line (Some entry ∷ entries) (suc place) fault
-next_place line place entry entries fault (inl is) = let e : line + 1 + place ≡ line + suc place = omega arith in inl (is.0, is.1 ∙ ap AfterClose e)
-next_place line place entry entries fault (inr is) = let e : line + 1 + place ≡ line + suc place = omega arith in inr (is.0, is.1, is.2 ∙ ap BadRecord e)
+next_place line place entry entries fault (inl is) = let e : line + 1 + place ≡ line + suc place = omega arith in
+    inl (is.0, is.1 ∙ ap AfterClose e)
+next_place line place entry entries fault (inr is) = let e : line + 1 + place ≡ line + suc place = omega arith in
+    inr (is.0, is.1, is.2 ∙ ap BadRecord e)
 
 first_fine : (entry : Entry) (entries : List (Option Entry)) → Fine false (Some entry ∷ entries) 0
 first_fine entry entries = (λ is. absurd (false≢true is), λ is. absurd (cc))
 
 -- The fault that is found is the fault of the first invalid line.
-least_place : (closed : Bool) (line : ℕ) (entries : List (Option Entry)) (fault : StreamFault) → first_fault closed line entries ≡ Some fault
+least_place : (closed : Bool) (line : ℕ) (entries : List (Option Entry)) (fault : StreamFault)
+    → first_fault closed line entries ≡ Some fault
     → (place : ℕ) × AtFault closed line entries place fault × ((earlier : ℕ) → earlier < place → Fine closed entries earlier)
 unfolding first_fault
 least_place closed line [] fault some = absurd (cc)
@@ -58,12 +62,14 @@ least_place false line (Some entry ∷ entries) fault some =
     let behind = least_place (closes (Some entry)) (line + 1) entries fault some in
     (suc behind.0, next_place line behind.0 entry entries fault behind.1, by behind.0 behind.2)
   where
-    by : (place : ℕ) → ((earlier : ℕ) → earlier < place → Fine (closes (Some entry)) entries earlier) → (earlier : ℕ) → earlier < suc place → Fine false (Some entry ∷ entries) earlier
+    by : (place : ℕ) → ((earlier : ℕ) → earlier < place → Fine (closes (Some entry)) entries earlier) → (earlier : ℕ) → earlier < suc place
+        → Fine false (Some entry ∷ entries) earlier
     by place before zero below = first_fine entry entries
     by place before (suc earlier) below = before earlier (omega arith)
 
 -- If none is found, each line is valid.
-each_fine : (closed : Bool) (line : ℕ) (entries : List (Option Entry)) → first_fault closed line entries ≡ None → (place : ℕ) → Fine closed entries place
+each_fine : (closed : Bool) (line : ℕ) (entries : List (Option Entry)) → first_fault closed line entries ≡ None → (place : ℕ)
+    → Fine closed entries place
 unfolding first_fault
 each_fine closed line [] is place = (λ late. late, λ bad. bad)
 each_fine true line (entry ∷ entries) is place = absurd (cc)
@@ -76,8 +82,10 @@ each_fine false line (Some entry ∷ entries) is (suc place) = each_fine (closes
 abbrev all_entries : List ℕ → List (List ℕ) → List ℕ → List (Option Entry)
 all_entries target lines last = line_entries target lines ++ rest_entries target last
 
-late_line : (target : List ℕ) (lines : List (List ℕ)) (last : List ℕ) (closed : Bool) (place : ℕ) → Late (all_entries target lines last) (suc place) closed
-    → (closing : List ℕ) × (slice_get lines place ≡ Some closing) × (closes (entry_of target closing true) ≡ true) × (place + 1 < length (lines ++ option_to_list (unended last)))
+late_line : (target : List ℕ) (lines : List (List ℕ)) (last : List ℕ) (closed : Bool) (place : ℕ)
+    → Late (all_entries target lines last) (suc place) closed
+    → (closing : List ℕ) × (slice_get lines place ≡ Some closing) × (closes (entry_of target closing true) ≡ true)
+    × (place + 1 < length (lines ++ option_to_list (unended last)))
 late_line target [] [] closed place late = absurd late
 late_line target [] (byte ∷ last) closed place late = absurd late
 late_line target (line ∷ []) [] closed zero late = absurd late
@@ -87,8 +95,10 @@ late_line target (line ∷ lines) last closed (suc place) late =
     let behind = late_line target lines last (closes (entry_of target line true)) place late in
     (behind.0, behind.1, behind.2, let below = behind.3 in omega arith)
 
-line_late : (target : List ℕ) (lines : List (List ℕ)) (last : List ℕ) (closed : Bool) (place : ℕ) (closing : List ℕ) → slice_get lines place ≡ Some closing
-    → closes (entry_of target closing true) ≡ true → place + 1 < length (lines ++ option_to_list (unended last)) → Late (all_entries target lines last) (suc place) closed
+line_late : (target : List ℕ) (lines : List (List ℕ)) (last : List ℕ) (closed : Bool) (place : ℕ) (closing : List ℕ)
+    → slice_get lines place ≡ Some closing
+    → closes (entry_of target closing true) ≡ true → place + 1 < length (lines ++ option_to_list (unended last))
+    → Late (all_entries target lines last) (suc place) closed
 line_late target [] last closed place closing stands closes_it follows = absurd (cc)
 line_late target (line ∷ []) [] closed zero closing stands closes_it follows = absurd (omega arith)
 line_late target (line ∷ []) (byte ∷ last) closed zero closing stands closes_it follows =
@@ -110,7 +120,8 @@ bad_line target (line ∷ lines) last (suc place) bad = bad_line target lines la
 line_bad : (target : List ℕ) (lines : List (List ℕ)) (last : List ℕ) (place : ℕ) (text : List ℕ) → slice_get lines place ≡ Some text
     → entry_of target text true ≡ None → Bad (all_entries target lines last) place
 line_bad target [] last place text stands has_none = absurd (cc)
-line_bad target (line ∷ lines) last zero text stands has_none = let same : line ≡ text = cc in ap (λ l. entry_of target l true) same ∙ has_none
+line_bad target (line ∷ lines) last zero text stands has_none = let same : line ≡ text = cc in
+    ap (λ l. entry_of target l true) same ∙ has_none
 line_bad target (line ∷ lines) last (suc place) text stands has_none = line_bad target lines last place text stands has_none
 
 not_first : (entries : List (Option Entry)) → Late entries 0 false → ⊥
@@ -152,13 +163,15 @@ module _ (target bytes : List ℕ) where
       let number = is.line_is in
       (is.place, omega arith, line_bad target (ended bytes) (rest bytes) is.place is.text is.stands is.has_none)
 
-  not_at_fault : (line : ℕ) → ((place : ℕ) → line ≡ 1 + place → Fine false (entries_of target bytes) place) → (IsAfterClose target bytes line → ⊥) × (IsBadRecord target bytes line → ⊥)
+  not_at_fault : (line : ℕ) → ((place : ℕ) → line ≡ 1 + place → Fine false (entries_of target bytes) place)
+      → (IsAfterClose target bytes line → ⊥) × (IsBadRecord target bytes line → ⊥)
   not_at_fault line fine = (
     λ late. let is = from_late line late in (fine is.0 is.1).0 is.2,
     λ bad. let is = from_bad line bad in (fine is.0 is.1).1 is.2,
   )
 
-  at_fault : (place : ℕ) (fault : StreamFault) → AtFault false 1 (entries_of target bytes) place fault → HasFault target bytes (1 + place) fault
+  at_fault : (place : ℕ) (fault : StreamFault) → AtFault false 1 (entries_of target bytes) place fault
+      → HasFault target bytes (1 + place) fault
   at_fault place fault (inl is) = inl (to_late place is.0, is.1)
   at_fault place fault (inr is) = inr (
     λ late.
@@ -189,7 +202,8 @@ module _ (target bytes : List ℕ) where
   same_way line fault other (inr bad) (inl late) = absurd (bad.0 late.0)
   same_way line fault other (inr bad) (inr also) = bad.2 ∙ sym also.2
 
-  is_late_or_bad : (line : ℕ) (fault : StreamFault) → HasFault target bytes line fault → ((IsAfterClose target bytes line → ⊥) × (IsBadRecord target bytes line → ⊥)) → ⊥
+  is_late_or_bad : (line : ℕ) (fault : StreamFault) → HasFault target bytes line fault
+      → ((IsAfterClose target bytes line → ⊥) × (IsBadRecord target bytes line → ⊥)) → ⊥
   is_late_or_bad line fault (inl late) never = never.0 late.0
   is_late_or_bad line fault (inr bad) never = never.1 bad.1
 

@@ -10,7 +10,8 @@ abbrev step : Bool → ℕ → SplitLines → SplitLines
 step true byte after = record { lines = [] ∷ after.lines; last = after.last }
 step false byte after = prepend_byte byte after.lines after.last
 
-split_lines-cons : (byte : ℕ) (bytes : List ℕ) (is : Bool) → eqb byte line_feed ≡ is → split_lines (byte ∷ bytes) ≡ step is byte (split_lines bytes)
+split_lines-cons : (byte : ℕ) (bytes : List ℕ) (is : Bool) → eqb byte line_feed ≡ is
+    → split_lines (byte ∷ bytes) ≡ step is byte (split_lines bytes)
 unfolding split_lines
 split_lines-cons byte bytes true h = rw h
 split_lines-cons byte bytes false h = rw h
@@ -34,7 +35,8 @@ split_lines-append [] more = refl
 split_lines-append (byte ∷ bytes) more =
     let is = is_feed byte in
     split_lines-cons byte (bytes ++ more) is.0 is.1 ∙ ap (step is.0 byte) (split_lines-append bytes more)
-    ∙ step-then byte (split_lines bytes).lines (split_lines bytes).last more is.0 is.1 ∙ ap (λ c. then c more) (sym (split_lines-cons byte bytes is.0 is.1))
+    ∙ step-then byte (split_lines bytes).lines (split_lines bytes).last more is.0 is.1
+    ∙ ap (λ c. then c more) (sym (split_lines-cons byte bytes is.0 is.1))
 
 -- How bytes are split depends only on the remainder of the bytes before them.
 pub ended-append : (bytes more : List ℕ) → ended (bytes ++ more) ≡ ended bytes ++ ended (rest bytes ++ more)
@@ -61,11 +63,13 @@ unfolding rest
 rest-free bytes free = ap (λ c. c.last) (split_lines-free bytes free)
 
 -- A line and the bytes after it.
-split_lines-line : (line more : List ℕ) → HasNoLineFeed line → split_lines (line ++ line_feed ∷ more) ≡ record { lines = line ∷ ended more; last = rest more }
+split_lines-line : (line more : List ℕ) → HasNoLineFeed line
+    → split_lines (line ++ line_feed ∷ more) ≡ record { lines = line ∷ ended more; last = rest more }
 unfolding ended rest
 split_lines-line [] more free = split_lines-cons line_feed more true refl
 split_lines-line (byte ∷ line) more free =
-    split_lines-cons byte (line ++ line_feed ∷ more) false (ne_eqb byte line_feed free.0) ∙ ap (step false byte) (split_lines-line line more free.1)
+    split_lines-cons byte (line ++ line_feed ∷ more) false (ne_eqb byte line_feed free.0)
+    ∙ ap (step false byte) (split_lines-line line more free.1)
 
 pub ended-line : (line more : List ℕ) → HasNoLineFeed line → ended (line ++ line_feed ∷ more) ≡ line ∷ ended more
 unfolding ended rest
@@ -116,11 +120,13 @@ split_lines-joined : (lines : List (List ℕ)) (last : List ℕ) → AllByRecurs
 unfolding ended rest
 split_lines-joined [] last each free = split_lines-free last free
 split_lines-joined (line ∷ lines) last each free =
-    ap split_lines (append_assoc (with_line_feed line) (flat_map with_line_feed lines) last ∙ append_assoc line (line_feed ∷ []) (flat_map with_line_feed lines ++ last))
+    ap split_lines (append_assoc (with_line_feed line) (flat_map with_line_feed lines) last
+    ∙ append_assoc line (line_feed ∷ []) (flat_map with_line_feed lines ++ last))
     ∙ split_lines-line line (flat_map with_line_feed lines ++ last) each.0
     ∙ ap (λ c. record { lines = line ∷ c.lines; last = c.last }) (split_lines-joined lines last each.1 free)
 
-pub only_lines : (bytes : List ℕ) (lines : List (List ℕ)) (last : List ℕ) → AreLines bytes lines last → (lines ≡ ended bytes) × (last ≡ rest bytes)
+pub only_lines : (bytes : List ℕ) (lines : List (List ℕ)) (last : List ℕ) → AreLines bytes lines last
+    → (lines ≡ ended bytes) × (last ≡ rest bytes)
 unfolding ended rest
 only_lines bytes lines last are =
     let same = ap split_lines are.whole ∙ split_lines-joined lines last are.lines_hold_none are.rest_holds_none in

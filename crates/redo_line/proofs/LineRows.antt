@@ -17,7 +17,8 @@ an_unended_line : all_lines (codes "x") ≡ codes "x" ∷ []
 unfolding split_lines ended rest
 an_unended_line = refl
 
-a_line_and_a_rest : (ended (codes "abc" ++ line_feed ∷ codes "d") ≡ codes "abc" ∷ []) × (rest (codes "abc" ++ line_feed ∷ codes "d") ≡ codes "d")
+a_line_and_a_rest : (ended (codes "abc" ++ line_feed ∷ codes "d") ≡ codes "abc" ∷ [])
+    × (rest (codes "abc" ++ line_feed ∷ codes "d") ≡ codes "d")
 unfolding split_lines ended rest
 a_line_and_a_rest = (refl, refl)
 

@@ -50,7 +50,8 @@ logs =
     has_log (codes "b") most (closing ++ codes "z") (Done 7 (pos 0) (codes "a") ∷ Text (codes "z") ∷ []) ∷
     has_log (codes "a") 27 closing (Closing 7 (pos 0) ∷ []) ∷
     has_log (codes "all") 4 (line (codes "abc")) (Text (codes "abc") ∷ []) ∷
-    has_log (codes "d/a") most (line (codes "@@REDO:do:7:1@@ ../e//x") ++ line (codes "t")) (Mention 7 Made (codes "e/x") ∷ Text (codes "t") ∷ []) ∷
+    has_log (codes "d/a") most (line (codes "@@REDO:do:7:1@@ ../e//x") ++ line (codes "t"))
+    (Mention 7 Made (codes "e/x") ∷ Text (codes "t") ∷ []) ∷
     []
 
 these_logs : AllByRecursion (λ row. log_of row.target row.max_bytes (stream_of row.bytes false) ≡ Some row.log) logs
@@ -120,7 +121,8 @@ unfolding split_lines ended rest first_fault entry_of record_entry fields_of sta
 a_byte_too_many_is_refused_first = record { not_failed = refl; after_close_or_too_long = inr refl; fault_is = refl }
 
 -- Only the closing record closes the log.
-what_closes : (closes (Some (Closing 7 (pos 1))) ≡ true) × (closes (Some (Done 7 (pos 0) (codes "a"))) ≡ false) × (closes (Some (Note 7 (codes "done") (codes "a"))) ≡ false) × (closes (Some (Text closing)) ≡ false) × (closes None ≡ false)
+what_closes : (closes (Some (Closing 7 (pos 1))) ≡ true) × (closes (Some (Done 7 (pos 0) (codes "a"))) ≡ false)
+    × (closes (Some (Note 7 (codes "done") (codes "a"))) ≡ false) × (closes (Some (Text closing)) ≡ false) × (closes None ≡ false)
 what_closes = (refl, refl, refl, refl, refl)
 
 -- The lines before a fault, among three lines.

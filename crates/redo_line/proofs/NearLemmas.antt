@@ -8,7 +8,8 @@ abbrev Stands : ℕ → List ℕ → ℕ → Type 0
 Stands byte bytes k = Passes (is_byte byte) bytes k
 
 -- One more byte that isn't it.
-pub none_more : (byte : ℕ) (bytes : List ℕ) (at : ℕ) → Nowhere (Stands byte bytes) 0 at → (get_or bytes at 0 ≡ byte → ⊥) → Nowhere (Stands byte bytes) 0 (at + 1)
+pub none_more : (byte : ℕ) (bytes : List ℕ) (at : ℕ) → Nowhere (Stands byte bytes) 0 at → (get_or bytes at 0 ≡ byte → ⊥)
+    → Nowhere (Stands byte bytes) 0 (at + 1)
 none_more byte bytes at none is_none k low below is =
     elim (cases_order k at) [
       | inl same ↦ is_none (ap (λ (n : ℕ). get_or bytes n 0) (sym same) ∙ eqb-true (get_or bytes k 0) byte is)
@@ -32,12 +33,17 @@ module _ (byte : ℕ) (bytes left : List ℕ) (near : ℕ) (left_is : left ≡ d
       behind : near ≤ k → ⊥
       behind up =
           let place : near + (k - near) ≡ k = omega (arith, up) in
-          nowhere (k - near) zero-le (omega (arith, up, below)) (ap (λ (b : ℕ). eqb b byte) (read (k - near) ∙ ap (λ (m : ℕ). get_or bytes m 0) place) ∙ is)
+          nowhere (k - near) zero-le (omega (arith, up, below))
+          (ap (λ (b : ℕ). eqb b byte) (read (k - near) ∙ ap (λ (m : ℕ). get_or bytes m 0) place) ∙ is)
 
-  pub found_behind : (at : ℕ) → NoneBefore (Stands byte left) 0 (length left) at × Stands byte left at → NoneBefore (Stands byte bytes) 0 (length bytes) (near + at) × Stands byte bytes (near + at)
+  pub found_behind : (at : ℕ) → NoneBefore (Stands byte left) 0 (length left) at × Stands byte left at
+      → NoneBefore (Stands byte bytes) 0 (length bytes) (near + at) × Stands byte bytes (near + at)
   found_behind at found =
-      let size = ap length left_is ∙ length-drop near bytes in
-      (record { low = zero-le; high = omega (arith, size, found.0.high); before = none_upto at found.0.before }, ap (λ (b : ℕ). eqb b byte) (sym (read at)) ∙ found.1)
+      let size = ap length left_is ∙ length-drop near bytes in (
+        record { low = zero-le; high = omega (arith, size, found.0.high); before = none_upto at found.0.before },
+        ap (λ (b : ℕ). eqb b byte)
+            (sym (read at)) ∙ found.1,
+      )
 
   pub none_behind : near ≤ length bytes → Nowhere (Stands byte left) 0 (length left) → Nowhere (Stands byte bytes) 0 (length bytes)
   none_behind within nowhere =

@@ -35,51 +35,62 @@ abbrev pub cut_by : Bool → ℕ → List ℕ → Option (List ℕ × List ℕ) 
 cut_by is byte bytes cut = cond is (Some ([], bytes)) (option_map (onto byte) cut)
 
 parts_by : (at byte : ℕ) (bytes : List ℕ) (is : Bool) (cut : Option (List ℕ × List ℕ)) (parts : List ℕ × List ℕ) → eqb byte at ≡ is
-    → ((others : List ℕ × List ℕ) → cut ≡ Some others → AreParts at bytes others) → cut_by is byte bytes cut ≡ Some parts → AreParts at (byte ∷ bytes) parts
+    → ((others : List ℕ × List ℕ) → cut ≡ Some others → AreParts at bytes others) → cut_by is byte bytes cut ≡ Some parts
+    → AreParts at (byte ∷ bytes) parts
 parts_by at byte bytes true cut parts is sound so =
-    subst (AreParts at (byte ∷ bytes)) (same_Some ([], bytes) parts so) (record { whole = ap (λ (b : ℕ). b ∷ bytes) (eqb-true byte at is); free = tt })
+    subst (AreParts at (byte ∷ bytes)) (same_Some ([], bytes) parts so)
+    (record { whole = ap (λ (b : ℕ). b ∷ bytes) (eqb-true byte at is); free = tt })
 parts_by at byte bytes false None parts is sound so = absurd (none-some parts so)
 parts_by at byte bytes false (Some others) parts is sound so =
     let are = sound others refl in
-    subst (AreParts at (byte ∷ bytes)) (same_Some (onto byte others) parts so) (record { whole = ap (λ (bs : List ℕ). byte ∷ bs) are.whole; free = (eqb-false byte at is, are.free) })
+    subst (AreParts at (byte ∷ bytes)) (same_Some (onto byte others) parts so)
+    (record { whole = ap (λ (bs : List ℕ). byte ∷ bs) are.whole; free = (eqb-false byte at is, are.free) })
 
 -- The parts that `split_once` gives satisfy `AreParts`.
 pub are_parts : (at : ℕ) (bytes : List ℕ) (parts : List ℕ × List ℕ) → split_once at bytes ≡ Some parts → AreParts at bytes parts
 unfolding split_once
 are_parts at [] parts so = absurd (none-some parts so)
-are_parts at (byte ∷ bytes) parts so = parts_by at byte bytes (eqb byte at) (split_once at bytes) parts refl (λ others cut. are_parts at bytes others cut) so
+are_parts at (byte ∷ bytes) parts so =
+    parts_by at byte bytes (eqb byte at) (split_once at bytes) parts refl (λ others cut. are_parts at bytes others cut) so
 
-pub split_once-cons : (at byte : ℕ) (bytes : List ℕ) (is : Bool) → eqb byte at ≡ is → split_once at (byte ∷ bytes) ≡ cut_by is byte bytes (split_once at bytes)
+pub split_once-cons : (at byte : ℕ) (bytes : List ℕ) (is : Bool) → eqb byte at ≡ is
+    → split_once at (byte ∷ bytes) ≡ cut_by is byte bytes (split_once at bytes)
 unfolding split_once
 split_once-cons at byte bytes is h = ap (λ (b : Bool). cut_by b byte bytes (split_once at bytes)) h
 
 -- `split_once` gives such parts if they exist.
 pub parted_at : (at : ℕ) (a b : List ℕ) → HasNo at a → split_once at (a ++ at ∷ b) ≡ Some (a, b)
 parted_at at [] b free = split_once-cons at at b true (eq-eqb at at refl)
-parted_at at (byte ∷ a) b free = split_once-cons at byte (a ++ at ∷ b) false (ne_eqb byte at free.0) ∙ ap (option_map (onto byte)) (parted_at at a b free.1)
+parted_at at (byte ∷ a) b free = split_once-cons at byte (a ++ at ∷ b) false (ne_eqb byte at free.0)
+    ∙ ap (option_map (onto byte)) (parted_at at a b free.1)
 
 -- Without such a byte there are no parts.
 pub parted_free : (at : ℕ) (bytes : List ℕ) → HasNo at bytes → split_once at bytes ≡ None
 unfolding split_once
 parted_free at [] free = refl
-parted_free at (byte ∷ bytes) free = split_once-cons at byte bytes false (ne_eqb byte at free.0) ∙ ap (option_map (onto byte)) (parted_free at bytes free.1)
+parted_free at (byte ∷ bytes) free =
+    split_once-cons at byte bytes false (ne_eqb byte at free.0) ∙ ap (option_map (onto byte)) (parted_free at bytes free.1)
 
 -- The bytes after a prefix.
 pub behind_front : (front rest : List ℕ) → after_prefix front (front ++ rest) ≡ Some rest
 unfolding after_prefix
 behind_front [] rest = refl
-behind_front (byte ∷ front) rest = ap (λ (b : Bool). cond b (after_prefix front (front ++ rest)) None) (eq-eqb byte byte refl) ∙ behind_front front rest
+behind_front (byte ∷ front) rest = ap (λ (b : Bool). cond b (after_prefix front (front ++ rest)) None) (eq-eqb byte byte refl)
+    ∙ behind_front front rest
 
-front_by : (first byte : ℕ) (front bytes rest : List ℕ) (is : Bool) (found : Option (List ℕ)) → eqb first byte ≡ is → (found ≡ Some rest → bytes ≡ front ++ rest)
+front_by : (first byte : ℕ) (front bytes rest : List ℕ) (is : Bool) (found : Option (List ℕ)) → eqb first byte ≡ is
+    → (found ≡ Some rest → bytes ≡ front ++ rest)
     → cond is found None ≡ Some rest → byte ∷ bytes ≡ (first ∷ front) ++ rest
-front_by first byte front bytes rest true found is sound so = ap (λ (b : ℕ). b ∷ bytes) (sym (eqb-true first byte is)) ∙ ap (λ (bs : List ℕ). first ∷ bs) (sound so)
+front_by first byte front bytes rest true found is sound so =
+    ap (λ (b : ℕ). b ∷ bytes) (sym (eqb-true first byte is)) ∙ ap (λ (bs : List ℕ). first ∷ bs) (sound so)
 front_by first byte front bytes rest false found is sound so = absurd (none-some rest so)
 
 pub front_whole : (front bytes rest : List ℕ) → after_prefix front bytes ≡ Some rest → bytes ≡ front ++ rest
 unfolding after_prefix
 front_whole [] bytes rest so = same_Some bytes rest so
 front_whole (first ∷ front) [] rest so = absurd (none-some rest so)
-front_whole (first ∷ front) (byte ∷ bytes) rest so = front_by first byte front bytes rest (eqb first byte) (after_prefix front bytes) refl (front_whole front bytes rest) so
+front_whole (first ∷ front) (byte ∷ bytes) rest so =
+    front_by first byte front bytes rest (eqb first byte) (after_prefix front bytes) refl (front_whole front bytes rest) so
 
 -- Bytes without such a byte don't begin with it.
 pub behind_free : (at : ℕ) (bytes : List ℕ) → HasNo at bytes → after_prefix (at ∷ []) bytes ≡ None

@@ -21,7 +21,8 @@ kind_byte-Decides : (byte : ℕ) → Decides (is_kind_byte byte) (IsKindByte byt
 kind_byte-Decides byte =
     let letter = Decides-and (leb 97 byte) (leb byte 122) (leb-Decides 97 byte) (leb-Decides byte 122) in
     let other = Decides-or (eqb byte 45) (eqb byte 95) (Decides-eqb byte 45) (Decides-eqb byte 95) in
-    Decides-at (is_kind_byte byte) ((leb 97 byte && leb byte 122) || (eqb byte 45 || eqb byte 95)) (or_assoc (leb 97 byte && leb byte 122) (eqb byte 45) (eqb byte 95))
+    Decides-at (is_kind_byte byte) ((leb 97 byte && leb byte 122) || (eqb byte 45 || eqb byte 95))
+    (or_assoc (leb 97 byte && leb byte 122) (eqb byte 45) (eqb byte 95))
     (Decides-or (leb 97 byte && leb byte 122) (eqb byte 45 || eqb byte 95) letter other)
 
 abbrev AreKindBytes : List ℕ → Type 0
@@ -54,15 +55,18 @@ pid-Decides pid = Decides-and (are_digits 10 pid) (leb (number pid) max_pid) (ar
 time_cut : (time : List ℕ) (cut : Option (List ℕ × List ℕ)) → split_once period time ≡ cut → is_time_parts time cut ≡ true → IsTime time
 time_cut time None none is = inl ((are_digits-Decides 20 time).0 is)
 time_cut time (Some parts) cut is =
-    let each = (Decides-and (are_digits 20 parts.0) (are_digits 9 parts.1) (are_digits-Decides 20 parts.0) (are_digits-Decides 9 parts.1)).0 is in
+    let each = (Decides-and (are_digits 20 parts.0) (are_digits 9 parts.1) (are_digits-Decides 20 parts.0)
+    (are_digits-Decides 9 parts.1)).0 is in
     inr (parts.0, parts.1, (are_parts period time parts cut).whole, each.0, each.1)
 
 time_is : (time : List ℕ) → IsTime time → is_time time ≡ true
-time_is time (inl are) = ap (is_time_parts time) (parted_free period time (digits_free 20 period time refl are)) ∙ (are_digits-Decides 20 time).1 are
+time_is time (inl are) = ap (is_time_parts time) (parted_free period time (digits_free 20 period time refl are))
+    ∙ (are_digits-Decides 20 time).1 are
 time_is time (inr (seconds, fraction, whole, are, behind_point)) =
     let free = digits_free 20 period seconds refl are in
     ap (is_time_parts time) (ap (split_once period) whole ∙ parted_at period seconds fraction free)
-    ∙ (Decides-and (are_digits 20 seconds) (are_digits 9 fraction) (are_digits-Decides 20 seconds) (are_digits-Decides 9 fraction)).1 (are, behind_point)
+    ∙ (Decides-and (are_digits 20 seconds) (are_digits 9 fraction) (are_digits-Decides 20 seconds) (are_digits-Decides 9 fraction)).1
+    (are, behind_point)
 
 time-Decides : (time : List ℕ) → Decides (is_time time) (IsTime time)
 time-Decides time = (time_cut time (split_once period time) refl, time_is time)
@@ -77,7 +81,8 @@ time-free time (inr (seconds, fraction, whole, are, behind_point)) =
 
 -- A status.
 number_read : (most : ℕ) (bytes : List ℕ) (value : ℕ) → number_of most bytes ≡ Some value → AreDigits most bytes × (number bytes ≡ value)
-number_read most bytes value so = let both = cond_some (are_digits most bytes) (number bytes) value so in ((are_digits-Decides most bytes).0 both.0, both.1)
+number_read most bytes value so = let both = cond_some (are_digits most bytes) (number bytes) value so in
+    ((are_digits-Decides most bytes).0 both.0, both.1)
 
 number_is : (most : ℕ) (bytes : List ℕ) → AreDigits most bytes → number_of most bytes ≡ Some (number bytes)
 number_is most bytes are = cond-true (are_digits most bytes) (Some (number bytes)) None ((are_digits-Decides most bytes).1 are)
@@ -88,13 +93,20 @@ positive value = Some (pos value)
 abbrev negative : ℕ → Option ℤ
 negative value = Some (neg_ℤ (pos value))
 
-status_cut : (bytes : List ℕ) (cut : Option (List ℕ)) (status : ℤ) → after_prefix (minus ∷ []) bytes ≡ cut → signed_status bytes cut ≡ Some status → IsStatus bytes status
+status_cut : (bytes : List ℕ) (cut : Option (List ℕ)) (status : ℤ) → after_prefix (minus ∷ []) bytes ≡ cut
+    → signed_status bytes cut ≡ Some status → IsStatus bytes status
 status_cut bytes None status cut so = option_and_then_some positive (number_of 9 bytes) status so (λ value is last.
     let read = number_read 9 bytes value is in
     inl (read.0, sym (same_Some (pos value) status last) ∙ ap pos (sym read.1)))
 status_cut bytes (Some digits) status cut so = option_and_then_some negative (number_of 9 digits) status so (λ value is last.
     let read = number_read 9 digits value is in
-    inr (digits, front_whole (minus ∷ []) bytes digits cut, read.0, sym (same_Some (neg_ℤ (pos value)) status last) ∙ ap (λ (n : ℕ). neg_ℤ (pos n)) (sym read.1)))
+    inr (
+      digits,
+      front_whole (minus ∷ []) bytes digits cut,
+      read.0,
+      sym (same_Some (neg_ℤ (pos value)) status last)
+          ∙ ap (λ (n : ℕ). neg_ℤ (pos n)) (sym read.1),
+    ))
 
 -- `status_of` gives the status and no other value.
 pub status_read : (bytes : List ℕ) (status : ℤ) → status_of bytes ≡ Some status → IsStatus bytes status
@@ -178,10 +190,14 @@ fields_are : (bytes : List ℕ) (fields : Fields) → Writes bytes fields → fi
 unfolding fields_of
 fields_are bytes fields writes =
     let are = writes.1 in
-    ap (option_and_then at_kind) (ap (split_once colon) writes.0 ∙ parted_at colon fields.kind (behind_kind fields) (kind-free fields.kind are.0.0.1))
-    ∙ ap (option_and_then (at_pid (fields.kind, behind_kind fields))) (parted_at colon fields.pid (behind_pid fields) (digits_free 10 colon fields.pid refl are.0.1.0))
-    ∙ ap (option_and_then (at_time (fields.kind, behind_kind fields) (fields.pid, behind_pid fields))) (parted_at at_sign fields.time (behind_time fields) (time-free fields.time are.1))
-    ∙ ap (option_and_then (at_text (fields.kind, behind_kind fields) (fields.pid, behind_pid fields) (fields.time, behind_time fields))) (behind_front (at_sign ∷ space ∷ []) fields.text)
+    ap (option_and_then at_kind) (ap (split_once colon) writes.0
+    ∙ parted_at colon fields.kind (behind_kind fields) (kind-free fields.kind are.0.0.1))
+    ∙ ap (option_and_then (at_pid (fields.kind, behind_kind fields)))
+    (parted_at colon fields.pid (behind_pid fields) (digits_free 10 colon fields.pid refl are.0.1.0))
+    ∙ ap (option_and_then (at_time (fields.kind, behind_kind fields) (fields.pid, behind_pid fields)))
+    (parted_at at_sign fields.time (behind_time fields) (time-free fields.time are.1))
+    ∙ ap (option_and_then (at_text (fields.kind, behind_kind fields) (fields.pid, behind_pid fields) (fields.time, behind_time fields)))
+    (behind_front (at_sign ∷ space ∷ []) fields.text)
     ∙ cond-true (is_kind fields.kind && is_pid fields.pid && is_time fields.time) (Some fields) None ((fields-Decides fields).1 are)
 
 -- A line that is a record begins with the record prefix, and its fields are computed from the bytes after the prefix.
@@ -191,12 +207,16 @@ record_whole line fields is = is.whole ∙ simp append_assoc
 pub record_begins : (line : List ℕ) (fields : Fields) → IsRecord line fields → (bytes : List ℕ) × (line ≡ record_prefix ++ bytes)
 record_begins line fields is = (written fields, record_whole line fields is)
 
-pub record_fields : (line bytes : List ℕ) (fields : Fields) → line ≡ record_prefix ++ bytes → IsRecord line fields → fields_of bytes ≡ Some fields
+pub record_fields : (line bytes : List ℕ) (fields : Fields) → line ≡ record_prefix ++ bytes → IsRecord line fields
+    → fields_of bytes ≡ Some fields
 record_fields line bytes fields begins is =
-    fields_are bytes fields
-    (append_cancel_left record_prefix bytes (written fields) (sym begins ∙ record_whole line fields is), (((is.kind_some, is.kind_each), (is.pid_digits, is.pid_fits)), is.time_is))
+    fields_are bytes fields (
+      append_cancel_left record_prefix bytes (written fields) (sym begins ∙ record_whole line fields is),
+      (((is.kind_some, is.kind_each), (is.pid_digits, is.pid_fits)), is.time_is),
+    )
 
-pub fields_record : (line bytes : List ℕ) (fields : Fields) → line ≡ record_prefix ++ bytes → fields_of bytes ≡ Some fields → FitsKind (kind_of fields.kind) fields.text → IsRecord line fields
+pub fields_record : (line bytes : List ℕ) (fields : Fields) → line ≡ record_prefix ++ bytes → fields_of bytes ≡ Some fields
+    → FitsKind (kind_of fields.kind) fields.text → IsRecord line fields
 fields_record line bytes fields begins are fits =
     let writes = fields_read bytes fields are in
     record {
@@ -216,10 +236,12 @@ one_reading line fields others is also =
     same_Some fields others (sym (record_fields line begins.0 fields begins.1 is) ∙ record_fields line begins.0 others begins.1 also)
 
 -- The kind and the text of a record in a line contain no line feed.
-pub parts_free : (bytes kind : List ℕ) (pid : ℕ) (text : List ℕ) → HasNo line_feed bytes → option_map parts_of (fields_of bytes) ≡ Some (kind, pid, text) → HasNo line_feed kind × HasNo line_feed text
+pub parts_free : (bytes kind : List ℕ) (pid : ℕ) (text : List ℕ) → HasNo line_feed bytes
+    → option_map parts_of (fields_of bytes) ≡ Some (kind, pid, text) → HasNo line_feed kind × HasNo line_feed text
 parts_free bytes kind pid text free is = by (fields_of bytes) refl is
   where
-    by : (read : Option Fields) → fields_of bytes ≡ read → option_map parts_of read ≡ Some (kind, pid, text) → HasNo line_feed kind × HasNo line_feed text
+    by : (read : Option Fields) → fields_of bytes ≡ read → option_map parts_of read ≡ Some (kind, pid, text)
+        → HasNo line_feed kind × HasNo line_feed text
     by None read is = absurd (none-some (kind, pid, text) is)
     by (Some fields) read is =
         let same = same_Some (parts_of fields) (kind, pid, text) is in

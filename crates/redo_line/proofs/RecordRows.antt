@@ -77,7 +77,100 @@ rows =
 
 all_rows : AllByRecursion (λ row. entry_of (codes "all") row.line row.ended ≡ row.entry) rows
 unfolding entry_of record_entry fields_of status_of split_once after_prefix number normal reduce_suffix
-all_rows = (refl, (refl, (refl, (refl, (refl, (refl, (refl, (refl, (refl, (refl, (refl, (refl, (refl, (refl, (refl, (refl, (refl, (refl, (refl, (refl, (refl, (refl, (refl, (refl, (refl, (refl, (refl, (refl, (refl, (refl, (refl, (refl, (refl, (refl, (refl, (refl, (refl, (refl, (refl, (refl, tt))))))))))))))))))))))))))))))))))))))))
+all_rows = (
+  refl,
+  (
+    refl,
+    (
+      refl,
+      (
+        refl,
+        (
+          refl,
+          (
+            refl,
+            (
+              refl,
+              (
+                refl,
+                (
+                  refl,
+                  (
+                    refl,
+                    (
+                      refl,
+                      (
+                        refl,
+                        (
+                          refl,
+                          (
+                            refl,
+                            (
+                              refl,
+                              (
+                                refl,
+                                (
+                                  refl,
+                                  (
+                                    refl,
+                                    (
+                                      refl,
+                                      (
+                                        refl,
+                                        (
+                                          refl,
+                                          (
+                                            refl,
+                                            (
+                                              refl,
+                                              (
+                                                refl,
+                                                (
+                                                  refl,
+                                                  (
+                                                    refl,
+                                                    (
+                                                      refl,
+                                                      (
+                                                        refl,
+                                                        (
+                                                          refl,
+                                                          (
+                                                            refl,
+                                                            (
+                                                              refl,
+                                                              (refl, (refl, (refl, (refl, (refl, (refl, (refl, (refl, (refl, tt))))))))),
+                                                            ),
+                                                          ),
+                                                        ),
+                                                      ),
+                                                    ),
+                                                  ),
+                                                ),
+                                              ),
+                                            ),
+                                          ),
+                                        ),
+                                      ),
+                                    ),
+                                  ),
+                                ),
+                              ),
+                            ),
+                          ),
+                        ),
+                      ),
+                    ),
+                  ),
+                ),
+              ),
+            ),
+          ),
+        ),
+      ),
+    ),
+  ),
+)
 
 -- In the log of another target, names are relative to its directory.
 in_a_directory : entry_of (codes "d/a") (codes "@@REDO:do:7:1@@ ../e//x") true ≡ Some (Mention 7 Made (codes "e/x"))
@@ -96,11 +189,13 @@ not_by_the_name_as_written = refl
 kinds : (is_kind (codes "x-y_z") ≡ true) × (is_kind (codes "xY") ≡ false) × (is_kind [] ≡ false)
 kinds = (refl, refl, refl)
 
-times : (is_time (codes "1.5") ≡ true) × (is_time (codes ".5") ≡ false) × (is_time (codes "x.5") ≡ false) × (is_time (codes "1.5.5") ≡ false)
+times : (is_time (codes "1.5") ≡ true) × (is_time (codes ".5") ≡ false) × (is_time (codes "x.5") ≡ false)
+    × (is_time (codes "1.5.5") ≡ false)
 unfolding split_once
 times = (refl, refl, refl, refl)
 
-statuses : (status_of (codes "-123456789") ≡ Some (negsuc 123456788)) × (status_of (codes "-1234567890") ≡ None) × (status_of (codes "--1") ≡ None) × (status_of (codes "123456789") ≡ Some (pos 123456789))
+statuses : (status_of (codes "-123456789") ≡ Some (negsuc 123456788)) × (status_of (codes "-1234567890") ≡ None)
+    × (status_of (codes "--1") ≡ None) × (status_of (codes "123456789") ≡ Some (pos 123456789))
 unfolding status_of after_prefix number
 statuses = (refl, refl, refl, refl)
 

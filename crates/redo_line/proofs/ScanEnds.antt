@@ -27,7 +27,8 @@ long_early true fault is = ((λ read. absurd (cc)), (λ not_closed. absurd (cc))
 long_early false fault is = absurd (cc)
 
 -- The fault of the bytes so far, after which no read has failed, is early.
-so_far_early : (target : List ℕ) (max_bytes : ℕ) (bytes : List ℕ) (fault : StreamFault) → fault_of target max_bytes (so_far bytes) ≡ Some fault → IsEarly fault
+so_far_early : (target : List ℕ) (max_bytes : ℕ) (bytes : List ℕ) (fault : StreamFault)
+    → fault_of target max_bytes (so_far bytes) ≡ Some fault → IsEarly fault
 so_far_early target max_bytes bytes fault is = by (line_fault target (take max_bytes bytes)) refl
   where
     by : (among : Option StreamFault) → line_fault target (take max_bytes bytes) ≡ among → IsEarly fault
@@ -35,9 +36,11 @@ so_far_early target max_bytes bytes fault is = by (line_fault target (take max_b
         let same : Some first ≡ Some fault = sym (ap (λ o. or_else o (end_fault max_bytes (so_far bytes))) among) ∙ is in
         let at = fault_line target (take max_bytes bytes) fault (among ∙ same) in
         line_early 1 at.0 fault at.2
-    by None among = long_early (ltb max_bytes (length bytes)) fault (sym (ap (λ o. or_else o (end_fault max_bytes (so_far bytes))) among) ∙ is)
+    by None among = long_early (ltb max_bytes (length bytes)) fault
+        (sym (ap (λ o. or_else o (end_fault max_bytes (so_far bytes))) among) ∙ is)
 
-pub refused_early : (p : Progress) (u left : List ℕ) (fault : StreamFault) → (fault ≡ OutOfMemory) ⊎ FailsWith p u left fault → IsEarly fault
+pub refused_early : (p : Progress) (u left : List ℕ) (fault : StreamFault) → (fault ≡ OutOfMemory) ⊎ FailsWith p u left fault
+    → IsEarly fault
 refused_early p u left fault (inl memory) = ((λ read. absurd (cc)), (λ not_closed. absurd (cc)))
 refused_early p u left fault (inr refuses) = so_far_early p.target p.max_bytes (u ++ left) fault refuses.fault_is
 
@@ -52,18 +55,22 @@ rest_found target [] = refl
 rest_found target (byte ∷ last) = refl
 
 -- The entries found and the unended line are the log.
-pub whole_log : (p : Progress) (bytes : List ℕ) → IsAfter p bytes → log_of p.target p.max_bytes (so_far bytes) ≡ Some (entries_so_far p.target p.max_bytes bytes ++ option_to_list (unended_entry (unended (rest bytes))))
+pub whole_log : (p : Progress) (bytes : List ℕ) → IsAfter p bytes
+    → log_of p.target p.max_bytes (so_far bytes)
+    ≡ Some (entries_so_far p.target p.max_bytes bytes ++ option_to_list (unended_entry (unended (rest bytes))))
 whole_log p bytes after =
     ap (λ o. unless_fault o (filter_map (λ entry. entry) (entries_of p.target bytes))) after.no_fault
     ∙ ap Some (filter_map-append (λ entry. entry) (line_entries p.target (ended bytes)) (rest_entries p.target (rest bytes))
-    ∙ ap (λ es. es ++ filter_map (λ entry. entry) (rest_entries p.target (rest bytes))) (each_found p.target (ended bytes) ∙ sym (part_u p bytes after))
+    ∙ ap (λ es. es ++ filter_map (λ entry. entry) (rest_entries p.target (rest bytes)))
+    (each_found p.target (ended bytes) ∙ sym (part_u p bytes after))
     ∙ ap (λ es. entries_so_far p.target p.max_bytes bytes ++ es) (rest_found p.target (rest bytes)))
 
 -- The same, with the unended line as the code has it.
 pub log_with : (p : Progress) (bytes : List ℕ) (after : IsAfter p bytes) (last : Option (List ℕ)) → last ≡ unended p.kept
     → log_of p.target p.max_bytes (so_far bytes) ≡ Some (entries_so_far p.target p.max_bytes bytes ++ option_to_list (unended_entry last))
 log_with p bytes after last is =
-    whole_log p bytes after ∙ ap (λ o. Some (entries_so_far p.target p.max_bytes bytes ++ option_to_list (unended_entry o))) (sym (is ∙ ap unended after.kept_is))
+    whole_log p bytes after ∙ ap (λ o. Some (entries_so_far p.target p.max_bytes bytes ++ option_to_list (unended_entry o)))
+    (sym (is ∙ ap unended after.kept_is))
 
 -- Before the first byte.
 pub nothing_yet : (target : List ℕ) (max_bytes : ℕ) (kept : List ℕ) → kept ≡ []

@@ -27,11 +27,13 @@ scanned bytes refused = record { target = a; max_bytes = 9; must_close = true; b
 so_far_told : ((so_far (codes "x")).bytes ≡ codes "x") × ((so_far (codes "x")).fails ≡ false)
 so_far_told = (refl, refl)
 
-faults_so_far : (fault_so_far a 9 (line (codes "x") ++ codes "y") ≡ None) × (fault_so_far a 2 (line (codes "x") ++ codes "y") ≡ Some TooLong)
+faults_so_far : (fault_so_far a 9 (line (codes "x") ++ codes "y") ≡ None)
+    × (fault_so_far a 2 (line (codes "x") ++ codes "y") ≡ Some TooLong)
 unfolding split_lines ended rest first_fault entry_of record_entry split_once after_prefix
 faults_so_far = (refl, refl)
 
-entries_told : (entries_so_far a 9 (line (codes "x") ++ codes "y") ≡ Text (codes "x") ∷ []) × (entries_in (scanned (line (codes "x") ++ line (codes "y")) None) ≡ Text (codes "x") ∷ Text (codes "y") ∷ [])
+entries_told : (entries_so_far a 9 (line (codes "x") ++ codes "y") ≡ Text (codes "x") ∷ [])
+    × (entries_in (scanned (line (codes "x") ++ line (codes "y")) None) ≡ Text (codes "x") ∷ Text (codes "y") ∷ [])
 unfolding split_lines ended rest first_fault entry_of record_entry split_once after_prefix
 entries_told = (refl, refl)
 
@@ -60,7 +62,10 @@ ends_no_line = (
 -- Not `EndsNoLine`: bytes that end a line, or bytes with a fault.
 ends_none_of_these : (EndsNoLine a 9 [] (line (codes "x")) → ⊥) × (EndsNoLine a 0 [] (codes "x") → ⊥)
 unfolding split_lines ended rest first_fault entry_of record_entry split_once after_prefix
-ends_none_of_these = ((λ is. let same : codes "x" ∷ [] ≡ [] = is.lines in absurd (cc)), (λ is. let same : Some TooLong ≡ None = is.no_fault in absurd (cc)))
+ends_none_of_these = (
+  (λ is. let same : codes "x" ∷ [] ≡ [] = is.lines in absurd (cc)),
+  (λ is. let same : Some TooLong ≡ None = is.no_fault in absurd (cc)),
+)
 
 at_fault : HaveFault a 1 [] (line (codes "x")) TooLong
 unfolding split_lines ended rest first_fault entry_of record_entry split_once after_prefix
@@ -69,7 +74,10 @@ at_fault = record { fault_is = refl; entries = refl }
 -- Not `HaveFault`: another fault, or a fault with a further entry before it.
 at_no_fault : (HaveFault a 1 [] (line (codes "x")) (BadRecord 1) → ⊥) × (HaveFault a 2 [] (line (codes "x") ++ codes "y") TooLong → ⊥)
 unfolding split_lines ended rest first_fault entry_of record_entry split_once after_prefix
-at_no_fault = ((λ is. let same : Some TooLong ≡ Some (BadRecord 1) = is.fault_is in absurd (cc)), (λ is. let same : Text (codes "x") ∷ [] ≡ [] = is.entries in absurd (cc)))
+at_no_fault = (
+  (λ is. let same : Some TooLong ≡ Some (BadRecord 1) = is.fault_is in absurd (cc)),
+  (λ is. let same : Text (codes "x") ∷ [] ≡ [] = is.entries in absurd (cc)),
+)
 
 -- ---- what a scan returns
 
@@ -79,7 +87,10 @@ fine = record { not_failed = refl; no_fault = refl }
 
 not_fine : (IsFaultFree (scanned (codes "x") (Some TooLong)) → ⊥) × (IsFaultFree (scanned (codes "0123456789") None) → ⊥)
 unfolding split_lines ended rest first_fault entry_of record_entry split_once after_prefix
-not_fine = ((λ is. let same : Some TooLong ≡ None = is.not_failed in absurd (cc)), (λ is. let same : Some TooLong ≡ None = is.no_fault in absurd (cc)))
+not_fine = (
+  (λ is. let same : Some TooLong ≡ None = is.not_failed in absurd (cc)),
+  (λ is. let same : Some TooLong ≡ None = is.no_fault in absurd (cc)),
+)
 
 took_more : consume (codes "y") (scanned (codes "x") (Some TooLong)) ≡ scanned (codes "xy") None
 took_more = refl
@@ -95,7 +106,8 @@ finds = (refl, record { no_fault = refl; line = codes "xy"; lines_are = refl; no
 finds_nothing_else :
     (FindsEntry (scanned [] None) (scanned [] None) (line (codes "y")) (Text (codes "y")) → ⊥)
     × (FindsEntry (scanned [] None) (scanned (codes "x") None) (codes "x") (Text (codes "x")) → ⊥)
-    × (FindsEntry (scanned [] None) (record { target = a; max_bytes = 8; must_close = true; bytes = line (codes "y"); failed_with = None }) (line (codes "y")) (Text (codes "y")) → ⊥)
+    × (FindsEntry (scanned [] None) (record { target = a; max_bytes = 8; must_close = true; bytes = line (codes "y"); failed_with = None })
+    (line (codes "y")) (Text (codes "y")) → ⊥)
 unfolding split_lines ended rest first_fault entry_of record_entry split_once after_prefix
 finds_nothing_else = (
   (λ is. let bytes : [] ≡ line (codes "y") = ap (λ (scan : Scanned). scan.bytes) is.0 in absurd (cc)),
@@ -104,7 +116,8 @@ finds_nothing_else = (
 )
 
 -- One line after another entry, and two lines.
-finds_one : FindsEntries (scanned [] None) (scanned (line (codes "y")) None) (line (codes "y")) 1 (Text (codes "x") ∷ []) (Text (codes "x") ∷ Text (codes "y") ∷ [])
+finds_one : FindsEntries (scanned [] None) (scanned (line (codes "y")) None) (line (codes "y")) 1 (Text (codes "x") ∷ [])
+    (Text (codes "x") ∷ Text (codes "y") ∷ [])
 unfolding split_lines ended rest first_fault entry_of record_entry split_once after_prefix
 finds_one = record {
   more = Text (codes "y") ∷ [];
@@ -115,7 +128,8 @@ finds_one = record {
   put = refl;
 }
 
-finds_two : FindsEntries (scanned (codes "x") None) (scanned (line (codes "xy") ++ line []) None) (line (codes "y") ++ line []) 2 [] (Text (codes "xy") ∷ Text [] ∷ [])
+finds_two : FindsEntries (scanned (codes "x") None) (scanned (line (codes "xy") ++ line []) None) (line (codes "y") ++ line []) 2 []
+    (Text (codes "xy") ∷ Text [] ∷ [])
 unfolding split_lines ended rest first_fault entry_of record_entry split_once after_prefix
 finds_two = record {
   more = Text (codes "xy") ∷ Text [] ∷ [];
@@ -147,7 +161,8 @@ finds_no_other :
     × (FindsEntries (scanned [] None) (scanned [] None) [] 1 [] [] → ⊥)
     × (FindsEntries (scanned [] None) (scanned (line (codes "y")) None) (line (codes "y")) 1 [] (Text [] ∷ []) → ⊥)
     × (FindsEntries (scanned [] None) (scanned [] None) (line (codes "y")) 1 [] (Text (codes "y") ∷ []) → ⊥)
-    × (FindsEntries (scanned [] None) (scanned (line (codes "y")) None) (line (codes "y")) 1 (Text (codes "x") ∷ []) (Text (codes "y") ∷ []) → ⊥)
+    × (FindsEntries (scanned [] None) (scanned (line (codes "y")) None) (line (codes "y")) 1 (Text (codes "x") ∷ [])
+    (Text (codes "y") ∷ []) → ⊥)
 unfolding split_lines ended rest first_fault entry_of record_entry split_once after_prefix
 finds_no_other = (
   (λ is. let count = ap length is.put in omega (arith, count, is.few)),
@@ -185,10 +200,15 @@ may_refuse : MayFailWith (scanned [] None) (codes "x") OutOfMemory × MayFailWit
 unfolding split_lines ended rest first_fault entry_of record_entry split_once after_prefix
 may_refuse = (inl refl, inr (record { fault_is = refl; entries = refl }))
 
-refuses : FailsWith (scanned [] None) (scanned [] (Some TooLong)) (codes "0123456789") TooLong × FailsWith (scanned [] (Some TooLong)) (scanned [] (Some TooLong)) [] TooLong
+refuses : FailsWith (scanned [] None) (scanned [] (Some TooLong)) (codes "0123456789") TooLong
+    × FailsWith (scanned [] (Some TooLong)) (scanned [] (Some TooLong)) [] TooLong
 unfolding split_lines ended rest first_fault entry_of record_entry split_once after_prefix
 refuses = (
-  record { fault_stored = refl; may_fail = λ none. inr (record { fault_is = refl; entries = refl }); early = ((λ is. absurd (cc)), (λ is. absurd (cc))) },
+  record {
+    fault_stored = refl;
+    may_fail = λ none. inr (record { fault_is = refl; entries = refl });
+    early = ((λ is. absurd (cc)), (λ is. absurd (cc)));
+  },
   record { fault_stored = refl; may_fail = λ none. absurd (cc); early = ((λ is. absurd (cc)), (λ is. absurd (cc))) },
 )
 
@@ -200,7 +220,8 @@ refuses_no_other :
     × (FailsWith (scanned [] (Some Read)) (scanned [] (Some Read)) [] Read → ⊥)
     × (FailsWith (scanned [] (Some NotClosed)) (scanned [] (Some NotClosed)) [] NotClosed → ⊥)
     × (FailsWith (scanned [] None) (scanned [] None) [] OutOfMemory → ⊥)
-    × (FailsWith (scanned [] None) (record { target = a; max_bytes = 8; must_close = true; bytes = []; failed_with = Some OutOfMemory }) [] OutOfMemory → ⊥)
+    × (FailsWith (scanned [] None) (record { target = a; max_bytes = 8; must_close = true; bytes = []; failed_with = Some OutOfMemory }) []
+    OutOfMemory → ⊥)
 unfolding split_lines ended rest first_fault entry_of record_entry split_once after_prefix
 refuses_no_other = (
   (λ is. let bytes : codes "x" ≡ [] = ap (λ (scan : Scanned). scan.bytes) is.fault_stored in absurd (cc)),
@@ -217,9 +238,27 @@ steps :
     × Steps (scanned [] None) (scanned [] (Some TooLong)) (codes "z0123456789") 1 (Err TooLong)
 unfolding split_lines ended rest first_fault entry_of record_entry split_once after_prefix
 steps = (
-  (omega arith, omega arith, (refl, record { no_fault = refl; line = codes "xy"; lines_are = refl; no_rest = refl; entry_is = refl; entries = refl })),
+  (
+    omega arith,
+    omega arith,
+    (
+      refl,
+      record {
+        no_fault = refl;
+        line = codes "xy";
+        lines_are = refl;
+        no_rest = refl;
+        entry_is = refl;
+        entries = refl;
+      },
+    ),
+  ),
   (refl, record { no_fault = refl; lines = refl; entries = refl }),
-  record { fault_stored = refl; may_fail = λ none. inr (record { fault_is = refl; entries = refl }); early = ((λ is. absurd (cc)), (λ is. absurd (cc))) },
+  record {
+    fault_stored = refl;
+    may_fail = λ none. inr (record { fault_is = refl; entries = refl });
+    early = ((λ is. absurd (cc)), (λ is. absurd (cc)));
+  },
 )
 
 -- Not `Steps`: up to the offset where it began, past the chunk, with fewer bytes consumed than all or than found, or with a fault
@@ -243,7 +282,8 @@ steps_no_less = (
 late_or_too_long : IsAfterCloseOrTooLong (AfterClose 2) × IsAfterCloseOrTooLong TooLong
 late_or_too_long = (inl (2, refl), inr refl)
 
-not_late : (fault : StreamFault) → IsAfterCloseOrTooLong fault → (fault ≢ BadRecord 1) × (fault ≢ Read) × (fault ≢ OutOfMemory) × (fault ≢ NotClosed)
+not_late : (fault : StreamFault) → IsAfterCloseOrTooLong fault
+    → (fault ≢ BadRecord 1) × (fault ≢ Read) × (fault ≢ OutOfMemory) × (fault ≢ NotClosed)
 not_late fault (inl late) = let same = late.1 in ((λ is. absurd (cc)), (λ is. absurd (cc)), (λ is. absurd (cc)), (λ is. absurd (cc)))
 not_late fault (inr too_long) = ((λ is. absurd (cc)), (λ is. absurd (cc)), (λ is. absurd (cc)), (λ is. absurd (cc)))
 
@@ -259,7 +299,8 @@ refuses_nothing_first = (
   (λ is. (not_late (BadRecord 1) is.after_close_or_too_long).0 refl),
 )
 
-source_told : ((source_in (scanned (codes "x") None)).target ≡ a) × ((source_in (scanned (codes "x") None)).must_close ≡ true) × ((source_in (scanned (codes "x") None)).stream ≡ so_far (codes "x"))
+source_told : ((source_in (scanned (codes "x") None)).target ≡ a) × ((source_in (scanned (codes "x") None)).must_close ≡ true)
+    × ((source_in (scanned (codes "x") None)).stream ≡ so_far (codes "x"))
 source_told = (refl, refl, refl)
 
 texts : (unended_entry (Some (codes "x")) ≡ Some (Text (codes "x"))) × (unended_entry None ≡ None)

@@ -17,7 +17,8 @@ use Rattle.redo_line.proofs.ScanEnds.{log_with}
 
 module _ (max_bytes : ℕ) (given : Source Stream) where
   -- A fault that is known before the end.
-  pub fault_met : (fault : StreamFault) → fault_of given.target max_bytes given.stream ≡ Some fault → source_fault max_bytes given ≡ Some fault
+  pub fault_met : (fault : StreamFault) → fault_of given.target max_bytes given.stream ≡ Some fault
+      → source_fault max_bytes given ≡ Some fault
   fault_met fault is = ap (λ first. or_else first (closing_fault given)) is
 
   -- If there is none, the only fault that is left is that the log isn't closed.
@@ -25,8 +26,10 @@ module _ (max_bytes : ℕ) (given : Source Stream) where
   fault_left none = ap (λ first. or_else first (closing_fault given)) none
 
   -- A fault that is known early is known before the end.
-  pub met_early : (fault : StreamFault) → IsEarlyFault fault → source_fault max_bytes given ≡ Some fault → fault_of given.target max_bytes given.stream ≡ Some fault
-  met_early fault early = by (fault_of given.target max_bytes given.stream) (given.must_close && not (is_closed given.target given.stream.bytes))
+  pub met_early : (fault : StreamFault) → IsEarlyFault fault → source_fault max_bytes given ≡ Some fault
+      → fault_of given.target max_bytes given.stream ≡ Some fault
+  met_early fault early = by (fault_of given.target max_bytes given.stream)
+      (given.must_close && not (is_closed given.target given.stream.bytes))
     where
       by : (first : Option StreamFault) (lacks : Bool) → or_else first (cond lacks (Some NotClosed) None) ≡ Some fault → first ≡ Some fault
       by (Some first) lacks is = is
@@ -63,7 +66,8 @@ last_of_more : (closed : Bool) (first : Option Entry) (others : List (Option Ent
     → closes (option_and_then (λ entry. entry) (slice_get (first ∷ others) last)) ≡ closed_by closed (first ∷ others)
 last_of_more closed first [] last is = ap (λ n. closes (option_and_then (λ entry. entry) (slice_get (first ∷ []) n))) is
 last_of_more closed first (next ∷ others) last is =
-    ap (λ n. closes (option_and_then (λ entry. entry) (slice_get (first ∷ next ∷ others) n))) is ∙ last_of_more (closes first) next others (length others) refl
+    ap (λ n. closes (option_and_then (λ entry. entry) (slice_get (first ∷ next ∷ others) n))) is
+    ∙ last_of_more (closes first) next others (length others) refl
 
 -- The last entry decides whether the log is closed.
 last_closes : (entries : List (Option Entry)) → closes (last_entry entries) ≡ closed_by false entries
@@ -73,7 +77,8 @@ last_closes (first ∷ others) = last_of_more false first others (length (first 
 -- The state after the consumed bytes has it.
 pub closed_after : (p : Progress) (bytes : List ℕ) → IsAfter p bytes → is_closed p.target bytes ≡ p.closed
 unfolding first_fault entry_of
-closed_after p bytes after = last_closes (entries_of p.target bytes) ∙ closed_by-append false before (rest_entries p.target (rest bytes)) ∙ by (rest bytes) refl ∙ sym after.closed_is
+closed_after p bytes after = last_closes (entries_of p.target bytes) ∙ closed_by-append false before (rest_entries p.target (rest bytes))
+    ∙ by (rest bytes) refl ∙ sym after.closed_is
   where
     before : List (Option Entry)
     before = line_entries p.target (ended bytes)
@@ -82,11 +87,13 @@ closed_after p bytes after = last_closes (entries_of p.target bytes) ∙ closed_
     fine = (no_fault p.target p.max_bytes (so_far bytes) after.no_fault).0
 
     goes_on : first_fault (closed_by false before) (1 + length before) (rest_entries p.target (rest bytes)) ≡ None
-    goes_on = sym (first_fault-append-none false 1 before (rest_entries p.target (rest bytes)) (first_fault-front-none false 1 before (rest_entries p.target (rest bytes)) fine)) ∙ fine
+    goes_on = sym (first_fault-append-none false 1 before (rest_entries p.target (rest bytes))
+        (first_fault-front-none false 1 before (rest_entries p.target (rest bytes)) fine)) ∙ fine
 
     by : (last : List ℕ) → rest bytes ≡ last → closed_by (closed_by false before) (rest_entries p.target last) ≡ closed_by false before
     by [] is = refl
-    by (byte ∷ last) is = open_before (closed_by false before) (ap (λ l. first_fault (closed_by false before) (1 + length before) (rest_entries p.target l)) (sym is) ∙ goes_on)
+    by (byte ∷ last) is = open_before (closed_by false before)
+        (ap (λ l. first_fault (closed_by false before) (1 + length before) (rest_entries p.target l)) (sym is) ∙ goes_on)
       where
         open_before : (closed : Bool) → first_fault closed (1 + length before) (rest_entries p.target (byte ∷ last)) ≡ None → false ≡ closed
         open_before true none = absurd (cc)
@@ -95,13 +102,17 @@ closed_after p bytes after = last_closes (entries_of p.target bytes) ∙ closed_
 -- ---- the end of the input
 
 module _ (p : Progress) (bytes : List ℕ) (after : IsAfter p bytes) (must_close : Bool) where
-  pub fault_in_the_end : (must closed : Bool) → must_close ≡ must → p.closed ≡ closed → source_fault p.max_bytes (source p.target must_close (so_far bytes)) ≡ cond (must && not closed) (Some NotClosed) None
+  pub fault_in_the_end : (must closed : Bool) → must_close ≡ must → p.closed ≡ closed
+      → source_fault p.max_bytes (source p.target must_close (so_far bytes)) ≡ cond (must && not closed) (Some NotClosed) None
   fault_in_the_end must closed must_is closed_is =
-      fault_left p.max_bytes (source p.target must_close (so_far bytes)) after.no_fault ∙ (λ i. cond (must_is i && not ((closed_after p bytes after ∙ closed_is) i)) (Some NotClosed) None)
+      fault_left p.max_bytes (source p.target must_close (so_far bytes)) after.no_fault
+      ∙ (λ i. cond (must_is i && not ((closed_after p bytes after ∙ closed_is) i)) (Some NotClosed) None)
 
   -- The entries found and the unended line are the log.
-  pub log_in_the_end : (last : Option (List ℕ)) → source_fault p.max_bytes (source p.target must_close (so_far bytes)) ≡ None → last ≡ unended p.kept
-      → source_log p.max_bytes (source p.target must_close (so_far bytes)) ≡ Some (entries_so_far p.target p.max_bytes bytes ++ option_to_list (unended_entry last))
+  pub log_in_the_end : (last : Option (List ℕ)) → source_fault p.max_bytes (source p.target must_close (so_far bytes)) ≡ None
+      → last ≡ unended p.kept
+      → source_log p.max_bytes (source p.target must_close (so_far bytes))
+      ≡ Some (entries_so_far p.target p.max_bytes bytes ++ option_to_list (unended_entry last))
   log_in_the_end last none is =
       let all = filter_map (λ entry. entry) (entries_of p.target bytes) in
       ap (λ fault. unless_fault fault all) none ∙ sym (ap (λ fault. unless_fault fault all) after.no_fault) ∙ log_with p bytes after last is

@@ -70,11 +70,13 @@ faults =
     has_fault 4 (line (codes "abc") ++ codes "d") false TooLong (Text (codes "abc") ∷ []) ∷
     []
 
-these_faults : AllByRecursion (λ row. source_fault row.max_bytes (source (codes "a") true (stream_of row.bytes row.fails)) ≡ Some row.fault) faults
+these_faults : AllByRecursion (λ row.
+    source_fault row.max_bytes (source (codes "a") true (stream_of row.bytes row.fails)) ≡ Some row.fault) faults
 unfolding split_lines ended rest first_fault entry_of record_entry fields_of status_of split_once after_prefix number normal reduce_suffix
 these_faults = (refl, (refl, (refl, (refl, (refl, (refl, (refl, (refl, (refl, (refl, tt))))))))))
 
-these_parts : AllByRecursion (λ row. source_entries_before_fault row.max_bytes (source (codes "a") true (stream_of row.bytes row.fails)) ≡ row.part) faults
+these_parts : AllByRecursion (λ row.
+    source_entries_before_fault row.max_bytes (source (codes "a") true (stream_of row.bytes row.fails)) ≡ row.part) faults
 unfolding split_lines ended rest first_fault entry_of record_entry fields_of status_of split_once after_prefix number normal reduce_suffix
 these_parts = (refl, (refl, (refl, (refl, (refl, (refl, (refl, (refl, (refl, (refl, tt))))))))))
 
@@ -92,7 +94,8 @@ abbrev marked : Bool → ℕ → StreamInput ℕ
 marked must_close stream = record { must_close = must_close; stream = stream }
 
 made_from :
-    (sources (codes "a" ∷ codes "b" ∷ []) (marked true 1 ∷ marked false 2 ∷ []) ≡ source (codes "a") true 1 ∷ source (codes "b") false 2 ∷ [])
+    (sources (codes "a" ∷ codes "b" ∷ []) (marked true 1 ∷ marked false 2 ∷ [])
+    ≡ source (codes "a") true 1 ∷ source (codes "b") false 2 ∷ [])
     × (sources [] (marked true 1 ∷ []) ≡ [])
     × (sources {A = ℕ} (codes "a" ∷ []) [] ≡ [])
     × (with_stream false (source (codes "a") true true) ≡ source (codes "a") true false)

@@ -12,7 +12,8 @@ negative : (value : ℕ) → value < 10 ^ 9 → to_z w32 (of_z w32 (pos 0 -ℤ t
 negative value small = omega (arith, ints)
 
 module _ (status digits : List ℕ) (is : after_prefix (minus ∷ []) status ≡ Some digits) where
-  pub negative_status : (value : ℕ) → Some value ≡ number_of 9 digits → value < 10 ^ 9 → Some (to_z w32 (of_z w32 (pos 0 -ℤ to_z w32 value))) ≡ status_of status
+  pub negative_status : (value : ℕ) → Some value ≡ number_of 9 digits → value < 10 ^ 9
+      → Some (to_z w32 (of_z w32 (pos 0 -ℤ to_z w32 value))) ≡ status_of status
   unfolding status_of
   negative_status value value_is small = ap Some (negative value small) ∙ rw (is, ← value_is) refl
 

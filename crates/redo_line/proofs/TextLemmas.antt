@@ -29,7 +29,8 @@ front_begins_not bytes n none = by (ltb n 7) refl
         let many = ltb-false n 7 long in
         ap (pointwise nat_eq record_prefix) (take-take 7 n bytes many) ∙ none
 
-all_then : (lines more : List (List ℕ)) → AllByRecursion BeginsNot lines → AllByRecursion BeginsNot more → AllByRecursion BeginsNot (lines ++ more)
+all_then : (lines more : List (List ℕ)) → AllByRecursion BeginsNot lines → AllByRecursion BeginsNot more
+    → AllByRecursion BeginsNot (lines ++ more)
 all_then [] more all others = others
 all_then (line ∷ lines) more all others = (all.0, all_then lines more all.1 others)
 
@@ -39,21 +40,26 @@ none_yet bytes = record { count_is = refl; no_rest = refl; texts = tt }
 
 -- After `upto` bytes of text lines, one more text line follows.
 module _ (bytes left : List ℕ) (upto count at : ℕ) (are : AreTextLines (take upto bytes) count) (left_is : left ≡ drop upto bytes)
-    (found : NoneBefore (Passes (is_byte line_feed) left) 0 (length left) at × Passes (is_byte line_feed) left at) (none : BeginsNot left) where
+    (found : NoneBefore (Passes (is_byte line_feed) left) 0 (length left) at × Passes (is_byte line_feed) left at)
+    (none : BeginsNot left) where
   pub next_text : AreTextLines (take (upto + (at + 1)) bytes) (count + 1)
   next_text =
       let front = take upto bytes in
       let line = take at left in
       let free : HasNoLineFeed line = free_before left at found.0.before in
       let whole : take (upto + (at + 1)) bytes ≡ front ++ (line ++ line_feed ∷ []) =
-      take-add upto (at + 1) bytes ∙ ap (λ (b : List ℕ). front ++ take (at + 1) b) (sym left_is) ∙ ap (λ (b : List ℕ). front ++ b) (upto_feed left at found.0.high found.1) in
+      take-add upto (at + 1) bytes ∙ ap (λ (b : List ℕ). front ++ take (at + 1) b) (sym left_is)
+      ∙ ap (λ (b : List ℕ). front ++ b) (upto_feed left at found.0.high found.1) in
       let lines : ended (take (upto + (at + 1)) bytes) ≡ ended front ++ line ∷ [] =
-      ap ended whole ∙ ended-append front (line ++ line_feed ∷ []) ∙ ap (λ (r : List ℕ). ended front ++ ended (r ++ (line ++ line_feed ∷ []))) are.no_rest
+      ap ended whole ∙ ended-append front (line ++ line_feed ∷ [])
+      ∙ ap (λ (r : List ℕ). ended front ++ ended (r ++ (line ++ line_feed ∷ []))) are.no_rest
       ∙ ap (λ ls. ended front ++ ls) (ended-line line [] free ∙ ap (λ ls. line ∷ ls) (ended-free [] tt)) in
       record {
         count_is = ap length lines ∙ length-append (ended front) (line ∷ []) ∙ ap (λ n. n + 1) are.count_is;
         no_rest =
-            ap rest whole ∙ rest-append front (line ++ line_feed ∷ []) ∙ ap (λ (r : List ℕ). rest (r ++ (line ++ line_feed ∷ []))) are.no_rest
+            ap rest whole ∙ rest-append front (line ++ line_feed ∷ [])
+            ∙ ap (λ (r : List ℕ). rest (r ++ (line ++ line_feed ∷ []))) are.no_rest
             ∙ rest-line line [] free ∙ rest-free [] tt;
-        texts = subst (AllByRecursion BeginsNot) (sym lines) (all_then (ended front) (line ∷ []) are.texts (front_begins_not left at none, tt));
+        texts = subst (AllByRecursion BeginsNot) (sym lines)
+            (all_then (ended front) (line ∷ []) are.texts (front_begins_not left at none, tt));
       }

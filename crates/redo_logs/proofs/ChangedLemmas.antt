@@ -6,7 +6,8 @@ use Rattle.redo_line.specs.declared.entry.Entry.{Entry}
 use Rattle.redo_logs.specs.Logs.{Log, IsTable, update_log, targets_of, states_of, with_entries, with_entry}
 
 -- The log after the first `n` logs is log `n`.
-pub update_log-here : (first : List Log) (log : Log) (others : List Log) (change : Log → Log) → update_log (length first) change (first ++ log ∷ others) ≡ first ++ change log ∷ others
+pub update_log-here : (first : List Log) (log : Log) (others : List Log) (change : Log → Log)
+    → update_log (length first) change (first ++ log ∷ others) ≡ first ++ change log ∷ others
 update_log-here [] log others change = refl
 update_log-here (one ∷ first) log others change = ap (λ logs. one ∷ logs) (update_log-here first log others change)
 
@@ -38,13 +39,15 @@ module _ (change : Log → Log) (keeps : (log : Log) → (change log).target ≡
       }
 
 -- Adding entries to a log keeps the states.
-pub states-with_entries : (number : ℕ) (entries : List Entry) (logs : List Log) → states_of (update_log number (with_entries entries) logs) ≡ states_of logs
+pub states-with_entries : (number : ℕ) (entries : List Entry) (logs : List Log)
+    → states_of (update_log number (with_entries entries) logs) ≡ states_of logs
 states-with_entries number entries [] = refl
 states-with_entries zero entries (log ∷ logs) = refl
 states-with_entries (suc number) entries (log ∷ logs) = ap (λ states. log.state ∷ states) (states-with_entries number entries logs)
 
 -- Adding an entry to a log keeps the states.
-pub states-with_entry : (number : ℕ) (entry : Entry) (logs : List Log) → states_of (update_log number (with_entry entry) logs) ≡ states_of logs
+pub states-with_entry : (number : ℕ) (entry : Entry) (logs : List Log)
+    → states_of (update_log number (with_entry entry) logs) ≡ states_of logs
 states-with_entry number entry [] = refl
 states-with_entry zero entry (log ∷ logs) = refl
 states-with_entry (suc number) entry (log ∷ logs) = ap (λ states. log.state ∷ states) (states-with_entry number entry logs)

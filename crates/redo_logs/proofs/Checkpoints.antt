@@ -12,33 +12,48 @@ count_append (one ∷ first) others = ap (λ n. count_in one + n) (count_append 
 
 -- ---- appending
 
-checkpoints_stay : (records more : List PackedEntries) (checkpoints : List ℕ) → AreCheckpoints records checkpoints → AreCheckpoints (records ++ more) checkpoints
+checkpoints_stay : (records more : List PackedEntries) (checkpoints : List ℕ) → AreCheckpoints records checkpoints
+    → AreCheckpoints (records ++ more) checkpoints
 checkpoints_stay records more checkpoints are number below =
     let before = are number below in
-    record { within = omega (arith, before.within, length-append records more); is = before.is ∙ ap count_of (sym (take-append-le (number * 8) records more before.within)) }
+    record {
+      within = omega (arith, before.within, length-append records more);
+      is = before.is ∙ ap count_of (sym (take-append-le (number * 8) records more before.within));
+    }
 
 get_pushed : (xs : List ℕ) (x : ℕ) → get_or (xs ++ x ∷ []) (length xs) 0 ≡ x
 get_pushed [] x = refl
 get_pushed (y ∷ xs) x = get_pushed xs x
 
 -- A new checkpoint.
-pub checkpointed : (records : List PackedEntries) (checkpoints : List ℕ) (entries : ℕ) → AreNumbered records checkpoints entries → length records ≡ length checkpoints * 8 → AreCheckpoints records (checkpoints ++ entries ∷ [])
+pub checkpointed : (records : List PackedEntries) (checkpoints : List ℕ) (entries : ℕ) → AreNumbered records checkpoints entries
+    → length records ≡ length checkpoints * 8 → AreCheckpoints records (checkpoints ++ entries ∷ [])
 checkpointed records checkpoints entries are size number below = by (ltb number (length checkpoints)) refl
   where
-    by : (known : Bool) → ltb number (length checkpoints) ≡ known → IsBefore records (number * 8) (get_or (checkpoints ++ entries ∷ []) number 0)
+    by : (known : Bool) → ltb number (length checkpoints) ≡ known
+        → IsBefore records (number * 8) (get_or (checkpoints ++ entries ∷ []) number 0)
     by true known =
         let there = ltb-true number (length checkpoints) known in
-        subst (IsBefore records (number * 8)) (sym (get_or_append_left checkpoints (entries ∷ []) 0 number there)) (are.checkpoints_are number there)
+        subst (IsBefore records (number * 8)) (sym (get_or_append_left checkpoints (entries ∷ []) 0 number there))
+        (are.checkpoints_are number there)
     by false known =
-        let last : number ≡ length checkpoints = let behind = ltb-false number (length checkpoints) known in let all = length-append checkpoints (entries ∷ []) in omega (arith, behind, below, all) in
+        let last : number ≡ length checkpoints = let behind = ltb-false number (length checkpoints) known in let all =
+        length-append checkpoints (entries ∷ []) in omega (arith, behind, below, all) in
         let place : number * 8 ≡ length records = ap (λ n. n * 8) last ∙ sym size in
-        let count : get_or (checkpoints ++ entries ∷ []) number 0 ≡ entries = ap (λ n. get_or (checkpoints ++ entries ∷ []) n 0) last ∙ get_pushed checkpoints entries in
-        record { within = omega (arith, place); is = count ∙ are.entries_are ∙ ap count_of (sym (take_all (number * 8) records (omega (arith, place)))) }
+        let count : get_or (checkpoints ++ entries ∷ []) number 0 ≡ entries =
+        ap (λ n. get_or (checkpoints ++ entries ∷ []) n 0) last ∙ get_pushed checkpoints entries in
+        record {
+          within = omega (arith, place);
+          is = count ∙ are.entries_are ∙ ap count_of (sym (take_all (number * 8) records (omega (arith, place))));
+        }
 
-pub with_checkpoints : (records : List PackedEntries) (checkpoints others : List ℕ) (entries : ℕ) → AreNumbered records checkpoints entries → AreCheckpoints records others → AreNumbered records others entries
-with_checkpoints records checkpoints others entries are checkpointed = record { entries_are = are.entries_are; few = are.few; checkpoints_are = checkpointed }
+pub with_checkpoints : (records : List PackedEntries) (checkpoints others : List ℕ) (entries : ℕ) → AreNumbered records checkpoints entries
+    → AreCheckpoints records others → AreNumbered records others entries
+with_checkpoints records checkpoints others entries are checkpointed =
+    record { entries_are = are.entries_are; few = are.few; checkpoints_are = checkpointed }
 
-pub pushed : (records new : List PackedEntries) (checkpoints : List ℕ) (entries count : ℕ) (one : PackedEntries) → AreNumbered records checkpoints entries → new ≡ records ++ one ∷ [] → count ≡ count_in one → count ≤ 2 ^ 62 - entries
+pub pushed : (records new : List PackedEntries) (checkpoints : List ℕ) (entries count : ℕ) (one : PackedEntries)
+    → AreNumbered records checkpoints entries → new ≡ records ++ one ∷ [] → count ≡ count_in one → count ≤ 2 ^ 62 - entries
     → AreNumbered new checkpoints (entries + count)
 pushed records new checkpoints entries count one are put count_is few =
     subst (λ rs. AreNumbered rs checkpoints (entries + count)) (sym put)
@@ -49,15 +64,21 @@ pushed records new checkpoints entries count one are put count_is few =
     })
 
 pub checkpointed_next : (records : List PackedEntries) (checkpoints others : List ℕ) (entries : ℕ) → AreNumbered records checkpoints entries
-    → (others ≡ checkpoints) ⊎ ((others ≡ checkpoints ++ entries ∷ []) × (length records ≡ length checkpoints * 8)) → AreNumbered records others entries
-checkpointed_next records checkpoints others entries are (inl same) = with_checkpoints records checkpoints others entries are (subst (AreCheckpoints records) (sym same) are.checkpoints_are)
-checkpointed_next records checkpoints others entries are (inr more) = with_checkpoints records checkpoints others entries are (subst (AreCheckpoints records) (sym more.0) (checkpointed records checkpoints entries are more.1))
+    → (others ≡ checkpoints) ⊎ ((others ≡ checkpoints ++ entries ∷ []) × (length records ≡ length checkpoints * 8))
+    → AreNumbered records others entries
+checkpointed_next records checkpoints others entries are (inl same) =
+    with_checkpoints records checkpoints others entries are (subst (AreCheckpoints records) (sym same) are.checkpoints_are)
+checkpointed_next records checkpoints others entries are (inr more) =
+    with_checkpoints records checkpoints others entries are
+    (subst (AreCheckpoints records) (sym more.0) (checkpointed records checkpoints entries are more.1))
 
 -- One of several `PackedEntries` values is appended.
-pub one_appended : (old now new records : List PackedEntries) (index : ℕ) (one : PackedEntries) → now ≡ old ++ take index records → new ≡ now ++ one ∷ [] → index < length records → one ≡ get_or records index one
+pub one_appended : (old now new records : List PackedEntries) (index : ℕ) (one : PackedEntries) → now ≡ old ++ take index records
+    → new ≡ now ++ one ∷ [] → index < length records → one ≡ get_or records index one
     → new ≡ old ++ take (index + 1) records
 one_appended old now new records index one so_far put below is =
-    put ∙ ap (λ all. all ++ one ∷ []) so_far ∙ append_assoc old (take index records) (one ∷ []) ∙ ap (λ r. old ++ (take index records ++ r ∷ [])) is
+    put ∙ ap (λ all. all ++ one ∷ []) so_far ∙ append_assoc old (take index records) (one ∷ [])
+    ∙ ap (λ r. old ++ (take index records ++ r ∷ [])) is
     ∙ ap (λ more. old ++ more) (sym (take_more records index one below))
 
 -- ---- removing
@@ -67,13 +88,15 @@ cut_back old more now count put count_is =
     (λ i. take (count_is i) (put i)) ∙ take-append-le (length old) old more (omega arith) ∙ take_all (length old) old (omega arith)
 
 -- The entries before the `PackedEntries` values that were appended.
-pub still_before : (old more now : List PackedEntries) (count entries : ℕ) → now ≡ old ++ more → count ≡ length old → entries ≡ count_of old → IsBefore now count entries
+pub still_before : (old more now : List PackedEntries) (count entries : ℕ) → now ≡ old ++ more → count ≡ length old → entries ≡ count_of old
+    → IsBefore now count entries
 still_before old more now count entries put count_is entries_are = record {
   within = omega (arith, ap length put, length-append old more, count_is);
   is = entries_are ∙ ap count_of (sym (cut_back old more now count put count_is));
 }
 
-pub cut : (records : List PackedEntries) (checkpoints : List ℕ) (old count entries : ℕ) → AreNumbered records checkpoints old → IsBefore records count entries → entries ≤ 2 ^ 62 → AreNumbered (take count records) (take (count / 8 + 1) checkpoints) entries
+pub cut : (records : List PackedEntries) (checkpoints : List ℕ) (old count entries : ℕ) → AreNumbered records checkpoints old
+    → IsBefore records count entries → entries ≤ 2 ^ 62 → AreNumbered (take count records) (take (count / 8 + 1) checkpoints) entries
 cut records checkpoints old count entries are before few = record {
   entries_are = before.is;
   few = few;
@@ -85,7 +108,8 @@ cut records checkpoints old count entries are before few = record {
       let checkpoint = are.checkpoints_are number there in
       record {
         within = (let all = length-take count records in let whole = before.within in omega (arith, place, all, whole));
-        is = get_or-take (count / 8 + 1) checkpoints number 0 low ∙ checkpoint.is ∙ ap count_of (sym (take-take (number * 8) count records place));
+        is = get_or-take (count / 8 + 1) checkpoints number 0 low ∙ checkpoint.is
+            ∙ ap count_of (sym (take-take (number * 8) count records place));
       };
 }
 
@@ -98,14 +122,18 @@ fewer_before records place count before =
 
 -- ---- one after another
 
-pub next_before : (records : List PackedEntries) (place count : ℕ) (one : PackedEntries) → IsBefore records place count → place < length records → one ≡ get_or records place one → IsBefore records (place + 1) (count + count_in one)
+pub next_before : (records : List PackedEntries) (place count : ℕ) (one : PackedEntries) → IsBefore records place count
+    → place < length records → one ≡ get_or records place one → IsBefore records (place + 1) (count + count_in one)
 next_before records place count one before below is =
     record {
       within = omega (arith, below);
-      is = (λ i. before.is i + count_in one) ∙ sym (ap count_of (take_more records place one below) ∙ count_append (take place records) (get_or records place one ∷ []) ∙ ap (λ n. count_of (take place records) + n) (omega arith ∙ ap count_in (sym is)));
+      is = (λ i. before.is i + count_in one)
+          ∙ sym (ap count_of (take_more records place one below) ∙ count_append (take place records) (get_or records place one ∷ [])
+          ∙ ap (λ n. count_of (take place records) + n) (omega arith ∙ ap count_in (sym is)));
     }
 
-pub found_here : (records : List PackedEntries) (place count number : ℕ) (one : PackedEntries) → IsBefore records place count → place < length records → one ≡ get_or records place one → count ≤ number → number - count < count_in one
+pub found_here : (records : List PackedEntries) (place count number : ℕ) (one : PackedEntries) → IsBefore records place count
+    → place < length records → one ≡ get_or records place one → count ≤ number → number - count < count_in one
     → IsLocated records number one (number - count)
 found_here records place count number one before below is low within = record {
   before = take place records;
@@ -115,12 +143,14 @@ found_here records place count number one before below is low within = record {
   place_within = within;
 }
   where
-    split : (records : List PackedEntries) (place : ℕ) (one : PackedEntries) → place < length records → records ≡ take place records ++ get_or records place one ∷ drop (suc place) records
+    split : (records : List PackedEntries) (place : ℕ) (one : PackedEntries) → place < length records
+        → records ≡ take place records ++ get_or records place one ∷ drop (suc place) records
     split [] place one below = absurd (omega (arith, below))
     split (first ∷ records) zero one below = refl
     split (first ∷ records) (suc place) one below = ap (λ rs. first ∷ rs) (split records place one (omega (arith, below)))
 
-pub none_behind : (records : List PackedEntries) (place count number : ℕ) → IsBefore records place count → length records ≤ place → count ≤ number → count_of records ≤ number
+pub none_behind : (records : List PackedEntries) (place count number : ℕ) → IsBefore records place count → length records ≤ place
+    → count ≤ number → count_of records ≤ number
 none_behind records place count number before end low =
     let all = before.is ∙ ap count_of (take_all place records end) in
     omega (arith, all, low)

@@ -50,7 +50,8 @@ no_fault Ended not_failed = refl
 no_fault (Failed fault) not_failed = absurd (not_failed fault refl)
 
 -- At the start all logs are left.
-pub searched_none : (parts : Parts) (stored : List Stored) (logs : List Log) → logs_of parts stored ≡ logs → IsTable (logs_of parts stored) → Searched logs 0 stored
+pub searched_none : (parts : Parts) (stored : List Stored) (logs : List Log) → logs_of parts stored ≡ logs → IsTable (logs_of parts stored)
+    → Searched logs 0 stored
 searched_none parts stored logs is table =
     record {
       size = let size = table.size in omega (arith, length-map stored (log_of parts));
@@ -70,7 +71,8 @@ module _ (logs : List Log) (number : ℕ) (left : List Stored) (so_far : Searche
     -- If the next log has failed, it is the result.
     pub found : (fault : StreamFault) → stored.state ≡ Failed fault → Some (number, fault) ≡ first_failed logs
     found fault failed =
-        ap (λ n. Some (n, fault)) (omega arith) ∙ sym (here ∙ ap (λ state. behind number (lowest_fault (fault_in state ∷ faults_of others))) failed)
+        ap (λ n. Some (n, fault)) (omega arith)
+        ∙ sym (here ∙ ap (λ state. behind number (lowest_fault (fault_in state ∷ faults_of others))) failed)
 
     -- If it hasn't, the search goes on.
     pub searched_one : ((fault : StreamFault) → stored.state ≡ Failed fault → ⊥) → Searched logs (number + 1) others
@@ -87,7 +89,8 @@ module _ (logs : List Log) (number : ℕ) (left : List Stored) (so_far : Searche
   none_found is = sym (so_far.answer ∙ ap (λ values. behind number (lowest_fault (faults_of values))) is)
 
 -- The log at a position is the first log from there on.
-pub left_at : (logs : List Stored) (place : ℕ) (log : Stored) → place < length logs → log ≡ get_or logs place log → drop place logs ≡ log ∷ drop (place + 1) logs
+pub left_at : (logs : List Stored) (place : ℕ) (log : Stored) → place < length logs → log ≡ get_or logs place log
+    → drop place logs ≡ log ∷ drop (place + 1) logs
 left_at logs place log within is =
     let next : suc place ≡ place + 1 = omega arith in
     drop-cons logs place log within ∙ (λ i. sym is i ∷ drop (next i) logs)

@@ -7,7 +7,8 @@ use Rattle.redo_line.proofs.CutLemmas.{free_before, holds_none, upto_feed}
 use Rattle.redo_line.proofs.LineLemmas.{ended-free, ended-line, rest-line}
 use Rattle.redo_logs.proofs.Shifting.{drop_twice}
 
-module _ (bytes : List ℕ) (at : ℕ) (found : NoneBefore (Passes (is_byte line_feed) bytes) 0 (length bytes) at × Passes (is_byte line_feed) bytes at) where
+module _ (bytes : List ℕ) (at : ℕ) (found : NoneBefore (Passes (is_byte line_feed) bytes) 0 (length bytes) at
+    × Passes (is_byte line_feed) bytes at) where
   free : HasNoLineFeed (take at bytes)
   free = free_before bytes at found.0.before
 
@@ -33,10 +34,14 @@ module _ (bytes left : List ℕ) (upto at : ℕ) (counter : ℕ) (left_is : left
   behind_is : drop (upto + (at + 1)) bytes ≡ drop (at + 1) left
   behind_is = drop_twice upto bytes (at + 1) ∙ ap (drop (at + 1)) (sym left_is)
 
-  pub next_ended : ended (drop upto bytes) ≡ drop counter (ended bytes) → ended (drop (upto + (at + 1)) bytes) ≡ drop (counter + 1) (ended bytes)
+  pub next_ended : ended (drop upto bytes) ≡ drop counter (ended bytes)
+      → ended (drop (upto + (at + 1)) bytes) ≡ drop (counter + 1) (ended bytes)
   next_ended so_far =
-      ap ended behind_is ∙ ap (drop 1) (sym (first_ended left at found) ∙ ap ended left_is ∙ so_far) ∙ sym (drop_twice counter (ended bytes) 1)
+      ap ended behind_is ∙ ap (drop 1) (sym (first_ended left at found) ∙ ap ended left_is ∙ so_far)
+      ∙ sym (drop_twice counter (ended bytes) 1)
 
-pub next_rest : (bytes left : List ℕ) (upto at : ℕ) → left ≡ drop upto bytes → NoneBefore (Passes (is_byte line_feed) left) 0 (length left) at × Passes (is_byte line_feed) left at
+pub next_rest : (bytes left : List ℕ) (upto at : ℕ) → left ≡ drop upto bytes
+    → NoneBefore (Passes (is_byte line_feed) left) 0 (length left) at × Passes (is_byte line_feed) left at
     → rest (drop (upto + (at + 1)) bytes) ≡ rest (drop upto bytes)
-next_rest bytes left upto at left_is found = ap rest (behind_is bytes left upto at 0 left_is found) ∙ sym (rest_behind left at found) ∙ ap rest left_is
+next_rest bytes left upto at left_is found =
+    ap rest (behind_is bytes left upto at 0 left_is found) ∙ sym (rest_behind left at found) ∙ ap rest left_is

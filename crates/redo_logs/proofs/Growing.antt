@@ -17,7 +17,8 @@ use Rattle.redo_logs.specs.Private.Store.{HasNumber, Parts, Within, denotes}
 use Rattle.redo_logs.specs.Private.Stored.{IsLogWithin, IsStored, log_of, logs_of}
 
 -- A new target can be added to a table that isn't full.
-IsTable-grown : (logs : List Log) (target : List ℕ) → IsTable logs → length logs < max_logs → list_any (pointwise nat_eq target) (targets_of logs) ≡ false
+IsTable-grown : (logs : List Log) (target : List ℕ) → IsTable logs → length logs < max_logs
+    → list_any (pointwise nat_eq target) (targets_of logs) ≡ false
     → IsTable (logs ++ new_log target ∷ [])
 IsTable-grown logs target table room absent =
     record {
@@ -48,14 +49,28 @@ module _ {A : Type 0} (p : A → Bool) (d : A) where
   found_from i n [] is = absurd (cc)
   found_from i n (x ∷ xs) is = by (p x) refl is (found_from (i + 1) n xs)
     where
-      by : (b : Bool) → p x ≡ b → cond b (Some i) (position_from p (i + 1) xs) ≡ Some n → (position_from p (i + 1) xs ≡ Some n → Found (i + 1) n xs) → Found i n (x ∷ xs)
-      by true passes is others = record { place = 0; is = let here = same_Some _ _ is in omega (arith, here); below = omega arith; passes = passes }
+      by : (b : Bool) → p x ≡ b → cond b (Some i) (position_from p (i + 1) xs) ≡ Some n
+          → (position_from p (i + 1) xs ≡ Some n → Found (i + 1) n xs) → Found i n (x ∷ xs)
+      by true passes is others = record {
+        place = 0;
+        is = let here = same_Some _ _ is in
+            omega (arith, here);
+        below = omega arith;
+        passes = passes;
+      }
       by false passes is others =
           let rest = others is in
-          record { place = suc rest.place; is = let behind = rest.is in omega (arith, behind); below = let below = rest.below in omega (arith, below); passes = rest.passes }
+          record {
+            place = suc rest.place;
+            is = let behind = rest.is in omega (arith, behind);
+            below = let below = rest.below in
+                omega (arith, below);
+            passes = rest.passes;
+          }
 
 -- The position at which a name is found is its number.
-pub found_name : (names : List (List ℕ)) (name : List ℕ) (number : ℕ) → position (pointwise nat_eq name) names ≡ Some number → HasNumber names number name
+pub found_name : (names : List (List ℕ)) (name : List ℕ) (number : ℕ) → position (pointwise nat_eq name) names ≡ Some number
+    → HasNumber names number name
 found_name names name number is =
     let found = found_from (pointwise nat_eq name) [] 0 number names (sym (position_from-zero (pointwise nat_eq name) names) ∙ is) in
     let same : found.place ≡ number = let place = found.is in omega (arith, place) in
@@ -83,10 +98,13 @@ none_left (suc n) zero = refl
 none_left (suc n) (suc i) = none_left n i
 
 -- Growing `places` by items without a number changes no number.
-pub padded : (places : List (Option ℕ)) (n number : ℕ) → length places ≤ n → get_or (take n places ++ replicate (n - length places) None) number None ≡ get_or places number None
-padded places n number room = ap (λ front. get_or (front ++ replicate (n - length places) None) number None) (take_all n places room) ∙ by (ltb number (length places)) refl
+pub padded : (places : List (Option ℕ)) (n number : ℕ) → length places ≤ n
+    → get_or (take n places ++ replicate (n - length places) None) number None ≡ get_or places number None
+padded places n number room = ap (λ front. get_or (front ++ replicate (n - length places) None) number None) (take_all n places room)
+    ∙ by (ltb number (length places)) refl
   where
-    by : (before : Bool) → ltb number (length places) ≡ before → get_or (places ++ replicate (n - length places) None) number None ≡ get_or places number None
+    by : (before : Bool) → ltb number (length places) ≡ before
+        → get_or (places ++ replicate (n - length places) None) number None ≡ get_or places number None
     by true is = get_or_append_left places (replicate (n - length places) None) None number (ltb-true number (length places) is)
     by false is =
         let behind = ltb-false number (length places) is in
@@ -95,7 +113,8 @@ padded places n number room = ap (λ front. get_or (front ++ replicate (n - leng
 
 module _ (parts : Parts) (logs : List Stored) (places : List (Option ℕ)) where
   -- Other `places` with the same numbers.
-  pub placed_stored : (others : List (Option ℕ)) → length others ≤ length parts.names → ((number : ℕ) → get_or others number None ≡ get_or places number None) → IsStored parts logs places → IsStored parts logs others
+  pub placed_stored : (others : List (Option ℕ)) → length others ≤ length parts.names
+      → ((number : ℕ) → get_or others number None ≡ get_or places number None) → IsStored parts logs places → IsStored parts logs others
   placed_stored others within same stored = record {
     table = stored.table;
     within = stored.within;
@@ -126,15 +145,21 @@ module _ (parts : Parts) (logs : List Stored) (places : List (Option ℕ)) where
     pub one_stored : logs_of parts (logs ++ log ∷ []) ≡ logs_of parts logs ++ new_log target ∷ []
     one_stored =
         map_push (log_of parts) logs log
-        ∙ (λ i. logs_of parts logs ++ record { target = name_at parts.names (name_is i); entries = flat_map (denotes parts) (empty i); state = running i } ∷ [])
+        ∙ (λ i. logs_of parts logs ++ record {
+          target = name_at parts.names (name_is i);
+          entries = flat_map (denotes parts) (empty i);
+          state = running i;
+        } ∷ [])
 
-    module _ (stored : IsStored parts logs places) (below : number < length parts.names) (room : length logs < max_logs) (has_place : number < length places)
+    module _ (stored : IsStored parts logs places) (below : number < length parts.names) (room : length logs < max_logs)
+        (has_place : number < length places)
         (absent : log_number target (logs_of parts logs) ≡ None) where
       -- The table with one log more.
       pub one_more : IsStored parts (logs ++ log ∷ []) (slice_set places number (Some (length logs)))
       one_more =
           record {
-            table = subst IsTable (sym one_stored) (IsTable-grown (logs_of parts logs) target stored.table (omega (arith, room, length-map logs (log_of parts))) none_there);
+            table = subst IsTable (sym one_stored)
+                (IsTable-grown (logs_of parts logs) target stored.table (omega (arith, room, length-map logs (log_of parts))) none_there);
             within = within_push logs stored.within;
             names_differ = stored.names_differ;
             places_within = omega (arith, stored.places_within, length-set places number (Some (length logs)));
@@ -145,7 +170,13 @@ module _ (parts : Parts) (logs : List Stored) (places : List (Option ℕ)) where
           none_there = sym (some_place (pointwise nat_eq target) (targets_of (logs_of parts logs))) ∙ ap is_some absent
 
           within_push : (ls : List Stored) → AllByRecursion (IsLogWithin parts) ls → AllByRecursion (IsLogWithin parts) (ls ++ log ∷ [])
-          within_push [] within = (record { name = subst (λ n. n < length parts.names) (sym name_is) below; records = subst (AllByRecursion (Within parts)) (sym empty) tt }, tt)
+          within_push [] within = (
+            record {
+              name = subst (λ n. n < length parts.names) (sym name_is) below;
+              records = subst (AllByRecursion (Within parts)) (sym empty) tt;
+            },
+            tt,
+          )
           within_push (l ∷ ls) within = (within.0, within_push ls within.1)
 
           targets_then : targets_of (logs_of parts (logs ++ log ∷ [])) ≡ targets_of (logs_of parts logs) ++ target ∷ []
@@ -155,7 +186,8 @@ module _ (parts : Parts) (logs : List Stored) (places : List (Option ℕ)) where
           count = length-map (logs_of parts logs) (λ (l : Log). l.target) ∙ length-map logs (log_of parts)
 
           placed : (other : ℕ) → other < length parts.names → (same : Bool) → eqb other number ≡ same
-              → get_or (slice_set places number (Some (length logs))) other None ≡ log_number (name_at parts.names other) (logs_of parts (logs ++ log ∷ []))
+              → get_or (slice_set places number (Some (length logs))) other None
+              ≡ log_number (name_at parts.names other) (logs_of parts (logs ++ log ∷ []))
           placed other below' true is =
               let same = eqb-true other number is in
               ap (λ n. get_or (slice_set places number (Some (length logs))) n None) same
@@ -169,4 +201,5 @@ module _ (parts : Parts) (logs : List Stored) (places : List (Option ℕ)) where
               get_or-set_other places number other (Some (length logs)) None apart
               ∙ stored.are_places other below'
               ∙ sym (ap (position (pointwise nat_eq (name_at parts.names other))) targets_then
-              ∙ position_others (pointwise nat_eq (name_at parts.names other)) target (differ other number stored.names_differ below' below apart) (targets_of (logs_of parts logs)))
+              ∙ position_others (pointwise nat_eq (name_at parts.names other)) target
+              (differ other number stored.names_differ below' below apart) (targets_of (logs_of parts logs)))

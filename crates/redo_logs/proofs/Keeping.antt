@@ -35,12 +35,14 @@ front_length xs ys front = omega (arith, ap length front.is, length-append xs fr
 -- ---- what is denoted
 
 -- A range within a prefix.
-range_front : (xs more : List ℕ) (start end : ℕ) → start ≤ end → end ≤ length xs → slice_range (xs ++ more) start end ≡ slice_range xs start end
+range_front : (xs more : List ℕ) (start end : ℕ) → start ≤ end → end ≤ length xs
+    → slice_range (xs ++ more) start end ≡ slice_range xs start end
 range_front xs more start end order within =
     ap (take (end - start)) (drop-append-le start xs more (omega (arith, order, within)))
     ∙ take-append-le (end - start) (drop start xs) more (omega (arith, order, within, length-drop start xs))
 
-range_grown : (xs ys : List ℕ) (start end : ℕ) → IsPrefix xs ys → start ≤ end → end ≤ length xs → slice_range ys start end ≡ slice_range xs start end
+range_grown : (xs ys : List ℕ) (start end : ℕ) → IsPrefix xs ys → start ≤ end → end ≤ length xs
+    → slice_range ys start end ≡ slice_range xs start end
 range_grown xs ys start end front order within =
     ap (λ bytes. slice_range bytes start end) front.is ∙ range_front xs front.more start end order within
 
@@ -51,13 +53,17 @@ get_front (x ∷ xs) more zero within = refl
 get_front (x ∷ xs) more (suc number) within = get_front xs more number (omega (arith, within))
 
 -- A number keeps its name.
-pub name_grown : (old new : List (List ℕ)) (number : ℕ) → NamesExtend old new → number < length old → name_at new number ≡ name_at old number
-name_grown old new number grows within = ap (λ names. name_at names number) grows.front.is ∙ get_or_append_left old grows.front.more [] number within
+pub name_grown : (old new : List (List ℕ)) (number : ℕ) → NamesExtend old new → number < length old
+    → name_at new number ≡ name_at old number
+name_grown old new number grows within =
+    ap (λ names. name_at names number) grows.front.is ∙ get_or_append_left old grows.front.more [] number within
 
 -- A block only grows at its end.
 block_grown : (old new : Parts) (number : ℕ) → Extends old new → IsPrefix (block_of old number) (block_of new number)
 block_grown old new zero grows = grows.bytes
-block_grown old new (suc number) grows = subst (λ (blocks : List (List ℕ)). IsPrefix (get_or old.taken number []) (get_or blocks number [])) (sym grows.taken.is) (by old.taken number)
+block_grown old new (suc number) grows =
+    subst (λ (blocks : List (List ℕ)). IsPrefix (get_or old.taken number []) (get_or blocks number [])) (sym grows.taken.is)
+    (by old.taken number)
   where
     by : (blocks : List (List ℕ)) (number : ℕ) → IsPrefix (get_or blocks number []) (get_or (blocks ++ grows.taken.more) number [])
     by [] number = record { more = get_or grows.taken.more number []; is = refl }
@@ -72,11 +78,13 @@ note_grown : (old new : Parts) (at : Option NoteSpan) → Extends old new → Is
 note_grown old new None grows within = absurd within
 note_grown old new (Some at) grows within =
     let front = block_grown old new at.block grows in
-    let kind = range_grown (block_of old at.block) (block_of new at.block) at.start at.middle front within.0 (omega (arith, within.1, within.2)) in
+    let kind = range_grown (block_of old at.block) (block_of new at.block) at.start at.middle front within.0
+    (omega (arith, within.1, within.2)) in
     let text = range_grown (block_of old at.block) (block_of new at.block) at.middle at.end front within.1 within.2 in
     λ i. entry.Note at.pid (kind i) (text i)
 
-note_at_grown : (old new : List NoteSpan) (parts : Parts) (note : ℕ) → IsPrefix old new → IsNoteWithin parts (slice_get old note) → slice_get new note ≡ slice_get old note
+note_at_grown : (old new : List NoteSpan) (parts : Parts) (note : ℕ) → IsPrefix old new → IsNoteWithin parts (slice_get old note)
+    → slice_get new note ≡ slice_get old note
 note_at_grown old new parts note front within =
     ap (λ notes. slice_get notes note) front.is ∙ get_front old front.more note (there (slice_get old note) refl within)
   where
@@ -85,11 +93,15 @@ note_at_grown old new parts note front within =
     there (Some at) is within = slice_get_within old note at is
 
 -- A `PackedEntries` denotes the same entries.
-pub seen_grown : (old new : Parts) (record' : PackedEntries) → Extends old new → Within old record' → denotes new record' ≡ denotes old record'
+pub seen_grown : (old new : Parts) (record' : PackedEntries) → Extends old new → Within old record'
+    → denotes new record' ≡ denotes old record'
 seen_grown old new (Texts lines block start end) grows within =
-    ap (λ bytes. map entry.Text (ended bytes)) (range_grown (block_of old block) (block_of new block) start end (block_grown old new block grows) within.0 within.1)
-seen_grown old new (Mention pid how name) grows within = ap (λ n. entry.Mention pid how n ∷ []) (name_grown old.names new.names name grows.names within)
-seen_grown old new (Done pid status name) grows within = ap (λ n. entry.Done pid status n ∷ []) (name_grown old.names new.names name grows.names within)
+    ap (λ bytes. map entry.Text (ended bytes))
+    (range_grown (block_of old block) (block_of new block) start end (block_grown old new block grows) within.0 within.1)
+seen_grown old new (Mention pid how name) grows within =
+    ap (λ n. entry.Mention pid how n ∷ []) (name_grown old.names new.names name grows.names within)
+seen_grown old new (Done pid status name) grows within =
+    ap (λ n. entry.Done pid status n ∷ []) (name_grown old.names new.names name grows.names within)
 seen_grown old new (Closing pid status) grows within = refl
 seen_grown old new (Note note) grows within =
     ap (λ e. e ∷ []) (ap (note_value new) (note_at_grown old.notes new.notes old note grows.notes within)
@@ -102,7 +114,8 @@ within_grown old new (Texts lines block start end) grows within =
       within.0,
       omega (arith, within.1, front_length (block_of old block) (block_of new block) front),
       block_there old new block grows within.2,
-      subst (λ bytes. AreCompleteLines bytes lines) (sym (range_grown (block_of old block) (block_of new block) start end front within.0 within.1)) within.3,
+      subst (λ bytes. AreCompleteLines bytes lines)
+          (sym (range_grown (block_of old block) (block_of new block) start end front within.0 within.1)) within.3,
     )
 within_grown old new (Mention pid how name) grows within = omega (arith, within, front_length old.names new.names grows.names.front)
 within_grown old new (Done pid status name) grows within = omega (arith, within, front_length old.names new.names grows.names.front)
@@ -119,13 +132,17 @@ within_grown old new (Note note) grows within =
       block_there old new at.block grows within.3,
     )
 
-pub all_seen_grown : (old new : Parts) (records : List PackedEntries) → Extends old new → AllByRecursion (Within old) records → flat_map (denotes new) records ≡ flat_map (denotes old) records
+pub all_seen_grown : (old new : Parts) (records : List PackedEntries) → Extends old new → AllByRecursion (Within old) records
+    → flat_map (denotes new) records ≡ flat_map (denotes old) records
 all_seen_grown old new [] grows within = refl
-all_seen_grown old new (one ∷ records) grows within = λ i. seen_grown old new one grows within.0 i ++ all_seen_grown old new records grows within.1 i
+all_seen_grown old new (one ∷ records) grows within =
+    λ i. seen_grown old new one grows within.0 i ++ all_seen_grown old new records grows within.1 i
 
-pub all_within_grown : (old new : Parts) (records : List PackedEntries) → Extends old new → AllByRecursion (Within old) records → AllByRecursion (Within new) records
+pub all_within_grown : (old new : Parts) (records : List PackedEntries) → Extends old new → AllByRecursion (Within old) records
+    → AllByRecursion (Within new) records
 all_within_grown old new [] grows within = within
-all_within_grown old new (one ∷ records) grows within = (within_grown old new one grows within.0, all_within_grown old new records grows within.1)
+all_within_grown old new (one ∷ records) grows within =
+    (within_grown old new one grows within.0, all_within_grown old new records grows within.1)
 
 -- ---- steps
 
@@ -134,22 +151,31 @@ names_none names = record { front = record { more = []; is = sym (append-nil nam
 
 -- Nothing more is stored.
 pub grows_none : (parts : Parts) → Extends parts parts
-grows_none parts = record { bytes = front_none parts.bytes; taken = front_none parts.taken; notes = front_none parts.notes; names = names_none parts.names }
+grows_none parts = record {
+  bytes = front_none parts.bytes;
+  taken = front_none parts.taken;
+  notes = front_none parts.notes;
+  names = names_none parts.names;
+}
 
 -- What isn't in a list isn't in a prefix of it.
 none_in_front : (p : List ℕ → Bool) (front more : List (List ℕ)) → list_any p (front ++ more) ≡ false → list_any p front ≡ false
 none_in_front p front more none = (or_parts (list_any p front) (list_any p more) (sym (list_any-append p front more) ∙ none)).0
 
-all_differ : (old mid first second : List (List ℕ)) → mid ≡ old ++ first → AllByRecursion (λ name. list_any (pointwise nat_eq name) old ≡ false) first
-    → AllByRecursion (λ name. list_any (pointwise nat_eq name) mid ≡ false) second → AllByRecursion (λ name. list_any (pointwise nat_eq name) old ≡ false) (first ++ second)
+all_differ : (old mid first second : List (List ℕ)) → mid ≡ old ++ first
+    → AllByRecursion (λ name. list_any (pointwise nat_eq name) old ≡ false) first
+    → AllByRecursion (λ name. list_any (pointwise nat_eq name) mid ≡ false) second
+    → AllByRecursion (λ name. list_any (pointwise nat_eq name) old ≡ false) (first ++ second)
 all_differ old mid first second is one two = by first one
   where
-    later : (names : List (List ℕ)) → AllByRecursion (λ name. list_any (pointwise nat_eq name) mid ≡ false) names → AllByRecursion (λ name. list_any (pointwise nat_eq name) old ≡ false) names
+    later : (names : List (List ℕ)) → AllByRecursion (λ name. list_any (pointwise nat_eq name) mid ≡ false) names
+        → AllByRecursion (λ name. list_any (pointwise nat_eq name) old ≡ false) names
     later [] all = all
     later (name ∷ names) all =
         (none_in_front (pointwise nat_eq name) old first (ap (list_any (pointwise nat_eq name)) (sym is) ∙ all.0), later names all.1)
 
-    by : (names : List (List ℕ)) → AllByRecursion (λ name. list_any (pointwise nat_eq name) old ≡ false) names → AllByRecursion (λ name. list_any (pointwise nat_eq name) old ≡ false) (names ++ second)
+    by : (names : List (List ℕ)) → AllByRecursion (λ name. list_any (pointwise nat_eq name) old ≡ false) names
+        → AllByRecursion (λ name. list_any (pointwise nat_eq name) old ≡ false) (names ++ second)
     by [] all = later second two
     by (name ∷ names) all = (all.0, by names all.1)
 
@@ -162,19 +188,26 @@ grows_more old mid new first second = record {
   notes = front_front old.notes mid.notes new.notes first.notes second.notes;
   names = record {
     front = front_front old.names mid.names new.names first.names.front second.names.front;
-    differ = all_differ old.names mid.names first.names.front.more second.names.front.more first.names.front.is first.names.differ second.names.differ;
+    differ = all_differ old.names mid.names first.names.front.more second.names.front.more first.names.front.is first.names.differ
+        second.names.differ;
     distinct = λ distinct. second.names.distinct (first.names.distinct distinct);
   };
 }
 
 -- A name is stored.
-pub names_grow : (names : List (List ℕ)) (name : List ℕ) (new : List (List ℕ)) → new ≡ (if list_any (pointwise nat_eq name) names then names else names ++ name ∷ []) → NamesExtend names new
+pub names_grow : (names : List (List ℕ)) (name : List ℕ) (new : List (List ℕ))
+    → new ≡ (if list_any (pointwise nat_eq name) names then names else names ++ name ∷ []) → NamesExtend names new
 names_grow names name new is = by (list_any (pointwise nat_eq name) names) refl is
   where
-    by : (known : Bool) → list_any (pointwise nat_eq name) names ≡ known → new ≡ (if known then names else names ++ name ∷ []) → NamesExtend names new
+    by : (known : Bool) → list_any (pointwise nat_eq name) names ≡ known → new ≡ (if known then names else names ++ name ∷ [])
+        → NamesExtend names new
     by true known is =
         let same = is ∙ refl in
-        record { front = record { more = []; is = same ∙ sym (append-nil names) }; differ = tt; distinct = subst (IsDistinct (pointwise nat_eq)) (sym same) }
+        record {
+          front = record { more = []; is = same ∙ sym (append-nil names) };
+          differ = tt;
+          distinct = subst (IsDistinct (pointwise nat_eq)) (sym same);
+        }
     by false known is = record {
       front = record { more = name ∷ []; is = is };
       differ = (known, tt);
@@ -182,7 +215,8 @@ names_grow names name new is = by (list_any (pointwise nat_eq name) names) refl 
     }
 
 -- Only texts are stored.
-pub bytes_grow : (old new : Parts) → IsPrefix old.bytes new.bytes → IsPrefix old.taken new.taken → new.notes ≡ old.notes → new.names ≡ old.names → Extends old new
+pub bytes_grow : (old new : Parts) → IsPrefix old.bytes new.bytes → IsPrefix old.taken new.taken → new.notes ≡ old.notes
+    → new.names ≡ old.names → Extends old new
 bytes_grow old new front taken notes names = record {
   bytes = front;
   taken = taken;
@@ -191,7 +225,8 @@ bytes_grow old new front taken notes names = record {
 }
 
 -- A note and its texts are stored.
-pub note_grows : (old new : Parts) (at : NoteSpan) → IsPrefix old.bytes new.bytes → IsPrefix old.taken new.taken → new.notes ≡ old.notes ++ at ∷ [] → new.names ≡ old.names → Extends old new
+pub note_grows : (old new : Parts) (at : NoteSpan) → IsPrefix old.bytes new.bytes → IsPrefix old.taken new.taken
+    → new.notes ≡ old.notes ++ at ∷ [] → new.names ≡ old.names → Extends old new
 note_grows old new at front taken notes names = record {
   bytes = front;
   taken = taken;
@@ -210,17 +245,20 @@ name_grows old new name bytes taken notes names = record {
 }
 
 -- A block that the table took ownership of.
-pub block_taken : (parts : Parts) (taken : List (Vec ℕ Global)) (number : ℕ) (there : Vec ℕ Global) → map (λ block. block.items) taken ≡ parts.taken → number ≤ length parts.taken → number ≢ 0
+pub block_taken : (parts : Parts) (taken : List (Vec ℕ Global)) (number : ℕ) (there : Vec ℕ Global)
+    → map (λ block. block.items) taken ≡ parts.taken → number ≤ length parts.taken → number ≢ 0
     → there ≡ get_or taken (number - 1) there → there.items ≡ block_of parts number
 block_taken parts taken zero there are within differs is = absurd (differs refl)
 block_taken parts taken (suc number) there are within differs is =
     let before : suc number - 1 ≡ number = omega arith in
     ap (λ (block : Vec ℕ Global). block.items) (is ∙ ap (λ n. get_or taken n there) before)
-    ∙ sym (get_or-map (λ (block : Vec ℕ Global). block.items) taken number there [] (omega (arith, within, ap length are, length-map taken (λ (block : Vec ℕ Global). block.items))))
+    ∙ sym (get_or-map (λ (block : Vec ℕ Global). block.items) taken number there []
+    (omega (arith, within, ap length are, length-map taken (λ (block : Vec ℕ Global). block.items))))
     ∙ ap (λ (blocks : List (List ℕ)). get_or blocks number []) are
 
 -- Blocks stay the same if no text is stored.
-pub block_same : (old new : Parts) (number : ℕ) → (new.bytes ≡ old.bytes) × (new.taken ≡ old.taken) → block_of new number ≡ block_of old number
+pub block_same : (old new : Parts) (number : ℕ) → (new.bytes ≡ old.bytes) × (new.taken ≡ old.taken)
+    → block_of new number ≡ block_of old number
 block_same old new zero same = same.0
 block_same old new (suc number) same = ap (λ (blocks : List (List ℕ)). get_or blocks number []) same.1
 
@@ -228,7 +266,8 @@ pub front_same : {A : Type 0} (old new : List A) → new ≡ old → IsPrefix ol
 front_same old new same = record { more = []; is = same ∙ sym (append-nil old) }
 
 -- A name that is found at a position has this position as its number.
-pub named : (names : List (List ℕ)) (number : ℕ) (name there : List ℕ) → slice_get names number ≡ Some there → pointwise nat_eq name there ≡ true → HasNumber names number name
+pub named : (names : List (List ℕ)) (number : ℕ) (name there : List ℕ) → slice_get names number ≡ Some there
+    → pointwise nat_eq name there ≡ true → HasNumber names number name
 named names number name there at same = record {
   below = slice_get_within names number there at;
   is = get_or_from_slice_get names number there [] at ∙ sym (same_text name there (sym same));
@@ -249,18 +288,25 @@ get_put (y ∷ xs) x = get_put xs x
 pub get_last : {A : Type 0} (xs : List A) (x : A) (ys : List A) (at : ℕ) → ys ≡ xs ++ x ∷ [] → at ≡ length xs → slice_get ys at ≡ Some x
 get_last xs x ys at is place = (λ i. slice_get (is i) (place i)) ∙ get_put xs x
 
-module _ (old new : Parts) (note : ℕ) (at : NoteSpan) (last : slice_get new.notes note ≡ Some at) (same : (new.bytes ≡ old.bytes) × (new.taken ≡ old.taken)) where
+module _ (old new : Parts) (note : ℕ) (at : NoteSpan) (last : slice_get new.notes note ≡ Some at)
+    (same : (new.bytes ≡ old.bytes) × (new.taken ≡ old.taken)) where
   -- A note that was appended refers to what existed before.
   pub note_last_within : IsNoteWithin old (Some at) → IsNoteWithin new (slice_get new.notes note)
   note_last_within within =
-      subst (IsNoteWithin new) (sym last)
-      (within.0, within.1, subst (λ (b : List ℕ). at.end ≤ length b) (sym (block_same old new at.block same)) within.2, subst (λ (blocks : List (List ℕ)). at.block ≤ length blocks) (sym same.1) within.3)
+      subst (IsNoteWithin new) (sym last) (
+        within.0,
+        within.1,
+        subst (λ (b : List ℕ). at.end ≤ length b) (sym (block_same old new at.block same)) within.2,
+        subst
+            (λ (blocks : List (List ℕ)). at.block ≤ length blocks) (sym same.1) within.3,
+      )
 
   -- It denotes the same note.
   pub note_last_seen : note_value new (slice_get new.notes note) ≡ note_value old (Some at)
   note_last_seen =
       let block = block_same old new at.block same in
-      ap (note_value new) last ∙ (λ i. entry.Note at.pid (slice_range (block i) at.start at.middle) (slice_range (block i) at.middle at.end))
+      ap (note_value new) last ∙ (λ i. entry.Note at.pid (slice_range (block i) at.start at.middle)
+      (slice_range (block i) at.middle at.end))
 
 -- A note whose kind and text were appended to block 0.
 pub note_put : (pid : ℕ) (bytes kind text first second : List ℕ) → first ≡ bytes ++ kind → second ≡ first ++ text
@@ -268,8 +314,10 @@ pub note_put : (pid : ℕ) (bytes kind text first second : List ℕ) → first �
     → entry.Note pid (slice_range second start middle) (slice_range second middle end) ≡ entry.Note pid kind text
 note_put pid bytes kind text first second first_is second_is start middle end start_is middle_is end_is =
     (λ i. entry.Note pid (slice_range second (start_is i) (middle_is i)) (slice_range second (middle_is i) (end_is i)))
-    ∙ (λ i. entry.Note pid (slice_range (second_is i) (length bytes) (length first)) (slice_range (second_is i) (length first) (length (second_is i))))
-    ∙ (λ i. entry.Note pid (slice_range (first_is i ++ text) (length bytes) (length (first_is i))) (slice_range (first_is i ++ text) (length (first_is i)) (length (first_is i ++ text))))
+    ∙ (λ i. entry.Note pid (slice_range (second_is i) (length bytes) (length first))
+    (slice_range (second_is i) (length first) (length (second_is i))))
+    ∙ (λ i. entry.Note pid (slice_range (first_is i ++ text) (length bytes) (length (first_is i)))
+    (slice_range (first_is i ++ text) (length (first_is i)) (length (first_is i ++ text))))
     ∙ (λ i. entry.Note pid (range_put bytes kind text i) (range_last (bytes ++ kind) text i))
   where
     range_last : (xs ys : List ℕ) → slice_range (xs ++ ys) (length xs) (length (xs ++ ys)) ≡ ys

@@ -26,7 +26,8 @@ module _ (begun : Parts) (entries : List Entry) (names : List ℕ) (places : Lis
     pub within : AllByRecursion (Within now) records
     pub seen_are : flat_map (denotes now) records ≡ entries_at (drop shift (block_of now block)) names (take done places)
 
-  pub none_kept : (texts : List ℕ) (now : Parts) → AreStoredAt texts names places entries → Extends begun now → block ≤ length now.taken → shift ≤ length (block_of now block)
+  pub none_kept : (texts : List ℕ) (now : Parts) → AreStoredAt texts names places entries → Extends begun now → block ≤ length now.taken
+      → shift ≤ length (block_of now block)
       → drop shift (block_of now block) ≡ texts → length (block_of now block) < 2 ^ 64 → Keeps now [] 0
   none_kept texts now all grows there behind are fits = record {
     grows = grows;
@@ -39,22 +40,27 @@ module _ (begun : Parts) (entries : List Entry) (names : List ℕ) (places : Lis
   }
 
   module _ (now : Parts) (records : List PackedEntries) (done : ℕ) (keeps : Keeps now records done) where
-    push_within : (parts : Parts) (rs : List PackedEntries) (r : PackedEntries) → AllByRecursion (Within parts) rs → Within parts r → AllByRecursion (Within parts) (rs ++ r ∷ [])
+    push_within : (parts : Parts) (rs : List PackedEntries) (r : PackedEntries) → AllByRecursion (Within parts) rs → Within parts r
+        → AllByRecursion (Within parts) (rs ++ r ∷ [])
     push_within parts [] r all one = (one, tt)
     push_within parts (first ∷ rs) r all one = (all.0, push_within parts rs r all.1 one)
 
     -- The texts of the next element of `places` exist.
-    pub next_within : (place : EntryAt) → done < length places → get_or places done place ≡ place → IsWithin (drop shift (block_of now block)) names place
+    pub next_within : (place : EntryAt) → done < length places → get_or places done place ≡ place
+        → IsWithin (drop shift (block_of now block)) names place
     next_within place below is = subst (IsWithin (drop shift (block_of now block)) names) is (at places done keeps.all.within below)
       where
-        at : (ps : List EntryAt) (n : ℕ) → AllByRecursion (IsWithin (drop shift (block_of now block)) names) ps → n < length ps → IsWithin (drop shift (block_of now block)) names (get_or ps n place)
+        at : (ps : List EntryAt) (n : ℕ) → AllByRecursion (IsWithin (drop shift (block_of now block)) names) ps → n < length ps
+            → IsWithin (drop shift (block_of now block)) names (get_or ps n place)
         at [] n all below = absurd (omega (arith, below))
         at (p ∷ ps) zero all below = all.0
         at (p ∷ ps) (suc n) all below = at ps n all.1 (omega (arith, below))
 
     -- One more element of `places` is stored, which adds no text.
-    pub one_kept : (new : Parts) (more : List PackedEntries) (record' : PackedEntries) (place : EntryAt) (shown : List ℕ) → Extends now new → (new.bytes ≡ now.bytes) × (new.taken ≡ now.taken) → Within new record'
-        → shown ≡ names → denotes new record' ≡ entries_at_place (drop shift (block_of now block)) shown place → more ≡ records ++ record' ∷ [] → done < length places → get_or places done place ≡ place
+    pub one_kept : (new : Parts) (more : List PackedEntries) (record' : PackedEntries) (place : EntryAt) (shown : List ℕ) → Extends now new
+        → (new.bytes ≡ now.bytes) × (new.taken ≡ now.taken) → Within new record'
+        → shown ≡ names → denotes new record' ≡ entries_at_place (drop shift (block_of now block)) shown place
+        → more ≡ records ++ record' ∷ [] → done < length places → get_or places done place ≡ place
         → Keeps new more (done + 1)
     one_kept new more record' place shown grows same within shown_is seen_is more_are below place_is =
         let block_is = block_same now new block same in
@@ -65,9 +71,12 @@ module _ (begun : Parts) (entries : List Entry) (names : List ℕ) (places : Lis
           behind = subst (λ (b : List ℕ). shift ≤ length b) (sym block_is) keeps.behind;
           fits = subst (λ (b : List ℕ). length b < 2 ^ 64) (sym block_is) keeps.fits;
           all = subst (λ (b : List ℕ). AreStoredAt (drop shift b) names places entries) (sym block_is) keeps.all;
-          within = subst (AllByRecursion (Within new)) (sym more_are) (push_within new records record' (all_within_grown now new records grows keeps.within) within);
+          within = subst (AllByRecursion (Within new)) (sym more_are)
+              (push_within new records record' (all_within_grown now new records grows keeps.within) within);
           seen_are =
-              ap (flat_map (denotes new)) more_are ∙ flat_push (denotes new) records record' ∙ (λ i. (all_seen_grown now new records grows keeps.within ∙ keeps.seen_are) i ++ (seen_is ∙ ap (λ (ns : List ℕ). entries_at_place texts ns place) shown_is) i)
+              ap (flat_map (denotes new)) more_are ∙ flat_push (denotes new) records record'
+              ∙ (λ i. (all_seen_grown now new records grows keeps.within ∙ keeps.seen_are) i
+              ++ (seen_is ∙ ap (λ (ns : List ℕ). entries_at_place texts ns place) shown_is) i)
               ∙ sym (flat_push (entries_at_place texts names) (take done places) place)
               ∙ ap (λ p. entries_at texts names (take done places ++ p ∷ [])) (sym place_is)
               ∙ ap (entries_at texts names) (sym (take_more places done place below))

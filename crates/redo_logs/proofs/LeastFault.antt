@@ -14,7 +14,8 @@ record Behind (first : Option (ℕ × StreamFault)) (place : ℕ) (fault : Strea
   pub first_is : first ≡ Some (here, fault)
   pub place_is : place ≡ suc here
 
-behind : (first : Option (ℕ × StreamFault)) (place : ℕ) (fault : StreamFault) → behind_one first ≡ Some (place, fault) → Behind first place fault
+behind : (first : Option (ℕ × StreamFault)) (place : ℕ) (fault : StreamFault) → behind_one first ≡ Some (place, fault)
+    → Behind first place fault
 behind None place fault is = absurd (cc)
 behind (Some found) place fault is =
     let same : (found.0 + 1, found.1) ≡ (place, fault) = same_Some _ _ is in
@@ -24,16 +25,19 @@ behind (Some found) place fault is =
       place_is = let sum = ap (λ (p : ℕ × StreamFault). p.0) same in omega (arith, sum);
     }
 
-pub found_there : (faults : List (Option StreamFault)) (place : ℕ) (fault : StreamFault) → lowest_fault faults ≡ Some (place, fault) → slice_get faults place ≡ Some (Some fault)
+pub found_there : (faults : List (Option StreamFault)) (place : ℕ) (fault : StreamFault) → lowest_fault faults ≡ Some (place, fault)
+    → slice_get faults place ≡ Some (Some fault)
 found_there [] place fault is = absurd (cc)
 found_there (Some here ∷ faults) place fault is =
     let same : (0, here) ≡ (place, fault) = same_Some _ _ is in
-    ap (λ (n : ℕ). slice_get (Some here ∷ faults) n) (sym (ap (λ (p : ℕ × StreamFault). p.0) same)) ∙ ap (λ (f : StreamFault). Some (Some f)) (ap (λ (p : ℕ × StreamFault). p.1) same)
+    ap (λ (n : ℕ). slice_get (Some here ∷ faults) n) (sym (ap (λ (p : ℕ × StreamFault). p.0) same))
+    ∙ ap (λ (f : StreamFault). Some (Some f)) (ap (λ (p : ℕ × StreamFault). p.1) same)
 found_there (None ∷ faults) place fault is =
     let b = behind (lowest_fault faults) place fault is in
     ap (λ (n : ℕ). slice_get (None ∷ faults) n) b.place_is ∙ found_there faults b.here fault b.first_is
 
-pub none_before : (faults : List (Option StreamFault)) (place : ℕ) (fault : StreamFault) (earlier : ℕ) → lowest_fault faults ≡ Some (place, fault) → earlier < place → slice_get faults earlier ≡ Some None
+pub none_before : (faults : List (Option StreamFault)) (place : ℕ) (fault : StreamFault) (earlier : ℕ)
+    → lowest_fault faults ≡ Some (place, fault) → earlier < place → slice_get faults earlier ≡ Some None
 none_before [] place fault earlier is before = absurd (cc)
 none_before (Some here ∷ faults) place fault earlier is before =
     let same : (0, here) ≡ (place, fault) = same_Some _ _ is in
@@ -43,7 +47,8 @@ none_before (None ∷ faults) place fault (suc earlier) is before =
     let b = behind (lowest_fault faults) place fault is in
     none_before faults b.here fault earlier b.first_is (omega (arith, b.place_is, before))
 
-pub none_at_all : (faults : List (Option StreamFault)) (place : ℕ) (fault : StreamFault) → lowest_fault faults ≡ None → slice_get faults place ≡ Some (Some fault) → ⊥
+pub none_at_all : (faults : List (Option StreamFault)) (place : ℕ) (fault : StreamFault) → lowest_fault faults ≡ None
+    → slice_get faults place ≡ Some (Some fault) → ⊥
 none_at_all [] place fault none at = absurd (cc)
 none_at_all (Some here ∷ faults) place fault none at = absurd (cc)
 none_at_all (None ∷ faults) zero fault none at = absurd (cc)

@@ -24,15 +24,18 @@ module _ (shift : ℕ) where
       by : (count : ℕ) (xs : List A) → drop (count + start) xs ≡ drop start (drop count xs)
       by zero xs = let same : 0 + start ≡ start = omega arith in ap (λ n. drop n xs) same
       by (suc count) [] = none (suc count + start) ∙ sym (none start)
-      by (suc count) (x ∷ xs) = let next : suc count + start ≡ suc (count + start) = omega arith in ap (λ n. drop n (x ∷ xs)) next ∙ by count xs
+      by (suc count) (x ∷ xs) = let next : suc count + start ≡ suc (count + start) = omega arith in
+          ap (λ n. drop n (x ∷ xs)) next ∙ by count xs
 
   -- A range, counted from `shift`.
-  pub range_shifted : (whole : List ℕ) (start end : ℕ) → slice_range whole (shift + start) (shift + end) ≡ slice_range (drop shift whole) start end
+  pub range_shifted : (whole : List ℕ) (start end : ℕ)
+      → slice_range whole (shift + start) (shift + end) ≡ slice_range (drop shift whole) start end
   range_shifted whole start end =
       let count : shift + end - (shift + start) ≡ end - start = omega arith in
       ap (λ n. take n (drop (shift + start) whole)) count ∙ ap (take (end - start)) (drop_twice whole start)
 
 -- A `PackedEntries` denotes the same entries.
-pub note_then : {E : Type 0} (result : Result PackedEntries E) (parts : Parts) (first second : List Entry) → IfOk result (λ kept. denotes parts kept ≡ first) → first ≡ second → IfOk result (λ kept. denotes parts kept ≡ second)
+pub note_then : {E : Type 0} (result : Result PackedEntries E) (parts : Parts) (first second : List Entry)
+    → IfOk result (λ kept. denotes parts kept ≡ first) → first ≡ second → IfOk result (λ kept. denotes parts kept ≡ second)
 note_then (Ok kept) parts first second is same = is ∙ same
 note_then (Err fault) parts first second is same = is

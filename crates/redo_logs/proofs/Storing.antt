@@ -35,14 +35,16 @@ module _ (parts : Parts) where
 
   -- Replacing a stored log by one that denotes the changed log changes this log of the table.
   pub written : (logs : List Stored) (number : ℕ) (old new : Stored) (change : Log → Log)
-      → slice_get logs number ≡ Some old → log_of parts new ≡ change (log_of parts old) → logs_of parts (slice_set logs number new) ≡ update_log number change (logs_of parts logs)
+      → slice_get logs number ≡ Some old → log_of parts new ≡ change (log_of parts old)
+      → logs_of parts (slice_set logs number new) ≡ update_log number change (logs_of parts logs)
   written [] number old new change at says = refl
   written (log ∷ logs) zero old new change at says =
       ap (λ l. l ∷ logs_of parts logs) (says ∙ ap (λ (stored : Stored). change (log_of parts stored)) (sym (same_Some _ _ at)))
   written (log ∷ logs) (suc number) old new change at says = ap (λ ls. log_of parts log ∷ ls) (written logs number old new change at says)
 
   pub written_within : (logs : List Stored) (number : ℕ) (old new : Stored)
-      → slice_get logs number ≡ Some old → (IsLogWithin parts old → IsLogWithin parts new) → AllByRecursion (IsLogWithin parts) logs → AllByRecursion (IsLogWithin parts) (slice_set logs number new)
+      → slice_get logs number ≡ Some old → (IsLogWithin parts old → IsLogWithin parts new) → AllByRecursion (IsLogWithin parts) logs
+      → AllByRecursion (IsLogWithin parts) (slice_set logs number new)
   written_within [] number old new at says within = within
   written_within (log ∷ logs) zero old new at says within = (says (subst (IsLogWithin parts) (same_Some _ _ at) within.0), within.1)
   written_within (log ∷ logs) (suc number) old new at says within = (within.0, written_within logs number old new at says within.1)
@@ -53,13 +55,15 @@ module _ (parts : Parts) where
       → (IsLogWithin parts old → IsLogWithin parts new) → IsStored parts logs places → IsStored parts (slice_set logs number new) places
   changed_stored logs places number old new change keeps at says within stored =
       let is = written logs number old new change at says in
-      let targets : targets_of (logs_of parts (slice_set logs number new)) ≡ targets_of (logs_of parts logs) = ap targets_of is ∙ targets-update_log change keeps number (logs_of parts logs) in
+      let targets : targets_of (logs_of parts (slice_set logs number new)) ≡ targets_of (logs_of parts logs) =
+      ap targets_of is ∙ targets-update_log change keeps number (logs_of parts logs) in
       record {
         table = subst IsTable (sym is) (IsTable-update_log change keeps number (logs_of parts logs) stored.table);
         within = written_within logs number old new at within stored.within;
         names_differ = stored.names_differ;
         places_within = stored.places_within;
-        are_places = λ name below. stored.are_places name below ∙ ap (λ ts. position (pointwise nat_eq (name_at parts.names name)) ts) (sym targets);
+        are_places = λ name below. stored.are_places name below
+            ∙ ap (λ ts. position (pointwise nat_eq (name_at parts.names name)) ts) (sym targets);
       }
 
 -- ---- one log
@@ -78,9 +82,11 @@ module _ (parts : Parts) (old new : Stored) (name_is : new.name ≡ old.name) wh
 
   -- `PackedEntries` values are appended.
   module _ (records : List PackedEntries) (more : new.records ≡ old.records ++ records) where
-    pub entries_log : (entries : List Entry) → flat_map (denotes parts) records ≡ entries → new.state ≡ old.state → log_of parts new ≡ with_entries entries (log_of parts old)
+    pub entries_log : (entries : List Entry) → flat_map (denotes parts) records ≡ entries → new.state ≡ old.state
+        → log_of parts new ≡ with_entries entries (log_of parts old)
     entries_log entries are state =
-        let all = ap (flat_map (denotes parts)) more ∙ flat_map-append (denotes parts) old.records records ∙ ap (λ es. flat_map (denotes parts) old.records ++ es) are in
+        let all = ap (flat_map (denotes parts)) more ∙ flat_map-append (denotes parts) old.records records
+        ∙ ap (λ es. flat_map (denotes parts) old.records ++ es) are in
         λ i. record { target = name_at parts.names (name_is i); entries = all i; state = state i }
 
     pub entries_log_within : AllByRecursion (Within parts) records → IsLogWithin parts old → IsLogWithin parts new
@@ -94,9 +100,16 @@ module _ (parts : Parts) (old new : Stored) (name_is : new.name ≡ old.name) wh
         both (r ∷ first) all = (all.0, both first all.1)
 
 -- A log that has a state exists.
-pub has_state : (parts : Parts) (logs : List Stored) (table : List Log) (number : ℕ) (state : LogState) → logs_of parts logs ≡ table → slice_get (states_of table) number ≡ Some state → number < length logs
+pub has_state : (parts : Parts) (logs : List Stored) (table : List Log) (number : ℕ) (state : LogState) → logs_of parts logs ≡ table
+    → slice_get (states_of table) number ≡ Some state → number < length logs
 has_state parts logs table number state is at =
-    omega (arith, slice_get_within (states_of table) number state at, length-map table (λ (log : Log). log.state), ap length is, length-map logs (log_of parts))
+    omega (
+      arith,
+      slice_get_within (states_of table) number state at,
+      length-map table (λ (log : Log). log.state),
+      ap length is,
+      length-map logs (log_of parts),
+    )
 
 -- ---- names
 
@@ -114,10 +127,12 @@ none_at p xs i d none within = by (p (get_or xs i d)) refl
     by true is = absurd (true≢false (sym (list_any_at p xs i d within is) ∙ none))
 
 -- A name with a new number is not among the old names.
-name_behind : (old new : List (List ℕ)) (number : ℕ) → (grows : NamesExtend old new) → length old ≤ number → number < length new → list_any (pointwise nat_eq (name_at new number)) old ≡ false
+name_behind : (old new : List (List ℕ)) (number : ℕ) → (grows : NamesExtend old new) → length old ≤ number → number < length new
+    → list_any (pointwise nat_eq (name_at new number)) old ≡ false
 name_behind old new number grows behind below =
     subst (λ (name : List ℕ). list_any (pointwise nat_eq name) old ≡ false)
-    (sym (ap (λ names. get_or names number []) grows.front.is ∙ get_or-append_right old grows.front.more (length old) number [] refl behind))
+    (sym (ap (λ names. get_or names number []) grows.front.is
+    ∙ get_or-append_right old grows.front.more (length old) number [] refl behind))
     (all_at (λ name. list_any (pointwise nat_eq name) old ≡ false) grows.front.more (number - length old) [] grows.differ
     (omega (arith, behind, below, ap length grows.front.is, length-append old grows.front.more)))
 
@@ -129,20 +144,24 @@ no_place p xs none = by (position p xs) (some_place p xs ∙ none)
     by (Some i) absent = absurd (cc)
 
 module _ (parts : Parts) (name : List ℕ) where
-  none_targets : (logs : List Stored) → AllByRecursion (IsLogWithin parts) logs → list_any (pointwise nat_eq name) parts.names ≡ false → list_any (pointwise nat_eq name) (targets_of (logs_of parts logs)) ≡ false
+  none_targets : (logs : List Stored) → AllByRecursion (IsLogWithin parts) logs → list_any (pointwise nat_eq name) parts.names ≡ false
+      → list_any (pointwise nat_eq name) (targets_of (logs_of parts logs)) ≡ false
   none_targets [] within none = refl
   none_targets (log ∷ logs) within none =
-      (λ i. none_at (pointwise nat_eq name) parts.names log.name [] none within.0.name i || list_any (pointwise nat_eq name) (targets_of (logs_of parts logs)))
+      (λ i. none_at (pointwise nat_eq name) parts.names log.name [] none within.0.name i
+      || list_any (pointwise nat_eq name) (targets_of (logs_of parts logs)))
       ∙ none_targets logs within.1 none
 
   -- A target has no log if its name is not found among the names.
-  pub unnamed : (logs : List Stored) → AllByRecursion (IsLogWithin parts) logs → position (pointwise nat_eq name) parts.names ≡ None → log_number name (logs_of parts logs) ≡ None
+  pub unnamed : (logs : List Stored) → AllByRecursion (IsLogWithin parts) logs → position (pointwise nat_eq name) parts.names ≡ None
+      → log_number name (logs_of parts logs) ≡ None
   unnamed logs within none =
       no_place (pointwise nat_eq name) (targets_of (logs_of parts logs))
       (none_targets logs within (sym (some_place (pointwise nat_eq name) parts.names) ∙ ap is_some none))
 
   -- The same, if its name is not among the names.
-  pub none_placed : (logs : List Stored) → AllByRecursion (IsLogWithin parts) logs → list_any (pointwise nat_eq name) parts.names ≡ false → log_number name (logs_of parts logs) ≡ None
+  pub none_placed : (logs : List Stored) → AllByRecursion (IsLogWithin parts) logs → list_any (pointwise nat_eq name) parts.names ≡ false
+      → log_number name (logs_of parts logs) ≡ None
   none_placed logs within none = no_place (pointwise nat_eq name) (targets_of (logs_of parts logs)) (none_targets logs within none)
 
 -- More is stored.
@@ -160,8 +179,13 @@ module _ (old new : Parts) (grows : Extends old new) where
 
   logs_within : (logs : List Stored) → AllByRecursion (IsLogWithin old) logs → AllByRecursion (IsLogWithin new) logs
   logs_within [] within = within
-  logs_within (log ∷ logs) within =
-      (record { name = omega (arith, within.0.name, front_length old.names new.names grows.names.front); records = all_within_grown old new log.records grows within.0.records }, logs_within logs within.1)
+  logs_within (log ∷ logs) within = (
+    record {
+      name = omega (arith, within.0.name, front_length old.names new.names grows.names.front);
+      records = all_within_grown old new log.records grows within.0.records;
+    },
+    logs_within logs within.1,
+  )
 
   -- A name that is new has no log.
   pub grown_stored : (logs : List Stored) (places : List (Option ℕ)) → IsStored old logs places → IsStored new logs places
@@ -178,7 +202,8 @@ module _ (old new : Parts) (grows : Extends old new) where
       targets_then : targets_of (logs_of new logs) ≡ targets_of (logs_of old logs)
       targets_then = ap targets_of (logs_grown logs stored.within)
 
-      by : (number : ℕ) → number < length new.names → (known : Bool) → ltb number (length old.names) ≡ known → get_or places number None ≡ log_number (name_at new.names number) (logs_of new logs)
+      by : (number : ℕ) → number < length new.names → (known : Bool) → ltb number (length old.names) ≡ known
+          → get_or places number None ≡ log_number (name_at new.names number) (logs_of new logs)
       by number below true known =
           let before : number < length old.names = ltb-true number (length old.names) known in
           stored.are_places number before

@@ -22,20 +22,25 @@ filled = update_log 1 (with_state (Failed TooLong)) (update_log 0 (with_state En
 
 contents :
     (two ≡ record { target = codes "a"; entries = []; state = Running } ∷ record { target = codes "b"; entries = []; state = Running } ∷ [])
-    × (filled ≡ record { target = codes "a"; entries = Text (codes "x") ∷ []; state = Ended } ∷ record { target = codes "b"; entries = []; state = Failed TooLong } ∷ [])
+    × (filled ≡ record { target = codes "a"; entries = Text (codes "x") ∷ []; state = Ended }
+    ∷ record { target = codes "b"; entries = []; state = Failed TooLong } ∷ [])
     × (update_log 0 (with_entries (Text (codes "y") ∷ Text (codes "z") ∷ [])) filled
-    ≡ record { target = codes "a"; entries = Text (codes "x") ∷ Text (codes "y") ∷ Text (codes "z") ∷ []; state = Ended } ∷ record { target = codes "b"; entries = []; state = Failed TooLong } ∷ [])
+    ≡ record { target = codes "a"; entries = Text (codes "x") ∷ Text (codes "y") ∷ Text (codes "z") ∷ []; state = Ended }
+    ∷ record { target = codes "b"; entries = []; state = Failed TooLong } ∷ [])
     × (update_log 2 (with_state Ended) two ≡ two)
 contents = (refl, refl, refl, refl)
 
 -- An entry is added after the last one.
-added : with_entry (Text (codes "y")) (with_entry (Text (codes "x")) (new_log (codes "a"))) ≡ record { target = codes "a"; entries = Text (codes "x") ∷ Text (codes "y") ∷ []; state = Running }
+added : with_entry (Text (codes "y")) (with_entry (Text (codes "x")) (new_log (codes "a")))
+    ≡ record { target = codes "a"; entries = Text (codes "x") ∷ Text (codes "y") ∷ []; state = Running }
 added = refl
 
 -- A log that ends or fails keeps its entries.
 entries_kept :
-    (with_state (Failed Read) (with_entry (Text (codes "x")) (new_log (codes "a"))) ≡ record { target = codes "a"; entries = Text (codes "x") ∷ []; state = Failed Read })
-    × (with_state Ended (with_entry (Text (codes "x")) (new_log (codes "a"))) ≡ record { target = codes "a"; entries = Text (codes "x") ∷ []; state = Ended })
+    (with_state (Failed Read) (with_entry (Text (codes "x")) (new_log (codes "a")))
+    ≡ record { target = codes "a"; entries = Text (codes "x") ∷ []; state = Failed Read })
+    × (with_state Ended (with_entry (Text (codes "x")) (new_log (codes "a")))
+    ≡ record { target = codes "a"; entries = Text (codes "x") ∷ []; state = Ended })
 entries_kept = (refl, refl)
 
 places : (log_number (codes "a") two ≡ Some 0) × (log_number (codes "b") two ≡ Some 1) × (log_number (codes "c") two ≡ None)
@@ -72,24 +77,31 @@ at bytes = record { ref_ptr = (0, 0); now = bytes }
 
 -- One entry of each kind.
 seen :
-    (entry_value (shown.Text (at (codes "x"))) ≡ Text (codes "x")) × (entry_value (shown.Mention 7 Made (at (codes "a"))) ≡ Mention 7 Made (codes "a"))
-    × (entry_value (shown.Done 7 (pos 1) (at (codes "a"))) ≡ Done 7 (pos 1) (codes "a")) × (entry_value (shown.Closing 7 (pos 1)) ≡ Closing 7 (pos 1))
+    (entry_value (shown.Text (at (codes "x"))) ≡ Text (codes "x"))
+    × (entry_value (shown.Mention 7 Made (at (codes "a"))) ≡ Mention 7 Made (codes "a"))
+    × (entry_value (shown.Done 7 (pos 1) (at (codes "a"))) ≡ Done 7 (pos 1) (codes "a"))
+    × (entry_value (shown.Closing 7 (pos 1)) ≡ Closing 7 (pos 1))
     × (entry_value (shown.Note 7 (at (codes "k")) (at (codes "t"))) ≡ Note 7 (codes "k") (codes "t"))
-    × (numbered_value names (numbered.Mention 7 Made 1) ≡ Mention 7 Made (codes "b")) × (numbered_value names (numbered.Other (shown.Closing 7 (pos 1))) ≡ Closing 7 (pos 1))
+    × (numbered_value names (numbered.Mention 7 Made 1) ≡ Mention 7 Made (codes "b"))
+    × (numbered_value names (numbered.Other (shown.Closing 7 (pos 1))) ≡ Closing 7 (pos 1))
 seen = (refl, refl, refl, refl, refl, refl, refl)
 
 -- A mention keeps its kind.
 kinds_seen :
-    (numbered_value names (numbered.Mention 7 Waiting 1) ≡ Mention 7 Waiting (codes "b")) × (numbered_value names (numbered.Mention 7 Locked 0) ≡ Mention 7 Locked (codes "a"))
-    × (numbered_value names (numbered.Mention 7 Unlocked 1) ≡ Mention 7 Unlocked (codes "b")) × (numbered_value names (numbered.Mention 7 Unchanged 0) ≡ Mention 7 Unchanged (codes "a"))
+    (numbered_value names (numbered.Mention 7 Waiting 1) ≡ Mention 7 Waiting (codes "b"))
+    × (numbered_value names (numbered.Mention 7 Locked 0) ≡ Mention 7 Locked (codes "a"))
+    × (numbered_value names (numbered.Mention 7 Unlocked 1) ≡ Mention 7 Unlocked (codes "b"))
+    × (numbered_value names (numbered.Mention 7 Unchanged 0) ≡ Mention 7 Unchanged (codes "a"))
     × (entry_value (shown.Mention 7 Unchanged (at (codes "a"))) ≡ Mention 7 Unchanged (codes "a"))
 kinds_seen = (refl, refl, refl, refl, refl)
 
 -- A mention has the number of a name, and any other entry is no mention.
 are_numbered :
     IsNumbered names (numbered.Mention 7 Made 1) × (IsNumbered names (numbered.Mention 7 Made 2) → ⊥)
-    × IsNumbered names (numbered.Other (shown.Text (at (codes "x")))) × IsNumbered names (numbered.Other (shown.Done 7 (pos 1) (at (codes "a"))))
-    × IsNumbered names (numbered.Other (shown.Closing 7 (pos 1))) × IsNumbered names (numbered.Other (shown.Note 7 (at (codes "k")) (at (codes "t"))))
+    × IsNumbered names (numbered.Other (shown.Text (at (codes "x"))))
+    × IsNumbered names (numbered.Other (shown.Done 7 (pos 1) (at (codes "a"))))
+    × IsNumbered names (numbered.Other (shown.Closing 7 (pos 1)))
+    × IsNumbered names (numbered.Other (shown.Note 7 (at (codes "k")) (at (codes "t"))))
     × (IsNumbered names (numbered.Other (shown.Mention 7 Made (at (codes "a")))) → ⊥)
 are_numbered = (omega arith, (λ is. omega (arith, is)), tt, tt, tt, tt, (λ is. is))
 
@@ -100,7 +112,8 @@ texts = record { target = codes "a"; entries = Mention 7 Made (codes "b") ∷ Te
 are_texts : AreTexts texts 0 1 (codes "x" ∷ [] ∷ []) × AreTexts texts 0 2 ([] ∷ []) × AreTexts texts 0 0 []
 are_texts = ((refl, (refl, tt)), (refl, tt), tt)
 
-no_texts : (AreTexts texts 0 1 ([] ∷ []) → ⊥) × (AreTexts texts 0 1 (codes "x" ∷ codes "x" ∷ []) → ⊥) × (AreTexts texts 0 0 (codes "x" ∷ []) → ⊥)
+no_texts : (AreTexts texts 0 1 ([] ∷ []) → ⊥) × (AreTexts texts 0 1 (codes "x" ∷ codes "x" ∷ []) → ⊥)
+    × (AreTexts texts 0 0 (codes "x" ∷ []) → ⊥)
 no_texts = ((λ is. let same = is.0 in cc), (λ is. let same = is.1.0 in cc), (λ is. let same = is.0 in cc))
 
 have_text : HasText texts 0 1 × HasText texts 0 2 × (HasText texts 0 0 → ⊥) × (HasText texts 0 3 → ⊥)
@@ -108,8 +121,20 @@ have_text = ((codes "x", refl), ([], refl), (λ is. let same = is.1 in cc), (λ 
 
 are_lines : AreLinesAt texts 0 1 (120 ∷ 10 ∷ 10 ∷ []) 2 × AreLinesAt texts 0 1 (120 ∷ 10 ∷ []) 1
 are_lines = (
-  record { texts = codes "x" ∷ [] ∷ []; are = (refl, (refl, tt)); count_is = refl; no_line_feeds = (((λ is. omega (arith, is)), tt), (tt, tt)); bytes_are = refl },
-  record { texts = codes "x" ∷ []; are = (refl, tt); count_is = refl; no_line_feeds = (((λ is. omega (arith, is)), tt), tt); bytes_are = refl },
+  record {
+    texts = codes "x" ∷ [] ∷ [];
+    are = (refl, (refl, tt));
+    count_is = refl;
+    no_line_feeds = (((λ is. omega (arith, is)), tt), (tt, tt));
+    bytes_are = refl;
+  },
+  record {
+    texts = codes "x" ∷ [];
+    are = (refl, tt);
+    count_is = refl;
+    no_line_feeds = (((λ is. omega (arith, is)), tt), tt);
+    bytes_are = refl;
+  },
 )
 
 -- An empty text is one line, a line feed. No text is no line, and a mention is no line.

@@ -23,7 +23,8 @@ ordinary_is (a ∷ []) is = by (eqb a 46) refl
 ordinary_is (a ∷ b ∷ []) is = by (eqb a 46) (eqb b 46) refl refl
   where
     by : (first second : Bool) → eqb a 46 ≡ first → eqb b 46 ≡ second → segment_kind (a ∷ b ∷ []) ≡ Ordinary
-    by true true first second = absurd (is.2 (ap (λ (c : ℕ). c ∷ b ∷ []) (eqb-true a 46 first) ∙ ap (λ (c : ℕ). 46 ∷ c ∷ []) (eqb-true b 46 second)))
+    by true true first second = absurd (is.2
+        (ap (λ (c : ℕ). c ∷ b ∷ []) (eqb-true a 46 first) ∙ ap (λ (c : ℕ). 46 ∷ c ∷ []) (eqb-true b 46 second)))
     by true false first second = ap (λ c. cond c (cond (eqb b 46) Upward Ordinary) Ordinary) first ∙ ap (λ c. cond c Upward Ordinary) second
     by false second first is_second = ap (λ c. cond c (cond (eqb b 46) Upward Ordinary) Ordinary) first
 ordinary_is (a ∷ b ∷ c ∷ others) is = refl
@@ -33,7 +34,8 @@ goes_with_upward segment is front behind =
     reduce_suffix-behind front (segment ∷ dot_dot ∷ behind) behind
     (reduce_suffix-cons segment (dot_dot ∷ behind) Ordinary (ordinary_is segment is)
     ∙ ap (with_segment Ordinary segment) (reduce_suffix-cons dot_dot behind Upward refl)
-    ∙ ap (λ (n : ℕ). with_segment Ordinary segment (record { kept = (reduce_suffix behind).kept; count = n })) (add-one (reduce_suffix behind).count))
+    ∙ ap (λ (n : ℕ). with_segment Ordinary segment (record { kept = (reduce_suffix behind).kept; count = n }))
+    (add-one (reduce_suffix behind).count))
 
 all_ordinary : (kept : List (List ℕ)) → AllByRecursion IsOrdinary kept → AllOrdinary kept
 all_ordinary [] are = tt
@@ -50,13 +52,16 @@ abbrev made : Bool → List (List ℕ) → Option (List ℕ)
 made absolute parts = Some (join_segments absolute (remaining_segments absolute (reduce_suffix parts)))
 
 normal_made : (target : Option (List ℕ)) (byte : ℕ) (name : List ℕ)
-    → normal target (byte ∷ name) ≡ made (directory_of (is_absolute (byte ∷ name)) target).0 ((directory_of (is_absolute (byte ∷ name)) target).1 ++ segments (byte ∷ name))
+    → normal target (byte ∷ name) ≡ made (directory_of (is_absolute (byte ∷ name)) target).0
+    ((directory_of (is_absolute (byte ∷ name)) target).1 ++ segments (byte ∷ name))
 unfolding normal
 normal_made target byte name = refl
 
-same_made : (target other : Option (List ℕ)) (byte : ℕ) (name : List ℕ) → directory_of (is_absolute (byte ∷ name)) target ≡ directory_of (is_absolute (byte ∷ name)) other
+same_made : (target other : Option (List ℕ)) (byte : ℕ) (name : List ℕ)
+    → directory_of (is_absolute (byte ∷ name)) target ≡ directory_of (is_absolute (byte ∷ name)) other
     → normal target (byte ∷ name) ≡ normal other (byte ∷ name)
-same_made target other byte name same = normal_made target byte name ∙ ap (λ d. made d.0 (d.1 ++ segments (byte ∷ name))) same ∙ sym (normal_made other byte name)
+same_made target other byte name same =
+    normal_made target byte name ∙ ap (λ d. made d.0 (d.1 ++ segments (byte ∷ name))) same ∙ sym (normal_made other byte name)
 
 none_normal : (target other : Option (List ℕ)) → normal target [] ≡ normal other []
 unfolding normal
@@ -64,7 +69,8 @@ none_normal target other = refl
 
 pub absolute_alone : (target : Option (List ℕ)) (name : List ℕ) → is_absolute name ≡ true → normal target name ≡ normal None name
 absolute_alone target [] is = none_normal target None
-absolute_alone target (byte ∷ name) is = same_made target None byte name (ap (λ a. directory_of a target) is ∙ sym (ap (λ a. directory_of a None) is))
+absolute_alone target (byte ∷ name) is =
+    same_made target None byte name (ap (λ a. directory_of a target) is ∙ sym (ap (λ a. directory_of a None) is))
 
 free_relative : (target : List ℕ) → HasNoSlash target → is_absolute target ≡ false
 free_relative [] free = refl
@@ -76,7 +82,8 @@ free_relative (byte ∷ target) free = by (eqb byte slash) refl
 
 beside_by : (absolute : Bool) (target : List ℕ) → HasNoSlash target → directory_of absolute (Some target) ≡ directory_of absolute None
 beside_by true target free = refl
-beside_by false target free = ap (λ a. (a, without_last (segments target))) (free_relative target free) ∙ ap (λ ps. (false, without_last ps)) (cut-free target free)
+beside_by false target free = ap (λ a. (a, without_last (segments target))) (free_relative target free)
+    ∙ ap (λ ps. (false, without_last ps)) (cut-free target free)
 
 pub beside : (target name : List ℕ) → HasNoSlash target → normal (Some target) name ≡ normal None name
 beside target [] free = none_normal (Some target) None
@@ -91,7 +98,8 @@ alone true = refl
 alone false = refl
 
 -- A name with a slash, in no log.
-with_slash : (front name : List ℕ) → normal None (front ++ slash ∷ name) ≡ made (is_absolute (front ++ slash ∷ name)) (segments front ++ segments name)
+with_slash : (front name : List ℕ) → normal None (front ++ slash ∷ name)
+    ≡ made (is_absolute (front ++ slash ∷ name)) (segments front ++ segments name)
 with_slash [] name = normal_made None slash name ∙ ap (λ ps. made true ps) (cut-slash [] name)
 with_slash (byte ∷ front) name =
     normal_made None byte (front ++ slash ∷ name)
@@ -102,7 +110,8 @@ pub within : (front last name : List ℕ) → HasNoSlash last → IsRelative nam
 within front last [] free is = absurd (is.0 refl)
 within front last (byte ∷ name) free is =
     normal_made (Some (front ++ slash ∷ last)) byte name
-    ∙ ap (λ a. made (directory_of a (Some (front ++ slash ∷ last))).0 ((directory_of a (Some (front ++ slash ∷ last))).1 ++ segments (byte ∷ name))) is.1
+    ∙ ap (λ a. made (directory_of a (Some (front ++ slash ∷ last))).0
+    ((directory_of a (Some (front ++ slash ∷ last))).1 ++ segments (byte ∷ name))) is.1
     ∙ ap (λ ps. made (is_absolute (front ++ slash ∷ last)) (without_last ps ++ segments (byte ∷ name))) (cut-last front last free)
     ∙ ap (λ ps. made (is_absolute (front ++ slash ∷ last)) (ps ++ segments (byte ∷ name))) (without_last-push (segments front) last)
     ∙ ap (λ a. made a (segments front ++ segments (byte ∷ name))) (same_root front last (byte ∷ name))

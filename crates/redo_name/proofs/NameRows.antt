@@ -37,7 +37,19 @@ rows =
 
 computed : AllByRecursion (λ r. normal r.target r.name ≡ r.value) rows
 unfolding reduce_suffix normal
-computed = (refl, (refl, (refl, (refl, (refl, (refl, (refl, (refl, (refl, (refl, (refl, (refl, (refl, (refl, (refl, (refl, (refl, (refl, (refl, tt)))))))))))))))))))
+computed = (
+  refl,
+  (
+    refl,
+    (
+      refl,
+      (
+        refl,
+        (refl, (refl, (refl, (refl, (refl, (refl, (refl, (refl, (refl, (refl, (refl, (refl, (refl, (refl, (refl, tt))))))))))))))),
+      ),
+    ),
+  ),
+)
 
 -- A normal form is its own normal form; other names are not.
 normal_forms : IsNormal (codes "../a/b") × IsNormal (codes "/") × IsNormal (codes ".") × (IsNormal (codes "a/") → ⊥) × (IsNormal [] → ⊥)
@@ -48,5 +60,13 @@ normal_forms = (refl, refl, refl, (λ is. cc), (λ is. cc))
 premises : HasNoSlash (codes "a.b") × IsRelative (codes "a/b") × IsOrdinary (codes "..a")
 premises = (((λ same. cc), ((λ same. cc), ((λ same. cc), tt))), ((λ same. cc), refl), ((λ same. cc), (λ same. cc), (λ same. cc)))
 
-no_premises : (HasNoSlash (codes "a/b") → ⊥) × (IsRelative (codes "/a") → ⊥) × (IsRelative [] → ⊥) × (IsOrdinary [] → ⊥) × (IsOrdinary dot → ⊥) × (IsOrdinary dot_dot → ⊥)
-no_premises = ((λ is. is.1.0 refl), (λ is. let same = is.1 in cc), (λ is. is.0 refl), (λ is. is.0 refl), (λ is. is.1 refl), (λ is. is.2 refl))
+no_premises : (HasNoSlash (codes "a/b") → ⊥) × (IsRelative (codes "/a") → ⊥) × (IsRelative [] → ⊥) × (IsOrdinary [] → ⊥)
+    × (IsOrdinary dot → ⊥) × (IsOrdinary dot_dot → ⊥)
+no_premises = (
+  (λ is. is.1.0 refl),
+  (λ is. let same = is.1 in cc),
+  (λ is. is.0 refl),
+  (λ is. is.0 refl),
+  (λ is. is.1 refl),
+  (λ is. is.2 refl),
+)

@@ -8,7 +8,15 @@ of_words a b = (refl, refl)
 
 -- An argument of one byte. The pointer and the allocator of another argument don't matter.
 abbrev of_byte : Vec ℕ → ℕ → Vec ℕ
-of_byte other byte = record { ptr = other.ptr; len = 1; cap = 1; alloc = other.alloc; items = byte ∷ []; ok = (refl, omega arith); small = omega arith }
+of_byte other byte = record {
+  ptr = other.ptr;
+  len = 1;
+  cap = 1;
+  alloc = other.alloc;
+  items = byte ∷ [];
+  ok = (refl, omega arith);
+  small = omega arith;
+}
 
 in_order : (other : Vec ℕ) → argument_bytes (of_byte other 98 ∷ of_byte other 97 ∷ []) ≡ (98 ∷ []) ∷ (97 ∷ []) ∷ []
 in_order other = refl

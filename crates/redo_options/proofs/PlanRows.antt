@@ -6,10 +6,18 @@ abbrev plan : ℕ → ℕ → ℕ → PlanNumbers
 plan senders capacity max_bytes = record { senders = senders; capacity = capacity; max_bytes = max_bytes }
 
 min_plan : IsPlan (plan 1 1 1)
-min_plan = record { senders_are = (omega arith, omega arith); capacity_is = (omega arith, omega arith); max_bytes_is = (omega arith, omega arith) }
+min_plan = record {
+  senders_are = (omega arith, omega arith);
+  capacity_is = (omega arith, omega arith);
+  max_bytes_is = (omega arith, omega arith);
+}
 
 max_plan : IsPlan (plan 64 65536 1099511627776)
-max_plan = record { senders_are = (omega arith, omega arith); capacity_is = (omega arith, omega arith); max_bytes_is = (omega arith, omega arith) }
+max_plan = record {
+  senders_are = (omega arith, omega arith);
+  capacity_is = (omega arith, omega arith);
+  max_bytes_is = (omega arith, omega arith);
+}
 
 no_sender : IsPlan (plan 0 1 1) → ⊥
 no_sender is = let within = is.senders_are.0 in omega (arith, within)

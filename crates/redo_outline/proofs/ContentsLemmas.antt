@@ -33,7 +33,8 @@ record Are (count : ℕ) (events : List Event) (contents : List Contents) : Type
   levels : HasLevels count contents
   same : events_from count contents ≡ events
 
-shown_are : (count : ℕ) (event : Event) (events : List Event) (contents : List Contents) → Are count events contents → Are count (event ∷ events) (with_shown event contents)
+shown_are : (count : ℕ) (event : Event) (events : List Event) (contents : List Contents) → Are count events contents
+    → Are count (event ∷ events) (with_shown event contents)
 shown_are count event events [] are = absurd are.levels
 shown_are zero event events (inner ∷ []) are = record { levels = tt; same = ap (λ es. event ∷ es) are.same }
 shown_are zero event events (inner ∷ next ∷ outer) are = absurd are.levels
@@ -41,12 +42,14 @@ shown_are (suc count) event events (inner ∷ outer) are = record { levels = are
 
 -- The events of an opened log, and those after its end.
 opened_same : (depth : ℕ) (event : Event) (number : ℕ) (inner next : Contents) (others : List Event)
-    → events_of depth (Opened event number inner next) ++ others ≡ event ∷ (events_of (suc depth) inner ++ LogEnds (suc depth) ∷ (events_of depth next ++ others))
+    → events_of depth (Opened event number inner next) ++ others
+    ≡ event ∷ (events_of (suc depth) inner ++ LogEnds (suc depth) ∷ (events_of depth next ++ others))
 opened_same depth event number inner next others =
     ap (λ (n : ℕ). event ∷ ((events_of n inner ++ LogEnds n ∷ events_of depth next) ++ others)) (add-one depth)
     ∙ ap (λ es. event ∷ es) (append_assoc (events_of (suc depth) inner) (LogEnds (suc depth) ∷ events_of depth next) others)
 
-opened_are : (count : ℕ) (event : Event) (number : ℕ) (events : List Event) (contents : List Contents) → Are (suc count) events contents → Are count (event ∷ events) (with_opened event number contents)
+opened_are : (count : ℕ) (event : Event) (number : ℕ) (events : List Event) (contents : List Contents) → Are (suc count) events contents
+    → Are count (event ∷ events) (with_opened event number contents)
 opened_are count event number events [] are = absurd are.levels
 opened_are count event number events (inner ∷ []) are = absurd are.levels
 opened_are zero event number events (inner ∷ next ∷ []) are = record { levels = tt; same = ap (λ es. event ∷ es) are.same }
@@ -56,7 +59,8 @@ opened_are (suc count) event number events (inner ∷ next ∷ outer) are = reco
   same = opened_same (suc count) event number inner next (LogEnds (suc count) ∷ events_from count outer) ∙ ap (λ es. event ∷ es) are.same;
 }
 
-ends_are : (count : ℕ) (events : List Event) (contents : List Contents) → Are count events contents → Are (suc count) (LogEnds (suc count) ∷ events) (Nothing ∷ contents)
+ends_are : (count : ℕ) (events : List Event) (contents : List Contents) → Are count events contents
+    → Are (suc count) (LogEnds (suc count) ∷ events) (Nothing ∷ contents)
 ends_are count events contents are = record { levels = are.levels; same = ap (λ es. LogEnds (suc count) ∷ es) are.same }
 
 -- What is known of the events after one event, if these events are nested.
@@ -69,8 +73,10 @@ line_are : (same : Bool) (count : ℕ) (opening : Opening) (event : Event) (even
     → Are count (event ∷ events) (with_first event (number_of_opening opening) (contents_from events))
 line_are false count opening event events later nested = absurd (none-some 0 nested)
 line_are true count NotOpened event events later nested = shown_are count event events (contents_from events) (later count nested)
-line_are true count (OpenedBefore number) event events later nested = shown_are count event events (contents_from events) (later count nested)
-line_are true count (OpensHere number) event events later nested = opened_are count event number events (contents_from events) (later (suc count) nested)
+line_are true count (OpenedBefore number) event events later nested =
+    shown_are count event events (contents_from events) (later count nested)
+line_are true count (OpensHere number) event events later nested =
+    opened_are count event number events (contents_from events) (later (suc count) nested)
 
 entry_are : (same : Bool) (count : ℕ) (event : Event) (events : List Event) → Later events
     → option_and_then (λ (next : ℕ). open_after_all next events) (if same then Some count else None) ≡ Some 0
@@ -87,10 +93,12 @@ end_are true outer depth events is later nested =
     (ends_are outer events (contents_from events) (later outer nested))
 
 event_are : (event : Event) (events : List Event) → Later events → Later (event ∷ events)
-event_are (Requested name opening) events later count nested = line_are (nat_eq count 0) count opening (Requested name opening) events later nested
+event_are (Requested name opening) events later count nested =
+    line_are (nat_eq count 0) count opening (Requested name opening) events later nested
 event_are (Mentioned depth pid how name opening) events later count nested =
     line_are (nat_eq count depth) count opening (Mentioned depth pid how name opening) events later nested
-event_are (EntryShown depth entry) events later count nested = entry_are (nat_eq count depth) count (EntryShown depth entry) events later nested
+event_are (EntryShown depth entry) events later count nested =
+    entry_are (nat_eq count depth) count (EntryShown depth entry) events later nested
 event_are (LogEnds depth) events later zero nested = absurd (none-some 0 nested)
 event_are (LogEnds depth) events later (suc outer) nested = end_are (nat_eq (suc outer) depth) outer depth events refl later nested
 

@@ -26,10 +26,12 @@ entry_in (suc number) k (log ∷ logs) = entry_in number k logs
 -- An entry, and the entries after it.
 drop_one : (k : ℕ) (entries : List Entry) (entry : Entry) → slice_get entries k ≡ Some entry → drop k entries ≡ entry ∷ drop (k + 1) entries
 drop_one k entries entry at =
-    drop_more entries k entry (slice_get_within entries k entry at) ∙ ap (λ e. e ∷ drop (k + 1) entries) (get_or_from_slice_get entries k entry entry at)
+    drop_more entries k entry (slice_get_within entries k entry at)
+    ∙ ap (λ e. e ∷ drop (k + 1) entries) (get_or_from_slice_get entries k entry entry at)
 
 drop_none : (k : ℕ) (entries : List Entry) → slice_get entries k ≡ None → drop k entries ≡ []
-drop_none k entries none = elim ((slice_get_cases entries k).1) [ inl there ↦ absurd (none-some there.0 (sym none ∙ there.2)) | inr past ↦ drop_all k entries past.0 ]
+drop_none k entries none = elim ((slice_get_cases entries k).1)
+    [ inl there ↦ absurd (none-some there.0 (sym none ∙ there.2)) | inr past ↦ drop_all k entries past.0 ]
 
 module _ (logs : List Log) (number : ℕ) where
   abbrev pub entries : List Entry
@@ -41,10 +43,13 @@ module _ (logs : List Log) (number : ℕ) where
   no_entry : (k : ℕ) → entry_at number k logs ≡ None → drop k entries ≡ []
   no_entry k none = drop_none k entries (sym (entry_in number k logs) ∙ none)
 
-  text_entries : (k : ℕ) (texts : List (List ℕ)) → AreTexts logs number k texts → drop k entries ≡ map entry.Text texts ++ drop (k + length texts) entries
+  text_entries : (k : ℕ) (texts : List (List ℕ)) → AreTexts logs number k texts
+      → drop k entries ≡ map entry.Text texts ++ drop (k + length texts) entries
   text_entries k [] are = ap (λ (n : ℕ). drop n entries) (omega arith)
   text_entries k (text ∷ texts) are =
-      one_entry k (entry.Text text) are.0 ∙ ap (λ es. entry.Text text ∷ es) (text_entries (k + 1) texts are.1 ∙ ap (λ (n : ℕ). map entry.Text texts ++ drop n entries) (omega arith))
+      one_entry k (entry.Text text) are.0
+      ∙ ap (λ es. entry.Text text ∷ es) (text_entries (k + 1) texts are.1
+      ∙ ap (λ (n : ℕ). map entry.Text texts ++ drop n entries) (omega arith))
 
 -- ---- facts of texts and of other entries
 
@@ -60,7 +65,8 @@ size-is : (texts : List (List ℕ)) → text_size texts ≡ length (flat_map wit
 size-is [] = refl
 size-is (text ∷ texts) =
     let later = size-is texts in
-    sum_by-cons (λ t. length t + 1) text texts ∙ omega (arith, later, length-append text (10 ∷ []), length-append (with_line_feed text) (flat_map with_line_feed texts))
+    sum_by-cons (λ t. length t + 1) text texts
+    ∙ omega (arith, later, length-append text (10 ∷ []), length-append (with_line_feed text) (flat_map with_line_feed texts))
 
 -- Whether an entry is no text line.
 abbrev IsNoText : Entry → Type 0
@@ -118,19 +124,26 @@ gathered_none all = record {
 }
 
 -- Counts that are added one after the other.
-added : (old more rest after all : ℕ) → old ≤ max_count → after ≡ more + rest → saturated (old + after) ≡ saturated all → saturated (saturated (old + more) + rest) ≡ saturated all
+added : (old more rest after all : ℕ) → old ≤ max_count → after ≡ more + rest → saturated (old + after) ≡ saturated all
+    → saturated (saturated (old + more) + rest) ≡ saturated all
 added old more rest after all fits is so_far = omega (arith, is, so_far, fits)
 
 module _ (logs : List Log) (number k : ℕ) (facts : LogFacts) (so_far : Gathered (entries_at number logs) k facts) where
   module _ (bytes : List ℕ) (count : ℕ) (lines : AreLinesAt logs number k bytes count) where
     lines_are : (lines.texts ≡ ended bytes) × ([] ≡ rest bytes)
-    lines_are = only_lines bytes lines.texts [] (record { whole = lines.bytes_are ∙ sym (append-nil (flat_map with_line_feed lines.texts)); lines_hold_none = lines.no_line_feeds; rest_holds_none = tt })
+    lines_are = only_lines bytes lines.texts []
+        (record {
+          whole = lines.bytes_are ∙ sym (append-nil (flat_map with_line_feed lines.texts));
+          lines_hold_none = lines.no_line_feeds;
+          rest_holds_none = tt;
+        })
 
     pub no_rest : rest bytes ≡ []
     no_rest = sym lines_are.1
 
     next_entries : drop k (entries logs number) ≡ map entry.Text lines.texts ++ drop (k + count) (entries logs number)
-    next_entries = text_entries logs number k lines.texts lines.are ∙ ap (λ (n : ℕ). map entry.Text lines.texts ++ drop (k + n) (entries logs number)) lines.count_is
+    next_entries = text_entries logs number k lines.texts lines.are
+        ∙ ap (λ (n : ℕ). map entry.Text lines.texts ++ drop (k + n) (entries logs number)) lines.count_is
 
     next_texts : texts_of (drop k (entries logs number)) ≡ lines.texts ++ texts_of (drop (k + count) (entries logs number))
     next_texts = ap texts_of next_entries ∙ texts-append lines.texts (drop (k + count) (entries logs number))
@@ -144,12 +157,16 @@ module _ (logs : List Log) (number k : ℕ) (facts : LogFacts) (so_far : Gathere
     gathered_lines =
         let later = texts_of (drop (k + count) (entries logs number)) in
         record {
-          lines = added facts.lines count (length later) _ _ so_far.lines_fit (ap length next_texts ∙ length-append lines.texts later ∙ ap (λ (n : ℕ). n + length later) lines.count_is) so_far.lines;
+          lines = added facts.lines count (length later) _ _ so_far.lines_fit
+              (ap length next_texts ∙ length-append lines.texts later ∙ ap (λ (n : ℕ). n + length later) lines.count_is) so_far.lines;
           bytes = added facts.bytes (length bytes) (text_size later) _ _ so_far.bytes_fit
-              (ap text_size next_texts ∙ sum_by-append (λ t. length t + 1) lines.texts later ∙ ap (λ (n : ℕ). n + text_size later) (size-is lines.texts ∙ ap length (sym lines.bytes_are))) so_far.bytes;
+              (ap text_size next_texts ∙ sum_by-append (λ t. length t + 1) lines.texts later
+              ∙ ap (λ (n : ℕ). n + text_size later) (size-is lines.texts ∙ ap length (sym lines.bytes_are))) so_far.bytes;
           warnings = added facts.warnings (count_by is_warning (ended bytes)) (count_by is_warning later) _ _ so_far.warnings_fit
-              (ap (count_by is_warning) next_texts ∙ sum_by-append (λ t. if is_warning t then 1 else 0) lines.texts later ∙ ap (λ ts. count_by is_warning ts + count_by is_warning later) lines_are.0) so_far.warnings;
-          status = ap (option_or facts.status) (sym (ap status_in_log next_entries ∙ status-texts lines.texts (drop (k + count) (entries logs number)))) ∙ so_far.status;
+              (ap (count_by is_warning) next_texts ∙ sum_by-append (λ t. if is_warning t then 1 else 0) lines.texts later
+              ∙ ap (λ ts. count_by is_warning ts + count_by is_warning later) lines_are.0) so_far.warnings;
+          status = ap (option_or facts.status)
+              (sym (ap status_in_log next_entries ∙ status-texts lines.texts (drop (k + count) (entries logs number)))) ∙ so_far.status;
           lines_fit = omega arith;
           bytes_fit = omega arith;
           warnings_fit = omega arith;
@@ -158,9 +175,17 @@ module _ (logs : List Log) (number k : ℕ) (facts : LogFacts) (so_far : Gathere
     pub lines_smaller : 0 < count → length (drop (k + count) (entries_at number logs)) < length (drop k (entries_at number logs))
     lines_smaller some =
         let whole = ap length next_entries in
-        omega (arith, some, whole, length-append (map entry.Text lines.texts) (drop (k + count) (entries logs number)), length-map lines.texts entry.Text, lines.count_is)
+        omega (
+          arith,
+          some,
+          whole,
+          length-append (map entry.Text lines.texts) (drop (k + count) (entries logs number)),
+          length-map lines.texts entry.Text,
+          lines.count_is,
+        )
 
-  module _ (count : ℕ) (nonempty : HasText logs number k → 0 < count) (none : count ≤ 0) (entry : Entry) (at : entry_at number k logs ≡ Some entry) where
+  module _ (count : ℕ) (nonempty : HasText logs number k → 0 < count) (none : count ≤ 0) (entry : Entry)
+      (at : entry_at number k logs ≡ Some entry) where
     no_text : IsNoText entry
     no_text = is_no_text entry (λ text is. let some = nonempty (text, at ∙ ap Some is) in omega (arith, some, none))
 
@@ -170,13 +195,20 @@ module _ (logs : List Log) (number k : ℕ) (facts : LogFacts) (so_far : Gathere
     same_texts : texts_of (drop k (entries logs number)) ≡ texts_of (drop (k + 1) (entries logs number))
     same_texts = ap texts_of next_one ∙ texts-other entry (drop (k + 1) (entries logs number)) no_text
 
-    pub gathered_entry : Gathered (entries_at number logs) (k + 1) (record { lines = facts.lines; bytes = facts.bytes; warnings = facts.warnings; status = option_or facts.status (closing_status entry) })
+    pub gathered_entry : Gathered (entries_at number logs) (k + 1)
+        (record {
+          lines = facts.lines;
+          bytes = facts.bytes;
+          warnings = facts.warnings;
+          status = option_or facts.status (closing_status entry);
+        })
     gathered_entry = record {
       lines = ap (λ ts. saturated (facts.lines + length ts)) (sym same_texts) ∙ so_far.lines;
       bytes = ap (λ ts. saturated (facts.bytes + text_size ts)) (sym same_texts) ∙ so_far.bytes;
       warnings = ap (λ ts. saturated (facts.warnings + count_by is_warning ts)) (sym same_texts) ∙ so_far.warnings;
       status = or_assoc facts.status (closing_status entry) (status_in_log (drop (k + 1) (entries logs number)))
-          ∙ ap (option_or facts.status) (sym (ap status_in_log next_one ∙ status-cons entry (drop (k + 1) (entries logs number)))) ∙ so_far.status;
+          ∙ ap (option_or facts.status) (sym (ap status_in_log next_one ∙ status-cons entry (drop (k + 1) (entries logs number))))
+          ∙ so_far.status;
       lines_fit = so_far.lines_fit;
       bytes_fit = so_far.bytes_fit;
       warnings_fit = so_far.warnings_fit;
@@ -188,9 +220,13 @@ module _ (logs : List Log) (number k : ℕ) (facts : LogFacts) (so_far : Gathere
   pub gathered_all : entry_at number k logs ≡ None → facts ≡ facts_of (entries_at number logs)
   gathered_all none =
       let last = no_entry logs number k none in
-      let lines : facts.lines ≡ saturated (length (texts_of (entries_at number logs))) = let so = ap (λ es. saturated (facts.lines + length (texts_of es))) (sym last) ∙ so_far.lines in omega (arith, so, so_far.lines_fit) in
-      let bytes : facts.bytes ≡ saturated (text_size (texts_of (entries_at number logs))) = let so = ap (λ es. saturated (facts.bytes + text_size (texts_of es))) (sym last) ∙ so_far.bytes in omega (arith, so, so_far.bytes_fit) in
+      let lines : facts.lines ≡ saturated (length (texts_of (entries_at number logs))) = let so =
+      ap (λ es. saturated (facts.lines + length (texts_of es))) (sym last) ∙ so_far.lines in omega (arith, so, so_far.lines_fit) in
+      let bytes : facts.bytes ≡ saturated (text_size (texts_of (entries_at number logs))) = let so =
+      ap (λ es. saturated (facts.bytes + text_size (texts_of es))) (sym last) ∙ so_far.bytes in omega (arith, so, so_far.bytes_fit) in
       let warnings : facts.warnings ≡ saturated (count_by is_warning (texts_of (entries_at number logs))) =
-      let so = ap (λ es. saturated (facts.warnings + count_by is_warning (texts_of es))) (sym last) ∙ so_far.warnings in omega (arith, so, so_far.warnings_fit) in
-      let status : facts.status ≡ status_in_log (entries_at number logs) = sym (or_none facts.status) ∙ ap (λ es. option_or facts.status (status_in_log es)) (sym last) ∙ so_far.status in
+      let so = ap (λ es. saturated (facts.warnings + count_by is_warning (texts_of es))) (sym last) ∙ so_far.warnings in
+      omega (arith, so, so_far.warnings_fit) in
+      let status : facts.status ≡ status_in_log (entries_at number logs) =
+      sym (or_none facts.status) ∙ ap (λ es. option_or facts.status (status_in_log es)) (sym last) ∙ so_far.status in
       (λ i. record { lines = lines i; bytes = bytes i; warnings = warnings i; status = status i })

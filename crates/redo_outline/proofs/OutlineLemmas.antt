@@ -28,13 +28,17 @@ module _ (logs : List Log) (events : List Event) where
 
   module _ (all : events_of 0 contents ≡ events) where
     grown : Grows contents (initial logs) now
-    grown = subst (λ es. Grows contents (initial logs) (state_after after (initial logs) es)) all (grows contents 0 (initial logs) (are_right events))
+    grown = subst (λ es. Grows contents (initial logs) (state_after after (initial logs) es)) all
+        (grows contents 0 (initial logs) (are_right events))
 
-    nodes_reversed : (brackets_added now.brackets (sweep_begun now.logs now.statuses now.opened now.after_others)).nodes ≡ reverse (nodes_of logs (status_of logs now.statuses) None 0 contents)
+    nodes_reversed : (brackets_added now.brackets (sweep_begun now.logs now.statuses now.opened now.after_others)).nodes
+        ≡ reverse (nodes_of logs (status_of logs now.statuses) None 0 contents)
     nodes_reversed =
         ap (λ ls. (brackets_added now.brackets (sweep_begun ls now.statuses now.opened now.after_others)).nodes) grown.logs
         ∙ ap (λ os. (brackets_added now.brackets (sweep_begun logs now.statuses os now.after_others)).nodes) grown.opened
-        ∙ ap (λ (swept : Swept). swept.nodes) (grown.brackets (sweep_begun logs now.statuses (opened_in None 0 contents) false) ∙ after_contents logs now.statuses contents None 0 [] [] [])
+        ∙ ap (λ (swept : Swept). swept.nodes)
+        (grown.brackets (sweep_begun logs now.statuses (opened_in None 0 contents) false)
+        ∙ after_contents logs now.statuses contents None 0 [] [] [])
 
     pub outline_is : collected_nodes now ≡ outline_of logs events
     outline_is =

@@ -36,26 +36,133 @@ options = record { recursive = true; unchanged = false; details = true; debug_lo
 abbrev logs : List Log
 logs =
     log (codes "all")
-    (made (codes "a") ∷ made (codes "s") ∷ made (codes "t") ∷ made (codes "u") ∷ Done 9 (pos 0) (codes "s") ∷ made (codes "b") ∷ Done 9 (pos 2) (codes "b")
+    (made (codes "a") ∷ made (codes "s") ∷ made (codes "t") ∷ made (codes "u") ∷ Done 9 (pos 0) (codes "s") ∷ made (codes "b")
+    ∷ Done 9 (pos 2) (codes "b")
     ∷ closed (pos 1) ∷ [])
     ∷ log (codes "a") (Text (codes "cc a.c") ∷ Text (codes "a.c: warning: x") ∷ made (codes "c") ∷ closed (pos 0) ∷ [])
     ∷ log (codes "s") []
     ∷ log (codes "t") (closed (pos 0) ∷ [])
     ∷ log (codes "u") (closed (pos 0) ∷ [])
     ∷ log (codes "b") (Text (codes "error") ∷ [])
-    ∷ log (codes "c") (Text (codes "warning") ∷ Text (codes "warning:warning:") ∷ Note 9 (codes "note") (codes "warning:") ∷ closed (negsuc 0) ∷ [])
+    ∷ log (codes "c") (Text (codes "warning") ∷ Text (codes "warning:warning:") ∷ Note 9 (codes "note") (codes "warning:")
+    ∷ closed (negsuc 0) ∷ [])
     ∷ []
 
 -- What is known of each log, in the order in which they are opened.
 abbrev nodes : List Node
 nodes =
-    record { number = 0; parent = None; status = Some (pos 1); lines = 0; bytes = 0; warnings = 0; below = 6; children = 5; others = true; warnings_below = 2; fails_below = true; silent = 0; took = None; ended = None }
-    ∷ record { number = 1; parent = Some 0; status = Some (pos 0); lines = 2; bytes = 23; warnings = 1; below = 1; children = 1; others = true; warnings_below = 1; fails_below = true; silent = 0; took = None; ended = None }
-    ∷ record { number = 6; parent = Some 1; status = Some (negsuc 0); lines = 2; bytes = 25; warnings = 1; below = 0; children = 0; others = true; warnings_below = 0; fails_below = false; silent = 0; took = None; ended = None }
-    ∷ record { number = 2; parent = Some 0; status = Some (pos 0); lines = 0; bytes = 0; warnings = 0; below = 0; children = 0; others = false; warnings_below = 0; fails_below = false; silent = 3; took = None; ended = None }
-    ∷ record { number = 3; parent = Some 0; status = Some (pos 0); lines = 0; bytes = 0; warnings = 0; below = 0; children = 0; others = false; warnings_below = 0; fails_below = false; silent = 2; took = None; ended = None }
-    ∷ record { number = 4; parent = Some 0; status = Some (pos 0); lines = 0; bytes = 0; warnings = 0; below = 0; children = 0; others = false; warnings_below = 0; fails_below = false; silent = 1; took = None; ended = None }
-    ∷ record { number = 5; parent = Some 0; status = Some (pos 2); lines = 1; bytes = 6; warnings = 0; below = 0; children = 0; others = true; warnings_below = 0; fails_below = false; silent = 0; took = None; ended = None }
+    record {
+      number = 0;
+      parent = None;
+      status = Some (pos 1);
+      lines = 0;
+      bytes = 0;
+      warnings = 0;
+      below = 6;
+      children = 5;
+      others = true;
+      warnings_below = 2;
+      fails_below = true;
+      silent = 0;
+      took = None;
+      ended = None;
+    }
+    ∷ record {
+      number = 1;
+      parent = Some 0;
+      status = Some (pos 0);
+      lines = 2;
+      bytes = 23;
+      warnings = 1;
+      below = 1;
+      children = 1;
+      others = true;
+      warnings_below = 1;
+      fails_below = true;
+      silent = 0;
+      took = None;
+      ended = None;
+    }
+    ∷ record {
+      number = 6;
+      parent = Some 1;
+      status = Some (negsuc 0);
+      lines = 2;
+      bytes = 25;
+      warnings = 1;
+      below = 0;
+      children = 0;
+      others = true;
+      warnings_below = 0;
+      fails_below = false;
+      silent = 0;
+      took = None;
+      ended = None;
+    }
+    ∷ record {
+      number = 2;
+      parent = Some 0;
+      status = Some (pos 0);
+      lines = 0;
+      bytes = 0;
+      warnings = 0;
+      below = 0;
+      children = 0;
+      others = false;
+      warnings_below = 0;
+      fails_below = false;
+      silent = 3;
+      took = None;
+      ended = None;
+    }
+    ∷ record {
+      number = 3;
+      parent = Some 0;
+      status = Some (pos 0);
+      lines = 0;
+      bytes = 0;
+      warnings = 0;
+      below = 0;
+      children = 0;
+      others = false;
+      warnings_below = 0;
+      fails_below = false;
+      silent = 2;
+      took = None;
+      ended = None;
+    }
+    ∷ record {
+      number = 4;
+      parent = Some 0;
+      status = Some (pos 0);
+      lines = 0;
+      bytes = 0;
+      warnings = 0;
+      below = 0;
+      children = 0;
+      others = false;
+      warnings_below = 0;
+      fails_below = false;
+      silent = 1;
+      took = None;
+      ended = None;
+    }
+    ∷ record {
+      number = 5;
+      parent = Some 0;
+      status = Some (pos 2);
+      lines = 1;
+      bytes = 6;
+      warnings = 0;
+      below = 0;
+      children = 0;
+      others = true;
+      warnings_below = 0;
+      fails_below = false;
+      silent = 0;
+      took = None;
+      ended = None;
+    }
     ∷ []
 
 outline : outline_of logs (shown_events logs options (codes "all" ∷ [])) ≡ nodes
@@ -85,32 +192,40 @@ part_of node = (node.number, node.parent, node.below, node.children, node.others
 
 quiet_outline :
     map part_of (outline_of quiet (shown_events quiet options (codes "p" ∷ [])))
-    ≡ (0, None, 7, 5, true, true, 0) ∷ (1, Some 0, 0, 0, false, false, 1) ∷ (2, Some 0, 0, 0, false, false, 1) ∷ (3, Some 0, 0, 0, false, false, 0)
-    ∷ (4, Some 0, 1, 1, false, false, 1) ∷ (5, Some 4, 0, 0, false, false, 1) ∷ (6, Some 0, 1, 1, false, true, 0) ∷ (7, Some 6, 0, 0, false, false, 0) ∷ []
+    ≡ (0, None, 7, 5, true, true, 0) ∷ (1, Some 0, 0, 0, false, false, 1) ∷ (2, Some 0, 0, 0, false, false, 1)
+    ∷ (3, Some 0, 0, 0, false, false, 0)
+    ∷ (4, Some 0, 1, 1, false, false, 1) ∷ (5, Some 4, 0, 0, false, false, 1) ∷ (6, Some 0, 1, 1, false, true, 0)
+    ∷ (7, Some 6, 0, 0, false, false, 0) ∷ []
 unfolding show_log_within show_log
 quiet_outline = refl
 
 -- The outline of two requested targets: the second one has no parent.
-two_outlines : map part_of (outline_of quiet (shown_events quiet options (codes "w" ∷ codes "y" ∷ []))) ≡ (4, None, 1, 1, false, false, 1) ∷ (5, Some 0, 0, 0, false, false, 1) ∷ (6, None, 1, 1, false, true, 0) ∷ (7, Some 2, 0, 0, false, false, 0) ∷ []
+two_outlines : map part_of (outline_of quiet (shown_events quiet options (codes "w" ∷ codes "y" ∷ [])))
+    ≡ (4, None, 1, 1, false, false, 1) ∷ (5, Some 0, 0, 0, false, false, 1) ∷ (6, None, 1, 1, false, true, 0)
+    ∷ (7, Some 2, 0, 0, false, false, 0) ∷ []
 unfolding show_log_within show_log
 two_outlines = refl
 
 -- What a nested log has is not directly in the log around it, but it counts as below.
 abbrev nested : List Log
-nested = log (codes "p") (made (codes "q") ∷ []) ∷ log (codes "q") (made (codes "r") ∷ []) ∷ log (codes "r") (Text (codes "x") ∷ closed (pos 1) ∷ []) ∷ []
+nested = log (codes "p") (made (codes "q") ∷ []) ∷ log (codes "q") (made (codes "r") ∷ [])
+    ∷ log (codes "r") (Text (codes "x") ∷ closed (pos 1) ∷ []) ∷ []
 
-nested_others : map part_of (outline_of nested (shown_events nested options (codes "p" ∷ []))) ≡ (0, None, 2, 1, false, true, 0) ∷ (1, Some 0, 1, 1, false, true, 0) ∷ (2, Some 1, 0, 0, true, false, 0) ∷ []
+nested_others : map part_of (outline_of nested (shown_events nested options (codes "p" ∷ [])))
+    ≡ (0, None, 2, 1, false, true, 0) ∷ (1, Some 0, 1, 1, false, true, 0) ∷ (2, Some 1, 0, 0, true, false, 0) ∷ []
 unfolding show_log_within show_log
 nested_others = refl
 
 -- A target that is done with status 0 is not to be seen between silent logs. `t` printed something.
 abbrev between : List Log
 between =
-    log (codes "p") (made (codes "q") ∷ Done 9 (pos 0) (codes "q") ∷ made (codes "r") ∷ made (codes "t") ∷ []) ∷ log (codes "q") [] ∷ log (codes "r") [] ∷ log (codes "t") (Text (codes "x") ∷ []) ∷ []
+    log (codes "p") (made (codes "q") ∷ Done 9 (pos 0) (codes "q") ∷ made (codes "r") ∷ made (codes "t") ∷ []) ∷ log (codes "q") []
+    ∷ log (codes "r") [] ∷ log (codes "t") (Text (codes "x") ∷ []) ∷ []
 
 done_between :
     map part_of (outline_of between (shown_events between options (codes "p" ∷ [])))
-    ≡ (0, None, 3, 3, false, false, 0) ∷ (1, Some 0, 0, 0, false, false, 2) ∷ (2, Some 0, 0, 0, false, false, 1) ∷ (3, Some 0, 0, 0, true, false, 0) ∷ []
+    ≡ (0, None, 3, 3, false, false, 0) ∷ (1, Some 0, 0, 0, false, false, 2) ∷ (2, Some 0, 0, 0, false, false, 1)
+    ∷ (3, Some 0, 0, 0, true, false, 0) ∷ []
 unfolding show_log_within show_log
 done_between = refl
 
@@ -126,20 +241,24 @@ abbrev line : Opening → Event
 line opening = Mentioned 1 9 Made a opening
 
 trees :
-    (contents_of (Requested a (OpensHere 0) ∷ line (OpensHere 5) ∷ text 2 ∷ LogEnds 2 ∷ text 1 ∷ LogEnds 1 ∷ Requested a (OpensHere 3) ∷ LogEnds 1 ∷ [])
-    ≡ Opened (Requested a (OpensHere 0)) 0 (Opened (line (OpensHere 5)) 5 (Shown (text 2) Nothing) (Shown (text 1) Nothing)) (Opened (Requested a (OpensHere 3)) 3 Nothing Nothing))
+    (contents_of (Requested a (OpensHere 0) ∷ line (OpensHere 5) ∷ text 2 ∷ LogEnds 2 ∷ text 1 ∷ LogEnds 1 ∷ Requested a (OpensHere 3)
+    ∷ LogEnds 1 ∷ [])
+    ≡ Opened (Requested a (OpensHere 0)) 0 (Opened (line (OpensHere 5)) 5 (Shown (text 2) Nothing) (Shown (text 1) Nothing))
+    (Opened (Requested a (OpensHere 3)) 3 Nothing Nothing))
     × (contents_of (line NotOpened ∷ line (OpenedBefore 2) ∷ []) ≡ Shown (line NotOpened) (Shown (line (OpenedBefore 2)) Nothing))
     × (contents_from (text 1 ∷ LogEnds 1 ∷ text 0 ∷ []) ≡ Shown (text 1) Nothing ∷ Shown (text 0) Nothing ∷ [])
     × (contents_of [] ≡ Nothing)
 trees = (refl, refl, refl, refl)
 
-events : events_of 2 (Opened (line (OpensHere 5)) 5 (Shown (text 3) Nothing) (Shown (text 2) Nothing)) ≡ line (OpensHere 5) ∷ text 3 ∷ LogEnds 3 ∷ text 2 ∷ []
+events : events_of 2 (Opened (line (OpensHere 5)) 5 (Shown (text 3) Nothing) (Shown (text 2) Nothing))
+    ≡ line (OpensHere 5) ∷ text 3 ∷ LogEnds 3 ∷ text 2 ∷ []
 events = refl
 
 -- ---- facts
 
 targets :
-    (target_at (log a [] ∷ log (codes "b") [] ∷ []) 0 ≡ a) × (target_at (log a [] ∷ log (codes "b") [] ∷ []) 1 ≡ codes "b") × (target_at (log a [] ∷ log (codes "b") [] ∷ []) 2 ≡ [])
+    (target_at (log a [] ∷ log (codes "b") [] ∷ []) 0 ≡ a) × (target_at (log a [] ∷ log (codes "b") [] ∷ []) 1 ≡ codes "b")
+    × (target_at (log a [] ∷ log (codes "b") [] ∷ []) 2 ≡ [])
     × (name_or_empty None ≡ []) × (name_or_empty (Some (codes "c")) ≡ codes "c")
 targets = (refl, refl, refl, refl, refl)
 
@@ -147,7 +266,8 @@ counts : (saturated 5 ≡ 5) × (saturated 0xFFFFFFFFFFFFFFFF ≡ 0xFFFFFFFFFFFF
 counts = (refl, refl, refl)
 
 warnings :
-    (is_warning (codes "warning:") ≡ true) × (is_warning (codes "x.c: warning: y") ≡ true) × (is_warning (codes "wwarning:") ≡ true) × (is_warning (codes "warning :") ≡ false)
+    (is_warning (codes "warning:") ≡ true) × (is_warning (codes "x.c: warning: y") ≡ true) × (is_warning (codes "wwarning:") ≡ true)
+    × (is_warning (codes "warning :") ≡ false)
     × (is_warning (codes "Warning:") ≡ false) × (is_warning [] ≡ false)
 warnings = (refl, refl, refl, refl, refl, refl)
 
@@ -167,12 +287,15 @@ statuses :
     (target_status both (done (pos 5) a ∷ done (pos 3) (codes "b") ∷ done (pos 4) (codes "b") ∷ []) 0 ≡ Some (pos 1))
     × (target_status both (done (pos 5) a ∷ done (pos 3) (codes "b") ∷ done (pos 4) (codes "b") ∷ []) 1 ≡ Some (pos 3))
     × (target_status both (done (pos 3) (codes "x") ∷ text 1 ∷ []) 1 ≡ None)
-    × (is_failure (Some (pos 0)) ≡ false) × (is_failure (Some (pos 1)) ≡ true) × (is_failure (Some (negsuc 0)) ≡ true) × (is_failure None ≡ false)
+    × (is_failure (Some (pos 0)) ≡ false) × (is_failure (Some (pos 1)) ≡ true) × (is_failure (Some (negsuc 0)) ≡ true)
+    × (is_failure None ≡ false)
 statuses = (refl, refl, refl, refl, refl, refl, refl)
 
 visible :
-    (is_visible (done (pos 0) a) ≡ false) × (is_visible (done (pos 1) a) ≡ true) × (is_visible (EntryShown 1 (closed (pos 1))) ≡ false) × (is_visible (text 1) ≡ true)
-    × (is_visible (EntryShown 1 (Note 9 a a)) ≡ true) × (is_visible (line (OpenedBefore 0)) ≡ true) × (is_visible (Requested a NotOpened) ≡ true)
+    (is_visible (done (pos 0) a) ≡ false) × (is_visible (done (pos 1) a) ≡ true) × (is_visible (EntryShown 1 (closed (pos 1))) ≡ false)
+    × (is_visible (text 1) ≡ true)
+    × (is_visible (EntryShown 1 (Note 9 a a)) ≡ true) × (is_visible (line (OpenedBefore 0)) ≡ true)
+    × (is_visible (Requested a NotOpened) ≡ true)
 visible = (refl, refl, refl, refl, refl, refl, refl)
 
 -- ---- times
@@ -201,6 +324,8 @@ run took ended = record { took = took; ended = ended }
 
 times :
     map (with_times (run (Some 70) (Some 170) ∷ run None (Some 180) ∷ run (Some 90) None ∷ run None None ∷ []))
-    (numbered 2 None None ∷ numbered 0 None None ∷ numbered 1 (Some 5) (Some 6) ∷ numbered 3 (Some 5) (Some 6) ∷ numbered 4 (Some 5) (Some 6) ∷ [])
-    ≡ numbered 2 (Some 90) None ∷ numbered 0 (Some 70) (Some 170) ∷ numbered 1 None (Some 180) ∷ numbered 3 None None ∷ numbered 4 None None ∷ []
+    (numbered 2 None None ∷ numbered 0 None None ∷ numbered 1 (Some 5) (Some 6) ∷ numbered 3 (Some 5) (Some 6)
+    ∷ numbered 4 (Some 5) (Some 6) ∷ [])
+    ≡ numbered 2 (Some 90) None ∷ numbered 0 (Some 70) (Some 170) ∷ numbered 1 None (Some 180) ∷ numbered 3 None None
+    ∷ numbered 4 None None ∷ []
 times = refl

@@ -27,7 +27,8 @@ pub split_none : {A : Type 0} (old new : List A) → length new ≤ 0 → old �
 split_none old [] empty is = (ap split_last is, refl)
 split_none old (x ∷ new) empty is = absurd (omega (arith, empty))
 
-pub split_whole : {A : Type 0} (xs : List A) → ((split_last xs ≡ None) × (xs ≡ [])) ⊎ ((ys : List A) × (y : A) × (split_last xs ≡ Some (ys, y)) × (xs ≡ ys ++ y ∷ []))
+pub split_whole : {A : Type 0} (xs : List A)
+    → ((split_last xs ≡ None) × (xs ≡ [])) ⊎ ((ys : List A) × (y : A) × (split_last xs ≡ Some (ys, y)) × (xs ≡ ys ++ y ∷ []))
 split_whole [] = inl (refl, refl)
 split_whole (x ∷ xs) = elim (split_whole xs) [
   | inl none ↦ inr ([], x, ap (λ split. Some (put_before x split)) none.0, ap (λ ys. x ∷ ys) none.1)
@@ -52,7 +53,8 @@ record IsSplit (outer : List Summary) (rest : Summary) (others : List Summary) :
   pub rest_is : IsCounted rest
   pub others_are : AllByRecursion IsCounted others
 
-split_last-counted : (outer : List Summary) → AllByRecursion IsCounted outer → IsSplit outer (last_or_nothing (split_last outer)) (others_of (split_last outer))
+split_last-counted : (outer : List Summary) → AllByRecursion IsCounted outer
+    → IsSplit outer (last_or_nothing (split_last outer)) (others_of (split_last outer))
 split_last-counted outer all = elim (split_whole outer) [
   | inl none ↦ rw none.0 record { total = (rw none.1 (omega arith)); rest_is = counted-nothing; others_are = tt }
   | inr last ↦
@@ -90,7 +92,9 @@ module _ (inner : Summary) (outer : List Summary) (nodes : List Node) (counted :
   silent_bound true = omega (arith, split.rest_is.silent_logs)
   silent_bound false = omega arith
 
-  pub counted_with : (log : OpenedLog) (facts : LogFacts) (status : Option ℤ) → AreCounted (with_log (node_from log facts status inner popped) inner popped) left (nodes ++ node_from log facts status inner popped ∷ [])
+  pub counted_with : (log : OpenedLog) (facts : LogFacts) (status : Option ℤ)
+      → AreCounted (with_log (node_from log facts status inner popped) inner popped) left
+      (nodes ++ node_from log facts status inner popped ∷ [])
   counted_with log facts status = record {
     total = omega (arith, counted.total, split.total, length-append nodes (node_from log facts status inner popped ∷ []));
     inner_is = record { children = omega (arith, split.rest_is.children); silent_logs = silent_bound (is_silent_log status inner) };
@@ -99,24 +103,31 @@ module _ (inner : Summary) (outer : List Summary) (nodes : List Node) (counted :
 
 -- ---- an opening
 
-pub node_at_is : (logs : List Log) (statuses : List (Option ℤ)) (log : OpenedLog) (inside rest : Summary) (facts : LogFacts) (other status : Option ℤ) (node : Node)
-    → facts ≡ facts_of (entries_at log.number logs) → other ≡ slice_index_or statuses log.number None → status ≡ option_or facts.status other → node ≡ node_from log facts status inside rest → node ≡ node_at logs statuses log inside rest
+pub node_at_is : (logs : List Log) (statuses : List (Option ℤ)) (log : OpenedLog) (inside rest : Summary) (facts : LogFacts)
+    (other status : Option ℤ) (node : Node)
+    → facts ≡ facts_of (entries_at log.number logs) → other ≡ slice_index_or statuses log.number None
+    → status ≡ option_or facts.status other → node ≡ node_from log facts status inside rest → node ≡ node_at logs statuses log inside rest
 node_at_is logs statuses log inside rest facts other status node facts_are other_is status_is node_is =
     node_is ∙ ap (λ s. node_from log facts s inside rest) (status_is ∙ ap (option_or facts.status) other_is)
     ∙ ap (λ (f : LogFacts). node_from log f (option_or f.status (slice_index_or statuses log.number None)) inside rest) facts_are
 
 abbrev pub swept_of : List Log → List (Option ℤ) → List OpenedLog → Summary → List Summary → List Node → Swept
-swept_of logs statuses opened inner outer nodes = record { logs = logs; statuses = statuses; opened = opened; inner = inner; outer = outer; nodes = nodes }
+swept_of logs statuses opened inner outer nodes =
+    record { logs = logs; statuses = statuses; opened = opened; inner = inner; outer = outer; nodes = nodes }
 
-pub opening_is : (swept : Swept) (log : OpenedLog) (opened : List OpenedLog) (node : Node) (rest inner : Summary) (outer : List Summary) (nodes : List Node)
-    → split_last swept.opened ≡ Some (opened, log) → rest ≡ last_or_nothing (split_last swept.outer) → outer ≡ others_of (split_last swept.outer)
-    → node ≡ node_at swept.logs swept.statuses log swept.inner rest → nodes ≡ swept.nodes ++ node ∷ [] → inner ≡ with_log node swept.inner rest
+pub opening_is : (swept : Swept) (log : OpenedLog) (opened : List OpenedLog) (node : Node) (rest inner : Summary) (outer : List Summary)
+    (nodes : List Node)
+    → split_last swept.opened ≡ Some (opened, log) → rest ≡ last_or_nothing (split_last swept.outer)
+    → outer ≡ others_of (split_last swept.outer)
+    → node ≡ node_at swept.logs swept.statuses log swept.inner rest → nodes ≡ swept.nodes ++ node ∷ []
+    → inner ≡ with_log node swept.inner rest
     → swept_of swept.logs swept.statuses opened inner outer nodes ≡ opening_added swept
 opening_is swept log opened node rest inner outer nodes opened_is rest_is outer_is node_is nodes_are inner_is =
     rw (inner_is, nodes_are, node_is, outer_is, rest_is) (ap (λ split. opening_added_at split swept) (sym opened_is))
 
 -- ---- brackets
 
-pub added-last : (brackets : List Bracket) (bracket : Bracket) (swept : Swept) → brackets_added (brackets ++ bracket ∷ []) swept ≡ brackets_added brackets (bracket_added bracket swept)
+pub added-last : (brackets : List Bracket) (bracket : Bracket) (swept : Swept)
+    → brackets_added (brackets ++ bracket ∷ []) swept ≡ brackets_added brackets (bracket_added bracket swept)
 added-last [] bracket swept = refl
 added-last (other ∷ brackets) bracket swept = ap (bracket_added other) (added-last brackets bracket swept)

@@ -18,12 +18,17 @@ differs a b other = elim (eqb_tells a b) [ inl same ↦ absurd (other same.1) | 
 
 -- ---- the bytes after the first line feed
 
-after_line_is : (bytes : List ℕ) (end : ℕ) → NoneBefore (Passes (is_byte line_feed) bytes) 0 (length bytes) end → Passes (is_byte line_feed) bytes end → drop (end + 1) bytes ≡ after_line bytes
+after_line_is : (bytes : List ℕ) (end : ℕ) → NoneBefore (Passes (is_byte line_feed) bytes) 0 (length bytes) end
+    → Passes (is_byte line_feed) bytes end → drop (end + 1) bytes ≡ after_line bytes
 after_line_is [] end before passes = absurd (omega (arith, before.high))
 after_line_is (byte ∷ bytes) zero before passes = ap (λ (b : Bool). if b then bytes else after_line bytes) (sym passes)
 after_line_is (byte ∷ bytes) (suc end) before passes =
     ap (λ (n : ℕ). drop n (byte ∷ bytes)) (add-one (suc end)) ∙ ap (λ (n : ℕ). drop n bytes) (sym (add-one end))
-    ∙ after_line_is bytes end (record { low = omega arith; high = omega (arith, before.high); before = λ k low high. before.before (suc k) (omega arith) (omega (arith, high)) }) passes
+    ∙ after_line_is bytes end (record {
+      low = omega arith;
+      high = omega (arith, before.high);
+      before = λ k low high. before.before (suc k) (omega arith) (omega (arith, high));
+    }) passes
     ∙ ap (λ (b : Bool). if b then bytes else after_line bytes) (sym (by (byte == line_feed) refl))
   where
     by : (b : Bool) → (byte == line_feed) ≡ b → (byte == line_feed) ≡ false
@@ -40,7 +45,9 @@ no_line_after (byte ∷ bytes) nowhere =
     by true is = absurd (nowhere 0 (omega arith) (omega arith) is)
     by false is = is
 
-pub after_found : (bytes : List ℕ) (end : ℕ) → NoneBefore (Passes (is_byte line_feed) bytes) 0 (length bytes) end × Passes (is_byte line_feed) bytes end → drop (end + 1) bytes ≡ after_line bytes
+pub after_found : (bytes : List ℕ) (end : ℕ)
+    → NoneBefore (Passes (is_byte line_feed) bytes) 0 (length bytes) end × Passes (is_byte line_feed) bytes end
+    → drop (end + 1) bytes ≡ after_line bytes
 after_found bytes end found = after_line_is bytes end found.0 found.1
 
 pub after_none : (bytes : List ℕ) → Nowhere (Passes (is_byte line_feed) bytes) 0 (length bytes) → [] ≡ after_line bytes
@@ -60,7 +67,8 @@ starts-begins (p ∷ ps) [] = refl
 starts-begins (p ∷ ps) (byte ∷ bytes) = ap (λ (b : Bool). nat_eq p byte && b) (starts-begins ps bytes)
 
 -- A part without line feeds is in one line.
-begins-line : (part text more : List ℕ) → HasNoLineFeed part → HasNoLineFeed text → begins part (text ++ line_feed ∷ more) ≡ begins part text
+begins-line : (part text more : List ℕ) → HasNoLineFeed part → HasNoLineFeed text
+    → begins part (text ++ line_feed ∷ more) ≡ begins part text
 begins-line [] text more free free_text = refl
 begins-line (p ∷ ps) [] more free free_text = ap (λ (b : Bool). b && begins ps more) (differs p line_feed free.0)
 begins-line (p ∷ ps) (byte ∷ text) more free free_text = ap (λ (b : Bool). nat_eq p byte && b) (begins-line ps text more free.1 free_text.1)
@@ -88,13 +96,18 @@ begins-reads (p ∷ ps) (byte ∷ bytes) is =
     let later = begins-reads ps bytes both.1 in
     (omega (arith, later.0), by (eqb-true p byte both.0) later.1)
   where
-    by : p ≡ byte → ((j : ℕ) → j < length ps → slice_index bytes j ≡ slice_index ps j) → (j : ℕ) → j < length (p ∷ ps) → slice_index (byte ∷ bytes) j ≡ slice_index (p ∷ ps) j
+    by : p ≡ byte → ((j : ℕ) → j < length ps → slice_index bytes j ≡ slice_index ps j) → (j : ℕ) → j < length (p ∷ ps)
+        → slice_index (byte ∷ bytes) j ≡ slice_index (p ∷ ps) j
     by first later zero low = sym first
     by first later (suc j) low = later j (omega (arith, low))
 
 occurs-begins : (bytes part : List ℕ) (k : ℕ) → OccursAt bytes part k → begins part (drop k bytes) ≡ true
 occurs-begins bytes part k occurs =
-    reads-begins part (drop k bytes) (omega (arith, length-drop k bytes, occurs.fits), λ j low. get_or-drop k bytes j 0 ∙ occurs.reads j low)
+    reads-begins part (drop k bytes) (
+      omega (arith, length-drop k bytes, occurs.fits),
+      λ j low. get_or-drop k bytes j 0
+          ∙ occurs.reads j low,
+    )
 
 begins-occurs : (bytes part : List ℕ) (k : ℕ) → 0 < length part → begins part (drop k bytes) ≡ true → OccursAt bytes part k
 begins-occurs bytes part k some is =
@@ -111,7 +124,8 @@ below_at k at low differ = elim (cases_lt k at) [ inl below ↦ omega arith | in
 after_free : (bytes more : List ℕ) → HasNoLineFeed bytes → after_line (bytes ++ line_feed ∷ more) ≡ more
 after_free [] more free = refl
 after_free (byte ∷ bytes) more free =
-    ap (λ (b : Bool). if b then bytes ++ line_feed ∷ more else after_line (bytes ++ line_feed ∷ more)) (differs byte line_feed free.0) ∙ after_free bytes more free.1
+    ap (λ (b : Bool). if b then bytes ++ line_feed ∷ more else after_line (bytes ++ line_feed ∷ more)) (differs byte line_feed free.0)
+    ∙ after_free bytes more free.1
 
 -- The tail of a suffix.
 next_suffix : (bytes : List ℕ) (k : ℕ) (byte : ℕ) (later : List ℕ) → byte ∷ later ≡ drop k bytes → later ≡ drop (suc k) bytes
@@ -132,36 +146,48 @@ module _ (p : ℕ) (ps : List ℕ) where
 
   contains-is : (bytes : List ℕ) → contains part bytes ≡ is_some (from_part bytes)
   contains-is [] = refl
-  contains-is (byte ∷ bytes) = ap (λ (b : Bool). if b then true else contains part bytes) (starts-begins part (byte ∷ bytes)) ∙ by (begins part (byte ∷ bytes)) (contains-is bytes)
+  contains-is (byte ∷ bytes) = ap (λ (b : Bool). if b then true else contains part bytes) (starts-begins part (byte ∷ bytes))
+      ∙ by (begins part (byte ∷ bytes)) (contains-is bytes)
     where
-      by : (b : Bool) → contains part bytes ≡ is_some (from_part bytes) → (if b then true else contains part bytes) ≡ is_some (if b then Some (byte ∷ bytes) else from_part bytes)
+      by : (b : Bool) → contains part bytes ≡ is_some (from_part bytes)
+          → (if b then true else contains part bytes) ≡ is_some (if b then Some (byte ∷ bytes) else from_part bytes)
       by true later = refl
       by false later = later
 
-  found_from : (hay : List ℕ) (k at : ℕ) (bytes : List ℕ) → bytes ≡ drop k hay → k ≤ at → ((j : ℕ) → k ≤ j → j < at → ¬ OccursAt hay part j) → OccursAt hay part at → from_part bytes ≡ Some (drop at hay)
+  found_from : (hay : List ℕ) (k at : ℕ) (bytes : List ℕ) → bytes ≡ drop k hay → k ≤ at → ((j : ℕ) → k ≤ j → j < at → ¬ OccursAt hay part j)
+      → OccursAt hay part at → from_part bytes ≡ Some (drop at hay)
   found_from hay k at [] is low before occurs = let none = ap length is in absurd (omega (arith, none, length-drop k hay, occurs.fits))
   found_from hay k at (byte ∷ bytes) is low before occurs =
-      by (begins part (byte ∷ bytes)) refl (λ further. found_from hay (suc k) at bytes (next_suffix hay k byte bytes is) further (λ j high below. before j (omega arith) below) occurs)
+      by (begins part (byte ∷ bytes)) refl
+      (λ further. found_from hay (suc k) at bytes (next_suffix hay k byte bytes is) further
+      (λ j high below. before j (omega arith) below) occurs)
     where
       here : begins part (byte ∷ bytes) ≡ true → k < at → ⊥
       here is_here below = before k (omega arith) below (begins-occurs hay part k (omega arith) (ap (begins part) (sym is) ∙ is_here))
 
       later : begins part (byte ∷ bytes) ≡ false → k ≡ at → ⊥
-      later is_not same = true≢false (sym (occurs-begins hay part at occurs) ∙ ap (λ (n : ℕ). begins part (drop n hay)) (sym same) ∙ ap (begins part) (sym is) ∙ is_not)
+      later is_not same = true≢false (sym (occurs-begins hay part at occurs) ∙ ap (λ (n : ℕ). begins part (drop n hay)) (sym same)
+          ∙ ap (begins part) (sym is) ∙ is_not)
 
-      by : (b : Bool) → begins part (byte ∷ bytes) ≡ b → (suc k ≤ at → from_part bytes ≡ Some (drop at hay)) → (if b then Some (byte ∷ bytes) else from_part bytes) ≡ Some (drop at hay)
+      by : (b : Bool) → begins part (byte ∷ bytes) ≡ b → (suc k ≤ at → from_part bytes ≡ Some (drop at hay))
+          → (if b then Some (byte ∷ bytes) else from_part bytes) ≡ Some (drop at hay)
       by true is_here further = ap Some (is ∙ ap (λ (n : ℕ). drop n hay) (same_at k at low (here is_here)))
       by false is_not further = further (below_at k at low (later is_not))
 
-  none_from : (hay : List ℕ) (k : ℕ) (bytes : List ℕ) → bytes ≡ drop k hay → ((j : ℕ) → k ≤ j → j < length hay + 1 → ¬ OccursAt hay part j) → from_part bytes ≡ None
+  none_from : (hay : List ℕ) (k : ℕ) (bytes : List ℕ) → bytes ≡ drop k hay → ((j : ℕ) → k ≤ j → j < length hay + 1 → ¬ OccursAt hay part j)
+      → from_part bytes ≡ None
   none_from hay k [] is nowhere = refl
-  none_from hay k (byte ∷ bytes) is nowhere = by (begins part (byte ∷ bytes)) refl (none_from hay (suc k) bytes (next_suffix hay k byte bytes is) (λ j low high. nowhere j (omega arith) high))
+  none_from hay k (byte ∷ bytes) is nowhere =
+      by (begins part (byte ∷ bytes)) refl
+      (none_from hay (suc k) bytes (next_suffix hay k byte bytes is) (λ j low high. nowhere j (omega arith) high))
     where
       within : k < length hay + 1
       within = let some = ap length is in omega (arith, some, length-drop k hay)
 
-      by : (b : Bool) → begins part (byte ∷ bytes) ≡ b → from_part bytes ≡ None → (if b then Some (byte ∷ bytes) else from_part bytes) ≡ None
-      by true is_here later = absurd (nowhere k (omega arith) within (begins-occurs hay part k (omega arith) (ap (begins part) (sym is) ∙ is_here)))
+      by : (b : Bool) → begins part (byte ∷ bytes) ≡ b → from_part bytes ≡ None
+          → (if b then Some (byte ∷ bytes) else from_part bytes) ≡ None
+      by true is_here later = absurd (nowhere k (omega arith) within
+          (begins-occurs hay part k (omega arith) (ap (begins part) (sym is) ∙ is_here)))
       by false is_not later = later
 
   -- ---- lines
@@ -173,26 +199,36 @@ module _ (p : ℕ) (ps : List ℕ) where
 
   module _ (free : HasNoLineFeed part) where
     from_line : (text more : List ℕ) → HasNoLineFeed text → from_part (text ++ line_feed ∷ more) ≡ or_after (from_part text) more
-    from_line [] more free_text = ap (λ (b : Bool). if b then Some (line_feed ∷ more) else from_part more) (begins-line part [] more free free_text)
+    from_line [] more free_text = ap (λ (b : Bool). if b then Some (line_feed ∷ more) else from_part more)
+        (begins-line part [] more free free_text)
     from_line (byte ∷ text) more free_text =
-        ap (λ (b : Bool). if b then Some (byte ∷ (text ++ line_feed ∷ more)) else from_part (text ++ line_feed ∷ more)) (begins-line part (byte ∷ text) more free free_text)
+        ap (λ (b : Bool). if b then Some (byte ∷ (text ++ line_feed ∷ more)) else from_part (text ++ line_feed ∷ more))
+        (begins-line part (byte ∷ text) more free free_text)
         ∙ by (begins part (byte ∷ text)) (from_line text more free_text.1)
       where
         by : (b : Bool) → from_part (text ++ line_feed ∷ more) ≡ or_after (from_part text) more
-            → (if b then Some (byte ∷ (text ++ line_feed ∷ more)) else from_part (text ++ line_feed ∷ more)) ≡ or_after (if b then Some (byte ∷ text) else from_part text) more
+            → (if b then Some (byte ∷ (text ++ line_feed ∷ more)) else from_part (text ++ line_feed ∷ more))
+            ≡ or_after (if b then Some (byte ∷ text) else from_part text) more
         by true later = refl
         by false later = later
 
-    counted : (text : List ℕ) (texts : List (List ℕ)) (found : Bool) → is_some (from_part text) ≡ found → count_by (contains part) (text ∷ texts) ≡ (if found then 1 else 0) + count_by (contains part) texts
-    counted text texts found is = sum_by-cons (λ line. if contains part line then 1 else 0) text texts ∙ ap (λ (b : Bool). (if b then 1 else 0) + count_by (contains part) texts) (contains-is text ∙ is)
+    counted : (text : List ℕ) (texts : List (List ℕ)) (found : Bool) → is_some (from_part text) ≡ found
+        → count_by (contains part) (text ∷ texts) ≡ (if found then 1 else 0) + count_by (contains part) texts
+    counted text texts found is = sum_by-cons (λ line. if contains part line then 1 else 0) text texts
+        ∙ ap (λ (b : Bool). (if b then 1 else 0) + count_by (contains part) texts) (contains-is text ∙ is)
 
     -- The rest of the line in which it is found.
-    after_suffix : (text : List ℕ) (more suffix : List ℕ) → HasNoLineFeed text → from_part text ≡ Some suffix → after_line (suffix ++ line_feed ∷ more) ≡ more
+    after_suffix : (text : List ℕ) (more suffix : List ℕ) → HasNoLineFeed text → from_part text ≡ Some suffix
+        → after_line (suffix ++ line_feed ∷ more) ≡ more
     after_suffix [] more suffix free_text is = absurd (none-some suffix is)
-    after_suffix (byte ∷ text) more suffix free_text is = by (begins part (byte ∷ text)) is (λ later. after_suffix text more suffix free_text.1 later)
+    after_suffix (byte ∷ text) more suffix free_text is =
+        by (begins part (byte ∷ text)) is (λ later. after_suffix text more suffix free_text.1 later)
       where
-        by : (b : Bool) → (if b then Some (byte ∷ text) else from_part text) ≡ Some suffix → (from_part text ≡ Some suffix → after_line (suffix ++ line_feed ∷ more) ≡ more) → after_line (suffix ++ line_feed ∷ more) ≡ more
-        by true here later = ap (λ (bytes : List ℕ). after_line (bytes ++ line_feed ∷ more)) (sym (same_Some (byte ∷ text) suffix here)) ∙ after_free (byte ∷ text) more free_text
+        by : (b : Bool) → (if b then Some (byte ∷ text) else from_part text) ≡ Some suffix
+            → (from_part text ≡ Some suffix → after_line (suffix ++ line_feed ∷ more) ≡ more)
+            → after_line (suffix ++ line_feed ∷ more) ≡ more
+        by true here later = ap (λ (bytes : List ℕ). after_line (bytes ++ line_feed ∷ more)) (sym (same_Some (byte ∷ text) suffix here))
+            ∙ after_free (byte ∷ text) more free_text
         by false there later = later there
 
     abbrev has_part : List ℕ → Bool
@@ -205,18 +241,24 @@ module _ (p : ℕ) (ps : List ℕ) where
       pub count_is : count_by has_part texts ≡ suc (count_by has_part more)
       pub shorter : length (flat_map with_line_feed more) < length (flat_map with_line_feed texts)
 
-    lines-cons : (text : List ℕ) (texts : List (List ℕ)) → flat_map with_line_feed (text ∷ texts) ≡ text ++ line_feed ∷ flat_map with_line_feed texts
+    lines-cons : (text : List ℕ) (texts : List (List ℕ))
+        → flat_map with_line_feed (text ∷ texts) ≡ text ++ line_feed ∷ flat_map with_line_feed texts
     lines-cons text texts = append_assoc text (line_feed ∷ []) (flat_map with_line_feed texts)
 
-    longer : (text : List ℕ) (texts : List (List ℕ)) → length (flat_map with_line_feed texts) < length (flat_map with_line_feed (text ∷ texts))
-    longer text texts = let whole = ap length (lines-cons text texts) in omega (arith, whole, length-append text (line_feed ∷ flat_map with_line_feed texts))
+    longer : (text : List ℕ) (texts : List (List ℕ))
+        → length (flat_map with_line_feed texts) < length (flat_map with_line_feed (text ∷ texts))
+    longer text texts = let whole = ap length (lines-cons text texts) in
+        omega (arith, whole, length-append text (line_feed ∷ flat_map with_line_feed texts))
 
-    next_line : (texts : List (List ℕ)) (suffix : List ℕ) → AllByRecursion HasNoLineFeed texts → from_part (flat_map with_line_feed texts) ≡ Some suffix → NextLine texts suffix
+    next_line : (texts : List (List ℕ)) (suffix : List ℕ) → AllByRecursion HasNoLineFeed texts
+        → from_part (flat_map with_line_feed texts) ≡ Some suffix → NextLine texts suffix
     next_line [] suffix free_texts is = absurd (none-some suffix is)
     next_line (text ∷ texts) suffix free_texts is =
-        by (from_part text) refl (sym (from_line text (flat_map with_line_feed texts) free_texts.0) ∙ ap from_part (sym (lines-cons text texts)) ∙ is) (λ later. next_line texts suffix free_texts.1 later)
+        by (from_part text) refl (sym (from_line text (flat_map with_line_feed texts) free_texts.0)
+        ∙ ap from_part (sym (lines-cons text texts)) ∙ is) (λ later. next_line texts suffix free_texts.1 later)
       where
-        by : (found : Option (List ℕ)) → from_part text ≡ found → or_after found (flat_map with_line_feed texts) ≡ Some suffix → (from_part (flat_map with_line_feed texts) ≡ Some suffix → NextLine texts suffix) → NextLine (text ∷ texts) suffix
+        by : (found : Option (List ℕ)) → from_part text ≡ found → or_after found (flat_map with_line_feed texts) ≡ Some suffix
+            → (from_part (flat_map with_line_feed texts) ≡ Some suffix → NextLine texts suffix) → NextLine (text ∷ texts) suffix
         by None none there later =
             let next = later there in record {
               more = next.more;
@@ -228,17 +270,21 @@ module _ (p : ℕ) (ps : List ℕ) where
         by (Some end) found here later = record {
           more = texts;
           more_free = free_texts.1;
-          after = ap after_line (sym (same_Some (end ++ line_feed ∷ flat_map with_line_feed texts) suffix here)) ∙ after_suffix text (flat_map with_line_feed texts) end free_texts.0 found;
+          after = ap after_line (sym (same_Some (end ++ line_feed ∷ flat_map with_line_feed texts) suffix here))
+              ∙ after_suffix text (flat_map with_line_feed texts) end free_texts.0 found;
           count_is = counted text texts true (ap is_some found) ∙ omega arith;
           shorter = longer text texts;
         }
 
-    no_line : (texts : List (List ℕ)) → AllByRecursion HasNoLineFeed texts → from_part (flat_map with_line_feed texts) ≡ None → count_by has_part texts ≡ 0
+    no_line : (texts : List (List ℕ)) → AllByRecursion HasNoLineFeed texts → from_part (flat_map with_line_feed texts) ≡ None
+        → count_by has_part texts ≡ 0
     no_line [] free_texts is = refl
     no_line (text ∷ texts) free_texts is =
-        by (from_part text) refl (sym (from_line text (flat_map with_line_feed texts) free_texts.0) ∙ ap from_part (sym (lines-cons text texts)) ∙ is) (λ later. no_line texts free_texts.1 later)
+        by (from_part text) refl (sym (from_line text (flat_map with_line_feed texts) free_texts.0)
+        ∙ ap from_part (sym (lines-cons text texts)) ∙ is) (λ later. no_line texts free_texts.1 later)
       where
-        by : (found : Option (List ℕ)) → from_part text ≡ found → or_after found (flat_map with_line_feed texts) ≡ None → (from_part (flat_map with_line_feed texts) ≡ None → count_by has_part texts ≡ 0) → count_by has_part (text ∷ texts) ≡ 0
+        by : (found : Option (List ℕ)) → from_part text ≡ found → or_after found (flat_map with_line_feed texts) ≡ None
+            → (from_part (flat_map with_line_feed texts) ≡ None → count_by has_part texts ≡ 0) → count_by has_part (text ∷ texts) ≡ 0
         by None none there later = let rest = later there in counted text texts false (ap is_some none) ∙ omega (arith, rest)
         by (Some end) found here later = absurd (none-some (end ++ line_feed ∷ flat_map with_line_feed texts) (sym here))
 
@@ -264,13 +310,15 @@ counts_init bytes none =
     let lines = are_lines bytes in record {
       texts = ended bytes;
       free = lines.lines_hold_none;
-      left_is = lines.whole ∙ ap (λ last. flat_map with_line_feed (ended bytes) ++ last) none ∙ append-nil (flat_map with_line_feed (ended bytes));
+      left_is = lines.whole ∙ ap (λ last. flat_map with_line_feed (ended bytes) ++ last) none
+          ∙ append-nil (flat_map with_line_feed (ended bytes));
       total = omega arith;
       small = omega arith;
     }
 
 module _ (bytes left : List ℕ) (count : ℕ) (so_far : Counts bytes left count) where
-  module _ (at : ℕ) (found : NoneBefore (OccursAt left (codes "warning:")) 0 (length left + 1) at × OccursAt left (codes "warning:") at) where
+  module _ (at : ℕ) (found : NoneBefore (OccursAt left (codes "warning:")) 0 (length left + 1) at
+      × OccursAt left (codes "warning:") at) where
     next : NextLine 119 arning no_line_feed so_far.texts (drop at left)
     next =
         next_line 119 arning no_line_feed so_far.texts (drop at left) so_far.free
@@ -293,9 +341,12 @@ module _ (bytes left : List ℕ) (count : ℕ) (so_far : Counts bytes left count
 
   pub counts_all : Nowhere (OccursAt left (codes "warning:")) 0 (length left + 1) → count ≡ count_by is_warning (ended bytes)
   counts_all nowhere =
-      let none = no_line 119 arning no_line_feed so_far.texts so_far.free (ap (from_part 119 arning) (sym so_far.left_is) ∙ none_from 119 arning left 0 left refl nowhere) in
+      let none = no_line 119 arning no_line_feed so_far.texts so_far.free
+      (ap (from_part 119 arning) (sym so_far.left_is) ∙ none_from 119 arning left 0 left refl nowhere) in
       omega (arith, none, so_far.total)
 
 -- A slice up to the end.
-pub to_end : (bytes result : List ℕ) (at : ℕ) → result ≡ after_line (take (length bytes - at) (drop at bytes)) → after_line (drop at bytes) ≡ result
-to_end bytes result at is = ap after_line (sym (take_all (length bytes - at) (drop at bytes) (omega (arith, length-drop at bytes)))) ∙ sym is
+pub to_end : (bytes result : List ℕ) (at : ℕ) → result ≡ after_line (take (length bytes - at) (drop at bytes))
+    → after_line (drop at bytes) ≡ result
+to_end bytes result at is = ap after_line (sym (take_all (length bytes - at) (drop at bytes) (omega (arith, length-drop at bytes))))
+    ∙ sym is

@@ -14,7 +14,8 @@ pub const CHOSEN: [Case; 3] = [
         &[
             (
                 "a",
-                "@@REDO:do:7:1@@ b\n@@REDO:do:7:1@@ c\n@@REDO:do:7:1@@ d\n@@REDO:done:7:1@@ 0 b\n@@REDO:do:7:1@@ e\n@@REDO:do:7:1@@ f\n@@REDO:do:7:1@@ g\n@@REDO:done:7:1@@ 0 a\n",
+                "@@REDO:do:7:1@@ b\n@@REDO:do:7:1@@ c\n@@REDO:do:7:1@@ d\n@@REDO:done:7:1@@ 0 b\n\
+                    @@REDO:do:7:1@@ e\n@@REDO:do:7:1@@ f\n@@REDO:do:7:1@@ g\n@@REDO:done:7:1@@ 0 a\n",
             ),
             ("b", "@@REDO:done:7:1@@ 0 b\n"),
             ("c", "@@REDO:done:7:1@@ 0 c\n"),
@@ -31,7 +32,9 @@ pub const CHOSEN: [Case; 3] = [
             debug_pids: false,
         },
         &["a"],
-        "0 - 0 0 0 0 6 6 no 1 no 0\n1 0 0 0 0 0 0 0 no 0 no 4\n2 0 0 0 0 0 0 0 no 0 no 3\n3 0 0 0 0 0 0 0 no 0 no 2\n4 0 0 0 0 0 0 0 no 0 no 1\n5 0 - 1 11 1 0 0 yes 0 no 0\n6 0 0 0 0 0 0 0 no 0 no 1\n0 1 2 3 4 5 6 -\n",
+        "0 - 0 0 0 0 6 6 no 1 no 0\n1 0 0 0 0 0 0 0 no 0 no 4\n2 0 0 0 0 0 0 0 no 0 no 3\n\
+            3 0 0 0 0 0 0 0 no 0 no 2\n4 0 0 0 0 0 0 0 no 0 no 1\n5 0 - 1 11 1 0 0 yes 0 no 0\n\
+            6 0 0 0 0 0 0 0 no 0 no 1\n0 1 2 3 4 5 6 -\n",
     ),
     (
         &[
@@ -49,12 +52,17 @@ pub const CHOSEN: [Case; 3] = [
             debug_pids: false,
         },
         &["c", "a", "c"],
-        "2 - - 1 11 1 2 1 yes 1 yes 0\n3 0 - 1 11 1 1 1 yes 0 yes 0\n4 1 1 0 0 0 0 0 no 0 no 0\n0 - - 1 11 1 1 1 yes 1 no 0\n1 3 - 1 11 1 0 0 yes 0 no 0\n3 4 0 1 2 -\n",
+        "2 - - 1 11 1 2 1 yes 1 yes 0\n3 0 - 1 11 1 1 1 yes 0 yes 0\n4 1 1 0 0 0 0 0 no 0 no 0\n\
+            0 - - 1 11 1 1 1 yes 1 no 0\n1 3 - 1 11 1 0 0 yes 0 no 0\n3 4 0 1 2 -\n",
     ),
     (
         &[(
             "a",
-            "0 warning: seven\nline 1\nline 2\nline 3\nline 4\nline 5\nline 6\n7 warning: seven\nline 8\nline 9\nline 10\nline 11\nline 12\nline 13\n14 warning: seven\nline 15\n@@REDO:check:7:1@@ x\n0 warning: seven\nline 1\nline 2\nline 3\nline 4\nline 5\nline 6\n7 warning: seven\nline 8\nline 9\nline 10\nline 11\nline 12\nline 13\n14 warning: seven\nline 15\nwarning: unended",
+            "0 warning: seven\nline 1\nline 2\nline 3\nline 4\nline 5\nline 6\n7 warning: seven\n\
+                line 8\nline 9\nline 10\nline 11\nline 12\nline 13\n14 warning: seven\nline 15\n\
+                @@REDO:check:7:1@@ x\n0 warning: seven\nline 1\nline 2\nline 3\nline 4\nline 5\n\
+                line 6\n7 warning: seven\nline 8\nline 9\nline 10\nline 11\nline 12\nline 13\n\
+                14 warning: seven\nline 15\nwarning: unended",
         )],
         Options {
             recursive: false,
@@ -86,7 +94,8 @@ pub const RANDOM_0: [Case; 5] = [
             ),
             (
                 "e",
-                "@@REDO:note:7:1@@ a note\n@@REDO:do:7:1@@ f\n@@REDO:unchanged:7:1@@ b\n@@REDO:do:7:1@@ d\n@@REDO:done:7:1@@ 0 x\n@@REDO:done:7:1@@ 0 e\n",
+                "@@REDO:note:7:1@@ a note\n@@REDO:do:7:1@@ f\n@@REDO:unchanged:7:1@@ b\n\
+                    @@REDO:do:7:1@@ d\n@@REDO:done:7:1@@ 0 x\n@@REDO:done:7:1@@ 0 e\n",
             ),
             ("f", "@@REDO:do:7:1@@ h\nx.c:1: warning: unused\narning:\n"),
             ("g", "@@REDO:done:7:1@@ 0 e\narning:\n@@REDO:do:7:1@@ e\n"),
@@ -103,13 +112,16 @@ pub const RANDOM_0: [Case; 5] = [
             debug_pids: false,
         },
         &["a", "d"],
-        "0 - 0 0 0 0 6 1 yes 1 yes 0\n6 0 1 1 8 0 5 1 yes 1 yes 0\n4 1 0 0 0 0 4 2 yes 1 yes 0\n5 2 - 2 31 1 2 1 yes 0 yes 0\n7 3 1 0 0 0 1 1 yes 0 no 0\n1 4 0 0 0 0 0 0 yes 0 no 0\n3 2 3 0 0 0 0 0 yes 0 no 0\n0 5 - 6 2 3 1 4 -\n",
+        "0 - 0 0 0 0 6 1 yes 1 yes 0\n6 0 1 1 8 0 5 1 yes 1 yes 0\n4 1 0 0 0 0 4 2 yes 1 yes 0\n\
+            5 2 - 2 31 1 2 1 yes 0 yes 0\n7 3 1 0 0 0 1 1 yes 0 no 0\n1 4 0 0 0 0 0 0 yes 0 no 0\n\
+            3 2 3 0 0 0 0 0 yes 0 no 0\n0 5 - 6 2 3 1 4 -\n",
     ),
     (
         &[
             (
                 "a",
-                "@@REDO:do:7:1@@ b\n@@REDO:do:7:1@@ c\nx.c:1: warning: unused\n@@REDO:done:7:1@@ -2 x\n@@REDO:do:7:1@@ x\n@@REDO:done:7:1@@ 3 a\n",
+                "@@REDO:do:7:1@@ b\n@@REDO:do:7:1@@ c\nx.c:1: warning: unused\n\
+                    @@REDO:done:7:1@@ -2 x\n@@REDO:do:7:1@@ x\n@@REDO:done:7:1@@ 3 a\n",
             ),
             ("b", "@@REDO:done:7:1@@ 1 a\n@@REDO:check:7:1@@ a note\n"),
             ("c", ""),
@@ -128,7 +140,8 @@ pub const RANDOM_0: [Case; 5] = [
         &[
             (
                 "a",
-                "@@REDO:do:7:1@@ b\n@@REDO:do:7:1@@ c\n@@REDO:do:7:1@@ d\n@@REDO:do:7:1@@ e\n@@REDO:do:7:1@@ f\n@@REDO:do:7:1@@ g\n@@REDO:do:7:1@@ h\n@@REDO:done:7:1@@ 0 a\n",
+                "@@REDO:do:7:1@@ b\n@@REDO:do:7:1@@ c\n@@REDO:do:7:1@@ d\n@@REDO:do:7:1@@ e\n\
+                    @@REDO:do:7:1@@ f\n@@REDO:do:7:1@@ g\n@@REDO:do:7:1@@ h\n@@REDO:done:7:1@@ 0 a\n",
             ),
             ("b", ""),
             (
@@ -354,7 +367,9 @@ pub const RANDOM_2: [Case; 5] = [
         &[
             (
                 "a",
-                "@@REDO:do:7:1@@ b\n@@REDO:do:7:1@@ c\n@@REDO:do:7:1@@ d\n@@REDO:do:7:1@@ e\n@@REDO:done:7:1@@ 0 d\n@@REDO:done:7:1@@ -2 b\n@@REDO:check:7:1@@ a note\n@@REDO:done:7:1@@ 0 a\n",
+                "@@REDO:do:7:1@@ b\n@@REDO:do:7:1@@ c\n@@REDO:do:7:1@@ d\n@@REDO:do:7:1@@ e\n\
+                    @@REDO:done:7:1@@ 0 d\n@@REDO:done:7:1@@ -2 b\n@@REDO:check:7:1@@ a note\n\
+                    @@REDO:done:7:1@@ 0 a\n",
             ),
             ("b", "@@REDO:done:7:1@@ 0 b\n"),
             (
@@ -375,13 +390,15 @@ pub const RANDOM_2: [Case; 5] = [
             debug_pids: false,
         },
         &["a", "d", "c"],
-        "0 - 0 0 0 0 4 3 yes 0 no 0\n1 0 0 0 0 0 0 0 no 0 no 2\n2 0 0 0 0 0 0 0 no 0 no 1\n3 0 0 0 0 0 1 1 yes 0 no 0\n4 3 0 1 1 0 0 0 yes 0 no 0\n0 1 2 3 4 -\n",
+        "0 - 0 0 0 0 4 3 yes 0 no 0\n1 0 0 0 0 0 0 0 no 0 no 2\n2 0 0 0 0 0 0 0 no 0 no 1\n\
+            3 0 0 0 0 0 1 1 yes 0 no 0\n4 3 0 1 1 0 0 0 yes 0 no 0\n0 1 2 3 4 -\n",
     ),
     (
         &[
             (
                 "a",
-                "@@REDO:do:7:1@@ b\n@@REDO:do:7:1@@ c\n@@REDO:do:7:1@@ d\n@@REDO:do:7:1@@ e\n@@REDO:done:7:1@@ 1 x\n@@REDO:done:7:1@@ 0 a\n",
+                "@@REDO:do:7:1@@ b\n@@REDO:do:7:1@@ c\n@@REDO:do:7:1@@ d\n@@REDO:do:7:1@@ e\n\
+                    @@REDO:done:7:1@@ 1 x\n@@REDO:done:7:1@@ 0 a\n",
             ),
             ("b", "note: ü\n"),
             (
@@ -402,7 +419,8 @@ pub const RANDOM_2: [Case; 5] = [
             debug_pids: false,
         },
         &["a"],
-        "0 - 0 0 0 0 4 4 yes 0 no 0\n1 0 - 1 9 0 0 0 yes 0 no 0\n2 0 0 1 8 0 0 0 yes 0 no 0\n3 0 0 0 0 0 0 0 no 0 no 1\n4 0 - 3 25 0 0 0 yes 0 no 0\n0 1 2 3 4 -\n",
+        "0 - 0 0 0 0 4 4 yes 0 no 0\n1 0 - 1 9 0 0 0 yes 0 no 0\n2 0 0 1 8 0 0 0 yes 0 no 0\n\
+            3 0 0 0 0 0 0 0 no 0 no 1\n4 0 - 3 25 0 0 0 yes 0 no 0\n0 1 2 3 4 -\n",
     ),
     (
         &[
@@ -491,17 +509,20 @@ pub const RANDOM_3: [Case; 5] = [
         &[
             (
                 "a",
-                "@@REDO:do:7:1@@ b\n@@REDO:do:7:1@@ c\n@@REDO:do:7:1@@ d\n@@REDO:do:7:1@@ e\n@@REDO:do:7:1@@ f\nwwarning: warning:\n@@REDO:unchanged:7:1@@ c\n",
+                "@@REDO:do:7:1@@ b\n@@REDO:do:7:1@@ c\n@@REDO:do:7:1@@ d\n@@REDO:do:7:1@@ e\n\
+                    @@REDO:do:7:1@@ f\nwwarning: warning:\n@@REDO:unchanged:7:1@@ c\n",
             ),
             ("b", "@@REDO:done:7:1@@ 3 b\n"),
             ("c", "@@REDO:done:7:1@@ 1 x\n"),
             (
                 "d",
-                "@@REDO:unchanged:7:1@@ d\n@@REDO:do:7:1@@ a\n@@REDO:done:7:1@@ 0 b\n@@REDO:done:7:1@@ 0 c\n@@REDO:do:7:1@@ f\n@@REDO:done:7:1@@ 3 d\n",
+                "@@REDO:unchanged:7:1@@ d\n@@REDO:do:7:1@@ a\n@@REDO:done:7:1@@ 0 b\n\
+                    @@REDO:done:7:1@@ 0 c\n@@REDO:do:7:1@@ f\n@@REDO:done:7:1@@ 3 d\n",
             ),
             (
                 "e",
-                "@@REDO:waiting:7:1@@ e\n@@REDO:done:7:1@@ 1 x\nwwarning: warning:\n@@REDO:do:7:1@@ e\n@@REDO:done:7:1@@ 1 a\n@@REDO:done:7:1@@ 0 e\n",
+                "@@REDO:waiting:7:1@@ e\n@@REDO:done:7:1@@ 1 x\nwwarning: warning:\n\
+                    @@REDO:do:7:1@@ e\n@@REDO:done:7:1@@ 1 a\n@@REDO:done:7:1@@ 0 e\n",
             ),
             ("f", "@@REDO:unchanged:7:1@@ b\n@@REDO:unchanged:7:1@@ b\n"),
         ],
@@ -513,7 +534,9 @@ pub const RANDOM_3: [Case; 5] = [
             debug_pids: false,
         },
         &["a", "d", "d"],
-        "0 - 1 1 19 1 5 4 yes 1 yes 0\n1 0 3 0 0 0 0 0 no 0 no 0\n2 0 0 0 0 0 0 0 yes 0 no 0\n3 0 3 0 0 0 1 1 no 0 no 0\n5 3 - 0 0 0 0 0 no 0 no 1\n4 0 0 1 19 1 0 0 yes 0 no 0\n0 1 2 3 5 4 -\n",
+        "0 - 1 1 19 1 5 4 yes 1 yes 0\n1 0 3 0 0 0 0 0 no 0 no 0\n2 0 0 0 0 0 0 0 yes 0 no 0\n\
+            3 0 3 0 0 0 1 1 no 0 no 0\n5 3 - 0 0 0 0 0 no 0 no 1\n4 0 0 1 19 1 0 0 yes 0 no 0\n\
+            0 1 2 3 5 4 -\n",
     ),
     (
         &[
@@ -561,6 +584,8 @@ pub const RANDOM_3: [Case; 5] = [
             debug_pids: true,
         },
         &["a", "d", "c"],
-        "0 - - 0 0 0 6 4 yes 1 yes 0\n1 0 3 1 17 1 0 0 yes 0 no 0\n2 0 - 0 0 0 2 1 no 0 no 0\n4 2 0 1 9 0 1 1 yes 0 no 0\n6 3 - 0 0 0 0 0 no 0 no 1\n3 0 0 0 0 0 0 0 yes 0 no 0\n5 0 0 0 0 0 0 0 no 0 no 1\n0 1 2 5 3 6 4 -\n",
+        "0 - - 0 0 0 6 4 yes 1 yes 0\n1 0 3 1 17 1 0 0 yes 0 no 0\n2 0 - 0 0 0 2 1 no 0 no 0\n\
+            4 2 0 1 9 0 1 1 yes 0 no 0\n6 3 - 0 0 0 0 0 no 0 no 1\n3 0 0 0 0 0 0 0 yes 0 no 0\n\
+            5 0 0 0 0 0 0 0 no 0 no 1\n0 1 2 5 3 6 4 -\n",
     ),
 ];

@@ -20,10 +20,13 @@ or_assoc (Some x) two three = refl
 pub cause_begins : (lines : List (List ℕ)) → cause_of lines ≡ cause_from lines None
 cause_begins lines = ap (option_or (find is_error lines)) (or_none (last_filled lines))
 
-pub cause_here : (line : List ℕ) (lines : List (List ℕ)) (last : Option (List ℕ)) → is_error line ≡ true → cause_from (line ∷ lines) last ≡ Some line
-cause_here line lines last is = ap (λ (b : Bool). option_or (cond b (Some line) (find is_error lines)) (option_or (last_filled (line ∷ lines)) last)) is
+pub cause_here : (line : List ℕ) (lines : List (List ℕ)) (last : Option (List ℕ)) → is_error line ≡ true
+    → cause_from (line ∷ lines) last ≡ Some line
+cause_here line lines last is = ap (λ (b : Bool).
+    option_or (cond b (Some line) (find is_error lines)) (option_or (last_filled (line ∷ lines)) last)) is
 
-pub cause_later : (line : List ℕ) (lines : List (List ℕ)) (last : Option (List ℕ)) → is_error line ≡ false → cause_from (line ∷ lines) last ≡ cause_from lines (option_or (unless_blank line) last)
+pub cause_later : (line : List ℕ) (lines : List (List ℕ)) (last : Option (List ℕ)) → is_error line ≡ false
+    → cause_from (line ∷ lines) last ≡ cause_from lines (option_or (unless_blank line) last)
 cause_later line lines last is =
     ap (λ (b : Bool). option_or (cond b (Some line) (find is_error lines)) (option_or (last_filled (line ∷ lines)) last)) is
     ∙ ap (option_or (find is_error lines)) (or_assoc (last_filled lines) (unless_blank line) last)

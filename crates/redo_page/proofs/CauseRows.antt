@@ -17,21 +17,25 @@ esc text = 27 ∷ text
 -- A compiler, with colours and without. Echoed commands report no error.
 abbrev compilers : List Row
 compilers =
-    found (codes "cc -Werror -c error_list.c" ∷ codes "a.c: In function 'main':" ∷ codes "a.c:3:5: error: 'x' undeclared" ∷ codes "make: *** [a.o] Error 1" ∷ [])
+    found (codes "cc -Werror -c error_list.c" ∷ codes "a.c: In function 'main':" ∷ codes "a.c:3:5: error: 'x' undeclared"
+    ∷ codes "make: *** [a.o] Error 1" ∷ [])
     (codes "a.c:3:5: error: 'x' undeclared")
-    ∷ found ((esc (codes "[01m") ++ (esc (codes "[K") ++ codes "a.c:")) ∷ (esc (codes "[01;31m") ++ (esc (codes "[K") ++ (codes "error: " ++ esc (codes "[m")))) ∷ codes "last" ∷ [])
+    ∷ found ((esc (codes "[01m") ++ (esc (codes "[K") ++ codes "a.c:"))
+    ∷ (esc (codes "[01;31m") ++ (esc (codes "[K") ++ (codes "error: " ++ esc (codes "[m")))) ∷ codes "last" ∷ [])
     (esc (codes "[01;31m") ++ (esc (codes "[K") ++ (codes "error: " ++ esc (codes "[m"))))
     ∷ found (codes "error[E0425]: cannot find value" ∷ codes "last" ∷ []) (codes "error[E0425]: cannot find value")
     ∷ found (codes "x.java:1: cannot find symbol" ∷ codes "last" ∷ []) (codes "x.java:1: cannot find symbol")
     ∷ found (codes "ERROR in ./a.js" ∷ codes "last" ∷ []) (codes "ERROR in ./a.js")
-    ∷ found (codes "a.c:1:5: warning: unused 'x'" ∷ codes "a.c:2:5: note: in 'f'" ∷ codes "a.c:3:5: error: 'y' undeclared" ∷ codes "last" ∷ []) (codes "a.c:3:5: error: 'y' undeclared")
+    ∷ found (codes "a.c:1:5: warning: unused 'x'" ∷ codes "a.c:2:5: note: in 'f'" ∷ codes "a.c:3:5: error: 'y' undeclared" ∷ codes "last"
+    ∷ []) (codes "a.c:3:5: error: 'y' undeclared")
     ∷ found (codes "a.c:1:10: fatal error: b.h" ∷ codes "last" ∷ []) (codes "a.c:1:10: fatal error: b.h")
     ∷ found (codes "fatal: not a git repository" ∷ codes "last" ∷ []) (codes "fatal: not a git repository")
     ∷ []
 
 abbrev linkers : List Row
 linkers =
-    found (codes "/usr/bin/ld: a.o: in function `main':" ∷ codes "a.c:(.text+0x5): undefined reference to `f'" ∷ codes "collect2: error: ld returned 1 exit status" ∷ [])
+    found (codes "/usr/bin/ld: a.o: in function `main':" ∷ codes "a.c:(.text+0x5): undefined reference to `f'"
+    ∷ codes "collect2: error: ld returned 1 exit status" ∷ [])
     (codes "a.c:(.text+0x5): undefined reference to `f'")
     ∷ found (codes "/usr/bin/ld: cannot find -lm" ∷ codes "last" ∷ []) (codes "/usr/bin/ld: cannot find -lm")
     ∷ []
@@ -52,7 +56,8 @@ tests =
 -- Outputs in which no line reports an error: the last line that isn't blank. Words count as a whole, at any position in a line.
 abbrev others : List Row
 others =
-    found (codes "Traceback (most recent call last):" ∷ codes "ModuleNotFoundError: No module named 'x'" ∷ []) (codes "ModuleNotFoundError: No module named 'x'")
+    found (codes "Traceback (most recent call last):" ∷ codes "ModuleNotFoundError: No module named 'x'" ∷ [])
+    (codes "ModuleNotFoundError: No module named 'x'")
     ∷ found (codes "no errors, terror, error_1, 1error, fatally, cannots, no such files" ∷ codes "last" ∷ []) (codes "last")
     ∷ found (codes "failed, Fail" ∷ codes "last" ∷ []) (codes "last")
     ∷ found (codes "warning: x" ∷ codes "note: y" ∷ codes "failed: z" ∷ codes "last" ∷ []) (codes "last")
@@ -68,4 +73,46 @@ others =
 
 causes_are : AllByRecursion (λ row. cause_of row.lines ≡ row.cause) (compilers ++ (linkers ++ (shells ++ (tests ++ others))))
 unfolding begins_with
-causes_are = (refl, (refl, (refl, (refl, (refl, (refl, (refl, (refl, (refl, (refl, (refl, (refl, (refl, (refl, (refl, (refl, (refl, (refl, (refl, (refl, (refl, (refl, (refl, (refl, (refl, (refl, (refl, tt)))))))))))))))))))))))))))
+causes_are = (
+  refl,
+  (
+    refl,
+    (
+      refl,
+      (
+        refl,
+        (
+          refl,
+          (
+            refl,
+            (
+              refl,
+              (
+                refl,
+                (
+                  refl,
+                  (
+                    refl,
+                    (
+                      refl,
+                      (
+                        refl,
+                        (
+                          refl,
+                          (
+                            refl,
+                            (refl, (refl, (refl, (refl, (refl, (refl, (refl, (refl, (refl, (refl, (refl, (refl, (refl, tt))))))))))))),
+                          ),
+                        ),
+                      ),
+                    ),
+                  ),
+                ),
+              ),
+            ),
+          ),
+        ),
+      ),
+    ),
+  ),
+)

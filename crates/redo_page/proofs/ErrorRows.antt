@@ -28,13 +28,15 @@ escapes_are = refl
 -- ---- states
 
 kinds_are :
-    (is_outside Outside ≡ true) × (is_outside InWord ≡ false) × (is_outside InSequence ≡ false) × (is_in_sequence Outside ≡ false) × (is_in_sequence InWord ≡ false)
+    (is_outside Outside ≡ true) × (is_outside InWord ≡ false) × (is_outside InSequence ≡ false) × (is_in_sequence Outside ≡ false)
+    × (is_in_sequence InWord ≡ false)
     × (is_in_sequence InSequence ≡ true)
 kinds_are = (refl, refl, refl, refl, refl, refl)
 
 -- `a`, a space, an escape, `[` and `m`. The byte that ends a sequence belongs to no word.
 states_are :
-    (map (state_after Outside) (codes "a [m") ≡ InWord ∷ Outside ∷ Outside ∷ InWord ∷ []) × (map (state_after InWord) (codes "a [m") ≡ InWord ∷ Outside ∷ Outside ∷ InWord ∷ [])
+    (map (state_after Outside) (codes "a [m") ≡ InWord ∷ Outside ∷ Outside ∷ InWord ∷ [])
+    × (map (state_after InWord) (codes "a [m") ≡ InWord ∷ Outside ∷ Outside ∷ InWord ∷ [])
     × (map (state_after InSequence) (codes "a [m") ≡ Outside ∷ Outside ∷ InSequence ∷ Outside ∷ [])
     × (state_after Outside 27 ≡ InSequence) × (state_after InWord 27 ≡ InSequence) × (state_after InSequence 27 ≡ InSequence)
 states_are = (refl, refl, refl, refl, refl, refl)
@@ -44,18 +46,22 @@ states_are = (refl, refl, refl, refl, refl, refl)
 word_ends_are : (is_word_end [] ≡ true) × (is_word_end (codes ":a") ≡ true) × (is_word_end (codes "s:") ≡ false)
 word_ends_are = (refl, refl, refl)
 
-letters_are : (is_letter 97 97 ≡ true) × (is_letter 97 65 ≡ true) × (is_letter 65 65 ≡ true) × (is_letter 65 97 ≡ false) × (is_letter 97 98 ≡ false)
+letters_are : (is_letter 97 97 ≡ true) × (is_letter 97 65 ≡ true) × (is_letter 65 65 ≡ true) × (is_letter 65 97 ≡ false)
+    × (is_letter 97 98 ≡ false)
 letters_are = (refl, refl, refl, refl, refl)
 
 begin_are :
-    (begins_with (codes "no") (codes "No") ≡ true) × (begins_with (codes "no") (codes "no x") ≡ true) × (begins_with (codes "no") (codes "not") ≡ false)
-    × (begins_with (codes "no") (codes "n") ≡ false) × (begins_with (codes "no") (codes "na") ≡ false) × (begins_with (codes "NO") (codes "no") ≡ false)
+    (begins_with (codes "no") (codes "No") ≡ true) × (begins_with (codes "no") (codes "no x") ≡ true)
+    × (begins_with (codes "no") (codes "not") ≡ false)
+    × (begins_with (codes "no") (codes "n") ≡ false) × (begins_with (codes "no") (codes "na") ≡ false)
+    × (begins_with (codes "NO") (codes "no") ≡ false)
 unfolding begins_with
 begin_are = (refl, refl, refl, refl, refl, refl)
 
 errors_begin :
     map begins_with_error
-    (codes "error" ∷ codes "undefined reference" ∷ codes "no such file" ∷ codes "fatal" ∷ codes "not found" ∷ codes "cannot" ∷ codes "FAIL" ∷ codes "FAILED" ∷ codes "fail" ∷ codes "no" ∷ codes " error" ∷ [])
+    (codes "error" ∷ codes "undefined reference" ∷ codes "no such file" ∷ codes "fatal" ∷ codes "not found" ∷ codes "cannot" ∷ codes "FAIL"
+    ∷ codes "FAILED" ∷ codes "fail" ∷ codes "no" ∷ codes " error" ∷ [])
     ≡ true ∷ true ∷ true ∷ true ∷ true ∷ true ∷ true ∷ true ∷ false ∷ false ∷ false ∷ []
 unfolding begins_with
 errors_begin = refl
@@ -63,24 +69,28 @@ errors_begin = refl
 -- These are no words for an error, or not alone.
 no_errors_begin :
     map begins_with_error
-    (codes "warning" ∷ codes "note" ∷ codes "failed" ∷ codes "failure" ∷ codes "errors" ∷ codes "undefined" ∷ codes "file" ∷ codes "found" ∷ codes "PASS" ∷ [])
+    (codes "warning" ∷ codes "note" ∷ codes "failed" ∷ codes "failure" ∷ codes "errors" ∷ codes "undefined" ∷ codes "file" ∷ codes "found"
+    ∷ codes "PASS" ∷ [])
     ≡ false ∷ false ∷ false ∷ false ∷ false ∷ false ∷ false ∷ false ∷ false ∷ []
 unfolding begins_with
 no_errors_begin = refl
 
 -- An error after a space, after a sequence, and without words for an error where a word begins.
 lines_are :
-    map is_error (codes "an error" ∷ codes "a: Error: b" ∷ (27 ∷ codes "[1merror") ∷ codes "terror" ∷ codes "error_1" ∷ (27 ∷ codes "error") ∷ [] ∷ [])
+    map is_error (codes "an error" ∷ codes "a: Error: b" ∷ (27 ∷ codes "[1merror") ∷ codes "terror" ∷ codes "error_1" ∷ (27 ∷ codes "error")
+    ∷ [] ∷ [])
     ≡ true ∷ true ∷ true ∷ false ∷ false ∷ false ∷ false ∷ []
 unfolding begins_with
 lines_are = refl
 
 -- ---- lines without text
 
-visible_are : (map (is_visible Outside) (codes "a! \t") ≡ true ∷ true ∷ false ∷ false ∷ []) × (is_visible InWord 97 ≡ true) × (is_visible InSequence 97 ≡ false)
+visible_are : (map (is_visible Outside) (codes "a! \t") ≡ true ∷ true ∷ false ∷ false ∷ []) × (is_visible InWord 97 ≡ true)
+    × (is_visible InSequence 97 ≡ false)
 visible_are = (refl, refl, refl)
 
-text_are : (has_text Outside (codes "  a") ≡ true) × (has_text Outside (codes " ") ≡ false) × (has_text Outside (27 ∷ codes "[0m") ≡ false) × (has_text InSequence (codes "a") ≡ false) × (has_text Outside (27 ∷ codes "[0ma") ≡ true)
+text_are : (has_text Outside (codes "  a") ≡ true) × (has_text Outside (codes " ") ≡ false) × (has_text Outside (27 ∷ codes "[0m") ≡ false)
+    × (has_text InSequence (codes "a") ≡ false) × (has_text Outside (27 ∷ codes "[0ma") ≡ true)
 text_are = (refl, refl, refl, refl, refl)
 
 blank_are : (is_blank [] ≡ true) × (is_blank (codes " \t") ≡ true) × (is_blank (codes " a") ≡ false)
@@ -89,11 +99,13 @@ blank_are = (refl, refl, refl)
 -- ---- causes
 
 filled_are :
-    (unless_blank (codes " ") ≡ None) × (unless_blank (codes "a") ≡ Some (codes "a")) × (last_filled [] ≡ None) × (last_filled (codes "a" ∷ codes "b" ∷ codes " " ∷ []) ≡ Some (codes "b"))
+    (unless_blank (codes " ") ≡ None) × (unless_blank (codes "a") ≡ Some (codes "a")) × (last_filled [] ≡ None)
+    × (last_filled (codes "a" ∷ codes "b" ∷ codes " " ∷ []) ≡ Some (codes "b"))
 filled_are = (refl, refl, refl, refl)
 
 causes_are :
-    (cause_of (codes "a" ∷ codes "error 1" ∷ codes "error 2" ∷ codes "b" ∷ []) ≡ Some (codes "error 1")) × (cause_of (codes "a" ∷ codes "b" ∷ codes " " ∷ []) ≡ Some (codes "b"))
+    (cause_of (codes "a" ∷ codes "error 1" ∷ codes "error 2" ∷ codes "b" ∷ []) ≡ Some (codes "error 1"))
+    × (cause_of (codes "a" ∷ codes "b" ∷ codes " " ∷ []) ≡ Some (codes "b"))
     × (cause_of (codes " " ∷ []) ≡ None)
 unfolding begins_with
 causes_are = (refl, refl, refl)

@@ -23,10 +23,13 @@ error_from None at lines = at + position_or_len is_error lines
 
 -- ---- cutting
 
-pub state_next : (bytes : List ℕ) (at : ℕ) → at < length bytes → state_at bytes (at + 1) ≡ state_after (state_at bytes at) (get_or bytes at 0)
+pub state_next : (bytes : List ℕ) (at : ℕ) → at < length bytes
+    → state_at bytes (at + 1) ≡ state_after (state_at bytes at) (get_or bytes at 0)
 state_next bytes at below = fold_more state_after Outside bytes at 0 below
 
-pub best_next : (bytes : List ℕ) (at : ℕ) → better (last_where (may_cut bytes) at) (at + 1) (state_at bytes (at + 1)) (get_or bytes (at + 1) 0) ≡ last_where (may_cut bytes) (at + 1)
+pub best_next : (bytes : List ℕ) (at : ℕ)
+    → better (last_where (may_cut bytes) at) (at + 1) (state_at bytes (at + 1)) (get_or bytes (at + 1) 0)
+    ≡ last_where (may_cut bytes) (at + 1)
 best_next bytes at =
     ap (λ (n : ℕ). better (last_where (may_cut bytes) at) n (state_at bytes n) (get_or bytes n 0)) (add-one at)
     ∙ sym (ap (last_where (may_cut bytes)) (add-one at))
@@ -70,21 +73,25 @@ module _ (position : ℕ) where
   begins : (stretches : List Stretch) → continued (LeftOut 1) stretches ≡ others (with_left_out stretches)
   begins [] = sym (append-nil (left_out_parts position 1))
   begins (Stretch.Shown lines ∷ stretches) = refl
-  begins (Stretch.LeftOut more ∷ stretches) = let same : 1 + more ≡ suc more = omega arith in ap (λ (n : ℕ). left_out_parts position n ++ others stretches) same
+  begins (Stretch.LeftOut more ∷ stretches) = let same : 1 + more ≡ suc more = omega arith in
+      ap (λ (n : ℕ). left_out_parts position n ++ others stretches) same
 
   left_out_step : (current : OpenStretch) (line : List ℕ) (stretches : List Stretch)
-      → step_parts position current false line ++ continued (open_after current false) stretches ≡ continued current (with_left_out stretches)
+      → step_parts position current false line ++ continued (open_after current false) stretches
+      ≡ continued current (with_left_out stretches)
   left_out_step Nothing line stretches = begins stretches
   left_out_step Shown line [] = ap (λ (parts : List Part). MarkupPart EndPre ∷ parts) (begins [])
   left_out_step Shown line (Stretch.Shown lines ∷ stretches) = refl
-  left_out_step Shown line (Stretch.LeftOut more ∷ stretches) = ap (λ (parts : List Part). MarkupPart EndPre ∷ parts) (begins (Stretch.LeftOut more ∷ stretches))
+  left_out_step Shown line (Stretch.LeftOut more ∷ stretches) =
+      ap (λ (parts : List Part). MarkupPart EndPre ∷ parts) (begins (Stretch.LeftOut more ∷ stretches))
   left_out_step (LeftOut count) line [] = sym (append-nil (left_out_parts position (count + 1)))
   left_out_step (LeftOut count) line (Stretch.Shown lines ∷ stretches) = refl
   left_out_step (LeftOut count) line (Stretch.LeftOut more ∷ stretches) =
       let same : count + 1 + more ≡ count + suc more = omega arith in ap (λ (n : ℕ). left_out_parts position n ++ others stretches) same
 
   step : (kept : Bool) (current : OpenStretch) (line : List ℕ) (stretches : List Stretch)
-      → step_parts position current kept line ++ continued (open_after current kept) stretches ≡ continued current (if kept then with_shown line stretches else with_left_out stretches)
+      → step_parts position current kept line ++ continued (open_after current kept) stretches
+      ≡ continued current (if kept then with_shown line stretches else with_left_out stretches)
   step true current line stretches = shown_step current line stretches
   step false current line stretches = left_out_step current line stretches
 
@@ -93,13 +100,16 @@ module _ (position : ℕ) where
   ends Shown = refl
   ends (LeftOut count) = refl
 
-  continues : (kept : ℕ → Bool) (current : OpenStretch) (at : ℕ) (lines : List (List ℕ)) → parts_from position kept current at lines ≡ continued current (stretches_from kept at lines)
+  continues : (kept : ℕ → Bool) (current : OpenStretch) (at : ℕ) (lines : List (List ℕ))
+      → parts_from position kept current at lines ≡ continued current (stretches_from kept at lines)
   continues kept current at [] = ends current
   continues kept current at (line ∷ lines) =
-      ap (λ (parts : List Part). step_parts position current (kept at) line ++ parts) (continues kept (open_after current (kept at)) (suc at) lines)
+      ap (λ (parts : List Part). step_parts position current (kept at) line ++ parts)
+      (continues kept (open_after current (kept at)) (suc at) lines)
       ∙ step (kept at) current line (stretches_from kept (suc at) lines)
 
-  pub line_by_line : (lines : List (List ℕ)) (count error : ℕ) → count ≡ length lines → error ≡ error_position lines → excerpt_parts position lines ≡ parts_from position (is_kept count error) Nothing 0 lines
+  pub line_by_line : (lines : List (List ℕ)) (count error : ℕ) → count ≡ length lines → error ≡ error_position lines
+      → excerpt_parts position lines ≡ parts_from position (is_kept count error) Nothing 0 lines
   unfolding excerpt_parts
   line_by_line lines count error count_is error_is =
       sym (continues (is_kept (length lines) (error_position lines)) Nothing 0 lines)
@@ -114,11 +124,13 @@ open_next Nothing false at low = omega arith
 open_next Shown false at low = omega arith
 open_next (LeftOut count) false at low = omega (arith, low)
 
-pub next_line : (position : ℕ) (kept : ℕ → Bool) (current next : OpenStretch) (at : ℕ) (shown : Bool) (left : List (List ℕ)) (line : List ℕ) (lines : List (List ℕ))
+pub next_line : (position : ℕ) (kept : ℕ → Bool) (current next : OpenStretch) (at : ℕ) (shown : Bool) (left : List (List ℕ)) (line : List ℕ)
+    (lines : List (List ℕ))
     → left ≡ line ∷ lines → shown ≡ kept at → next ≡ open_after current shown
     → parts_from position kept current at left ≡ step_parts position current shown line ++ parts_from position kept next (at + 1) lines
 next_line position kept current next at shown left line lines left_is shown_is next_is =
     ap (parts_from position kept current at) left_is
-    ∙ ap (λ (now : Bool). step_parts position current now line ++ parts_from position kept (open_after current now) (suc at) lines) (sym shown_is)
+    ∙ ap (λ (now : Bool). step_parts position current now line ++ parts_from position kept (open_after current now) (suc at) lines)
+    (sym shown_is)
     ∙ ap (λ (after : OpenStretch). step_parts position current shown line ++ parts_from position kept after (suc at) lines) (sym next_is)
     ∙ ap (λ (n : ℕ). step_parts position current shown line ++ parts_from position kept next n lines) (sym (add-one at))

@@ -107,7 +107,8 @@ rows =
     ∷ excerpt 0 0 []
     ∷ []
 
-shapes_are : AllByRecursion (λ row. map shape (stretches_from (is_kept row.count row.error) 0 (replicate row.count (codes "a"))) ≡ row.shapes) rows
+shapes_are : AllByRecursion (λ row. map shape (stretches_from (is_kept row.count row.error) 0 (replicate row.count (codes "a")))
+    ≡ row.shapes) rows
 shapes_are = (refl, (refl, (refl, (refl, (refl, (refl, (refl, (refl, tt))))))))
 
 -- ---- the parts of an excerpt
@@ -134,7 +135,8 @@ line_is = refl
 
 -- The positions at which lines are kept, up to 35, if line 20 of 106 reports an error, and from 40 on.
 kept_are :
-    (filter (is_kept 106 20) (range_with_len 0 36) ≡ range_with_len 0 10 ++ range_with_len 15 21) × (filter (is_kept 106 20) (range_with_len 36 20) ≡ range_with_len 36 9 ++ range_with_len 46 10)
+    (filter (is_kept 106 20) (range_with_len 0 36) ≡ range_with_len 0 10 ++ range_with_len 15 21)
+    × (filter (is_kept 106 20) (range_with_len 36 20) ≡ range_with_len 36 9 ++ range_with_len 46 10)
 kept_are = (refl, refl)
 
 stretches_are :
@@ -149,21 +151,25 @@ unfolding in_tree_parts
 in_tree_is = refl
 
 left_out_are :
-    (left_out_parts 7 1 ≡ tag markup.CutParagraph ∷ NumberPart 1 ∷ words (codes " more line: ") ∷ tag (markup.TargetLink 7) ∷ words (codes "in its log") ∷ tag markup.EndLink ∷ tag markup.EndParagraph ∷ [])
-    × (left_out_parts 7 2 ≡ tag markup.CutParagraph ∷ NumberPart 2 ∷ words (codes " more lines: ") ∷ tag (markup.TargetLink 7) ∷ words (codes "in its log") ∷ tag markup.EndLink ∷ tag markup.EndParagraph ∷ [])
+    (left_out_parts 7 1 ≡ tag markup.CutParagraph ∷ NumberPart 1 ∷ words (codes " more line: ") ∷ tag (markup.TargetLink 7)
+    ∷ words (codes "in its log") ∷ tag markup.EndLink ∷ tag markup.EndParagraph ∷ [])
+    × (left_out_parts 7 2 ≡ tag markup.CutParagraph ∷ NumberPart 2 ∷ words (codes " more lines: ") ∷ tag (markup.TargetLink 7)
+    ∷ words (codes "in its log") ∷ tag markup.EndLink ∷ tag markup.EndParagraph ∷ [])
 unfolding left_out_parts in_tree_parts
 left_out_are = (refl, refl)
 
 shown_stretch_is :
     stretch_parts 7 (Stretch.Shown (codes "x" ∷ codes "y" ∷ []))
-    ≡ tag markup.Pre ∷ LogPart plain_style (codes "x") ∷ words (codes "\n") ∷ LogPart plain_style (codes "y") ∷ words (codes "\n") ∷ tag markup.EndPre ∷ []
+    ≡ tag markup.Pre ∷ LogPart plain_style (codes "x") ∷ words (codes "\n") ∷ LogPart plain_style (codes "y") ∷ words (codes "\n")
+    ∷ tag markup.EndPre ∷ []
 unfolding excerpt_line_parts excerpt_line_end cut_to
 shown_stretch_is = refl
 
 left_out_stretch_is : stretch_parts 7 (Stretch.LeftOut 1) ≡ left_out_parts 7 1
 left_out_stretch_is = refl
 
-short_excerpt_is : excerpt_parts 7 (codes "x" ∷ []) ≡ tag markup.Pre ∷ LogPart plain_style (codes "x") ∷ words (codes "\n") ∷ tag markup.EndPre ∷ []
+short_excerpt_is : excerpt_parts 7 (codes "x" ∷ [])
+    ≡ tag markup.Pre ∷ LogPart plain_style (codes "x") ∷ words (codes "\n") ∷ tag markup.EndPre ∷ []
 unfolding excerpt_parts excerpt_line_parts excerpt_line_end cut_to begins_with
 short_excerpt_is = refl
 
@@ -183,7 +189,8 @@ excerpt_is :
     ++ (codes "</pre><p class=\"cut\">5 more lines: <a href=\"#t7\">in its log</a></p><pre>\n"
     ++ (a_text 5
     ++ (codes "error\n"
-    ++ (a_text 24 ++ (codes "</pre><p class=\"cut\">1 more line: <a href=\"#t7\">in its log</a></p><pre>\n" ++ (a_text 60 ++ codes "</pre>"))))))))
+    ++ (a_text 24 ++ (codes "</pre><p class=\"cut\">1 more line: <a href=\"#t7\">in its log</a></p><pre>\n"
+    ++ (a_text 60 ++ codes "</pre>"))))))))
     ≡ true
 unfolding excerpt_parts excerpt_line_parts excerpt_line_end cut_to left_out_parts in_tree_parts begins_with symbols_after first_symbol symbol_len is_sequence sequence_len sequence_numbers first_code_point code_point_len is_unprintable notation unprintable_text number_text encode_utf8 digits html_from
 excerpt_is = refl

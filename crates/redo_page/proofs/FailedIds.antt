@@ -43,22 +43,35 @@ all_take passes (suc count) (number ∷ numbers) all =
 all_drop : (passes : ℕ → Bool) (count : ℕ) (numbers : List ℕ) → list_all passes numbers ≡ true → list_all passes (drop count numbers) ≡ true
 all_drop passes zero numbers all = all
 all_drop passes (suc count) [] all = refl
-all_drop passes (suc count) (number ∷ numbers) all = all_drop passes count numbers (and_parts (passes number) (list_all passes numbers) all).1
+all_drop passes (suc count) (number ∷ numbers) all =
+    all_drop passes count numbers (and_parts (passes number) (list_all passes numbers) all).1
 
 roots_below : (position : ℕ) (nodes : List Node) → AreBelow (position + length nodes) (root_failures_from position nodes)
 roots_below position [] = refl
-roots_below position (node ∷ nodes) = by (is_root_failure node) (ap (λ count. list_all (λ number. nat_lt number count) (root_failures_from (suc position) nodes)) (omega arith) ∙ roots_below (suc position) nodes)
+roots_below position (node ∷ nodes) =
+    by (is_root_failure node) (ap (λ count. list_all (λ number. nat_lt number count) (root_failures_from (suc position) nodes))
+    (omega arith) ∙ roots_below (suc position) nodes)
   where
-    by : (first : Bool) → AreBelow (position + length (node ∷ nodes)) (root_failures_from (suc position) nodes) → AreBelow (position + length (node ∷ nodes)) ((if first then position ∷ [] else []) ++ root_failures_from (suc position) nodes)
-    by true others = and_from (nat_lt position (position + length (node ∷ nodes))) (list_all (λ number. nat_lt number (position + length (node ∷ nodes))) (root_failures_from (suc position) nodes)) (lt-ltb position (position + length (node ∷ nodes)) (omega arith)) others
+    by : (first : Bool) → AreBelow (position + length (node ∷ nodes)) (root_failures_from (suc position) nodes)
+        → AreBelow (position + length (node ∷ nodes)) ((if first then position ∷ [] else []) ++ root_failures_from (suc position) nodes)
+    by true others = and_from (nat_lt position (position + length (node ∷ nodes)))
+        (list_all (λ number. nat_lt number (position + length (node ∷ nodes))) (root_failures_from (suc position) nodes))
+        (lt-ltb position (position + length (node ∷ nodes)) (omega arith)) others
     by false others = others
 
-where_below : (holds : Node → Bool) (position : ℕ) (nodes : List Node) → AreBelow (position + length nodes) (positions_where holds position nodes)
+where_below : (holds : Node → Bool) (position : ℕ) (nodes : List Node)
+    → AreBelow (position + length nodes) (positions_where holds position nodes)
 where_below holds position [] = refl
-where_below holds position (node ∷ nodes) = by (holds node) (ap (λ count. list_all (λ number. nat_lt number count) (positions_where holds (suc position) nodes)) (omega arith) ∙ where_below holds (suc position) nodes)
+where_below holds position (node ∷ nodes) =
+    by (holds node) (ap (λ count. list_all (λ number. nat_lt number count) (positions_where holds (suc position) nodes)) (omega arith)
+    ∙ where_below holds (suc position) nodes)
   where
-    by : (is : Bool) → AreBelow (position + length (node ∷ nodes)) (positions_where holds (suc position) nodes) → AreBelow (position + length (node ∷ nodes)) (if is then position ∷ positions_where holds (suc position) nodes else positions_where holds (suc position) nodes)
-    by true others = and_from (nat_lt position (position + length (node ∷ nodes))) (list_all (λ number. nat_lt number (position + length (node ∷ nodes))) (positions_where holds (suc position) nodes)) (lt-ltb position (position + length (node ∷ nodes)) (omega arith)) others
+    by : (is : Bool) → AreBelow (position + length (node ∷ nodes)) (positions_where holds (suc position) nodes)
+        → AreBelow (position + length (node ∷ nodes))
+        (if is then position ∷ positions_where holds (suc position) nodes else positions_where holds (suc position) nodes)
+    by true others = and_from (nat_lt position (position + length (node ∷ nodes)))
+        (list_all (λ number. nat_lt number (position + length (node ∷ nodes))) (positions_where holds (suc position) nodes))
+        (lt-ltb position (position + length (node ∷ nodes)) (omega arith)) others
     by false others = others
 
 -- Each number of a list is in it.
@@ -66,7 +79,8 @@ among_after : (front numbers : List ℕ) → list_all (is_among (front ++ number
 among_after front [] = refl
 among_after front (number ∷ numbers) =
     and_from (is_among (front ++ (number ∷ numbers)) number) (list_all (is_among (front ++ (number ∷ numbers))) numbers) (here front)
-    (ap (λ list. list_all (is_among list) numbers) (sym (append_assoc front (number ∷ []) numbers)) ∙ among_after (front ++ number ∷ []) numbers)
+    (ap (λ list. list_all (is_among list) numbers) (sym (append_assoc front (number ∷ []) numbers))
+    ∙ among_after (front ++ number ∷ []) numbers)
   where
     here : (front : List ℕ) → is_among (front ++ (number ∷ numbers)) number ≡ true
     here [] = or_left (number == number) (is_among numbers number) (eq-eqb number number refl)
@@ -90,7 +104,9 @@ pub path_bare : (logs : List Log) (nodes : List Node) (levels : ℕ) (position :
 unfolding path_parts
 path_bare logs nodes levels None = refl
 path_bare logs nodes zero (Some position) = refl
-path_bare logs nodes (suc levels) (Some position) = bare_then (path_parts logs nodes levels (node_at nodes position).parent) _ (path_bare logs nodes levels (node_at nodes position).parent) refl
+path_bare logs nodes (suc levels) (Some position) =
+    bare_then (path_parts logs nodes levels (node_at nodes position).parent) _
+    (path_bare logs nodes levels (node_at nodes position).parent) refl
 
 -- ---- excerpts
 
@@ -101,30 +117,51 @@ module _ (count : ℕ) (listed : List ℕ) where
 
   left_out_refers : (position left_out : ℕ) → nat_lt position count ≡ true → Refer count listed (left_out_parts position left_out) [] []
   unfolding left_out_parts in_tree_parts
-  left_out_refers position left_out below = same_refer {others = MarkupPart (markup.TargetLink position) ∷ []} refl (link_refers position below)
+  left_out_refers position left_out below =
+      same_refer {others = MarkupPart (markup.TargetLink position) ∷ []} refl (link_refers position below)
 
   log_refers : (style : Style) (text : List ℕ) → Refer count listed (LogPart style text ∷ []) [] []
-  log_refers style text = record { target_ids_are = refl; article_ids_are = refl; target_links_lead = refl; article_links_lead = refl; sections_are = refl }
+  log_refers style text = record {
+    target_ids_are = refl;
+    article_ids_are = refl;
+    target_links_lead = refl;
+    article_links_lead = refl;
+    sections_are = refl;
+  }
 
   excerpt_line_refers : (line : List ℕ) → Refer count listed (excerpt_line_parts line) [] []
   unfolding excerpt_line_parts
-  excerpt_line_refers line = record { target_ids_are = refl; article_ids_are = refl; target_links_lead = refl; article_links_lead = refl; sections_are = refl }
+  excerpt_line_refers line = record {
+    target_ids_are = refl;
+    article_ids_are = refl;
+    target_links_lead = refl;
+    article_links_lead = refl;
+    sections_are = refl;
+  }
 
-  stretch_refers : (position : ℕ) (stretch : Stretch) → nat_lt position count ≡ true → Refer count listed (stretch_parts position stretch) [] []
-  stretch_refers position (Shown lines) below = same_refer {others = flat_map excerpt_line_parts lines} (simp (flat_map-append, append-nil)) (refer_each excerpt_line_parts excerpt_line_refers lines)
+  stretch_refers : (position : ℕ) (stretch : Stretch) → nat_lt position count ≡ true
+      → Refer count listed (stretch_parts position stretch) [] []
+  stretch_refers position (Shown lines) below =
+      same_refer {others = flat_map excerpt_line_parts lines} (simp (flat_map-append, append-nil))
+      (refer_each excerpt_line_parts excerpt_line_refers lines)
   stretch_refers position (LeftOut left_out) below = left_out_refers position left_out below
 
-  excerpt_refers : (position : ℕ) (lines : List (List ℕ)) → nat_lt position count ≡ true → Refer count listed (excerpt_parts position lines) [] []
+  excerpt_refers : (position : ℕ) (lines : List (List ℕ)) → nat_lt position count ≡ true
+      → Refer count listed (excerpt_parts position lines) [] []
   unfolding excerpt_parts
-  excerpt_refers position lines below = refer_each (stretch_parts position) (λ stretch. stretch_refers position stretch below) (stretches_from (is_kept (length lines) (error_position lines)) 0 lines)
+  excerpt_refers position lines below =
+      refer_each (stretch_parts position) (λ stretch. stretch_refers position stretch below)
+      (stretches_from (is_kept (length lines) (error_position lines)) 0 lines)
 
   lines_refer : (style : Style) (lines : List (List ℕ)) → Refer count listed (line_parts style lines) [] []
   lines_refer style [] = bare_refers [] refl
-  lines_refer style (line ∷ lines) = then_refer (log_refers style (with_line_feed line)) (lines_refer (style_after style (with_line_feed line)) lines)
+  lines_refer style (line ∷ lines) = then_refer (log_refers style (with_line_feed line))
+      (lines_refer (style_after style (with_line_feed line)) lines)
 
   whole_refers : (lines : List (List ℕ)) → Refer count listed (whole_parts lines) [] []
   unfolding whole_parts
-  whole_refers lines = same_refer {others = line_parts plain_style lines} (simp (flat_map-append, append-nil)) (lines_refer plain_style lines)
+  whole_refers lines = same_refer {others = line_parts plain_style lines} (simp (flat_map-append, append-nil))
+      (lines_refer plain_style lines)
 
   nothing_refers : (node : Node) → Refer count listed (nothing_parts node) [] []
   unfolding nothing_parts
@@ -133,9 +170,17 @@ module _ (count : ℕ) (listed : List ℕ) where
   cause_refers : (line : Option (List ℕ)) → Refer count listed (cause_parts line) [] []
   unfolding cause_parts
   cause_refers None = bare_refers [] refl
-  cause_refers (Some line) = record { target_ids_are = refl; article_ids_are = refl; target_links_lead = refl; article_links_lead = refl; sections_are = refl }
+  cause_refers (Some line) = record {
+    target_ids_are = refl;
+    article_ids_are = refl;
+    target_links_lead = refl;
+    article_links_lead = refl;
+    sections_are = refl;
+  }
 
-  rows_refer : (passes : ℕ → Bool) (row : ℕ → List Part) → ((position : ℕ) → passes position ≡ true → Refer count listed (row position) [] []) → (positions : List ℕ) → list_all passes positions ≡ true → Refer count listed (flat_map row positions) [] []
+  rows_refer : (passes : ℕ → Bool) (row : ℕ → List Part)
+      → ((position : ℕ) → passes position ≡ true → Refer count listed (row position) [] []) → (positions : List ℕ)
+      → list_all passes positions ≡ true → Refer count listed (flat_map row positions) [] []
   rows_refer passes row each [] all = bare_refers [] refl
   rows_refer passes row each (position ∷ positions) all =
       let parts = and_parts (passes position) (list_all passes positions) all in
@@ -152,21 +197,34 @@ module _ (count : ℕ) (listed : List ℕ) where
     unfolding output_parts
     output_refers position node below = by (node.lines == 0) (is_short node)
       where
-        by : (none short : Bool) → Refer count listed (if none then nothing_parts node else if short then whole_parts (printed_by logs node) else excerpt_parts position (printed_by logs node)) [] []
+        by : (none short : Bool) → Refer count listed
+            (if none then nothing_parts node else if short then whole_parts (printed_by logs node)
+            else excerpt_parts position (printed_by logs node)) [] []
         by true short = nothing_refers node
         by false true = whole_refers (printed_by logs node)
         by false false = excerpt_refers position (printed_by logs node) below
 
-    article_refers : (position : ℕ) → nat_lt position count ≡ true → Refer count listed (article_parts logs nodes position) [] (position ∷ [])
+    article_refers : (position : ℕ) → nat_lt position count ≡ true
+        → Refer count listed (article_parts logs nodes position) [] (position ∷ [])
     unfolding article_parts article_of
     article_refers position below =
         let node = node_at nodes position in
-        same_refer {others = MarkupPart (markup.Article position) ∷ (in_tree_parts position PLACE_IN_TREE.now ++ output_parts logs position node)}
-        (simp (flat_map-append, append-nil, badge_bare node.status, article_took_bare node.took, path_bare logs nodes (max_path logs nodes) node.parent))
-        (then_refer {parts = MarkupPart (markup.Article position) ∷ []} (record { target_ids_are = refl; article_ids_are = refl; target_links_lead = refl; article_links_lead = refl; sections_are = refl })
+        same_refer {others = MarkupPart (markup.Article position)
+        ∷ (in_tree_parts position PLACE_IN_TREE.now ++ output_parts logs position node)}
+        (simp (
+          flat_map-append,
+          append-nil,
+          badge_bare node.status,
+          article_took_bare node.took,
+          path_bare logs nodes
+              (max_path logs nodes) node.parent,
+        ))
+        (then_refer {parts = MarkupPart (markup.Article position) ∷ []}
+        (record { target_ids_are = refl; article_ids_are = refl; target_links_lead = refl; article_links_lead = refl; sections_are = refl })
         (then_refer (in_tree_refers position PLACE_IN_TREE.now below) (output_refers position node below)))
 
-    articles_refer : (positions : List ℕ) → AreBelow count positions → Refer count listed (flat_map (article_parts logs nodes) positions) [] positions
+    articles_refer : (positions : List ℕ) → AreBelow count positions
+        → Refer count listed (flat_map (article_parts logs nodes) positions) [] positions
     articles_refer [] below = bare_refers [] refl
     articles_refer (position ∷ positions) below =
         let parts = and_parts (nat_lt position count) (list_all (λ number. nat_lt number count) positions) below in
@@ -183,71 +241,100 @@ module _ (count : ℕ) (listed : List ℕ) where
     unfolding article_row row_parts
     article_row_refers position among =
         let node = node_at nodes position in
-        same_refer {others = MarkupPart (markup.OutputLink position) ∷ cause_if logs true node} (simp (flat_map-append, append-nil, badge_bare node.status))
+        same_refer {others = MarkupPart (markup.OutputLink position) ∷ cause_if logs true node}
+        (simp (flat_map-append, append-nil, badge_bare node.status))
         (then_refer (article_link_refers position among) (cause_if_refers true node))
 
-    target_row_refers : (causes : Bool) (position : ℕ) → nat_lt position count ≡ true → Refer count listed (target_row logs nodes causes position) [] []
+    target_row_refers : (causes : Bool) (position : ℕ) → nat_lt position count ≡ true
+        → Refer count listed (target_row logs nodes causes position) [] []
     unfolding target_row row_parts
     target_row_refers causes position below =
         let node = node_at nodes position in
-        same_refer {others = MarkupPart (markup.TargetLink position) ∷ cause_if logs causes node} (simp (flat_map-append, append-nil, badge_bare node.status))
+        same_refer {others = MarkupPart (markup.TargetLink position) ∷ cause_if logs causes node}
+        (simp (flat_map-append, append-nil, badge_bare node.status))
         (then_refer (link_refers position below) (cause_if_refers causes node))
 
-    list_refers : (positions : List ℕ) → list_all (is_among listed) positions ≡ true → Refer count listed (list_parts logs nodes positions) [] []
+    list_refers : (positions : List ℕ) → list_all (is_among listed) positions ≡ true
+        → Refer count listed (list_parts logs nodes positions) [] []
     unfolding list_parts
     list_refers positions among =
-        refer_if (nat_lt 1 (length positions)) (same_refer {others = flat_map (article_row logs nodes) positions} (simp (flat_map-append, append-nil)) (rows_refer (is_among listed) (article_row logs nodes) article_row_refers positions among))
+        refer_if (nat_lt 1 (length positions))
+        (same_refer {others = flat_map (article_row logs nodes) positions} (simp (flat_map-append, append-nil))
+        (rows_refer (is_among listed) (article_row logs nodes) article_row_refers positions among))
 
-    more_refers : (list : Markup) (causes : Bool) → Bare (MarkupPart list ∷ []) → (heading positions : List ℕ) → AreBelow count positions → Refer count listed (more_parts logs nodes list causes heading positions) [] []
+    more_refers : (list : Markup) (causes : Bool) → Bare (MarkupPart list ∷ []) → (heading positions : List ℕ) → AreBelow count positions
+        → Refer count listed (more_parts logs nodes list causes heading positions) [] []
     unfolding more_parts
     more_refers list causes bare heading positions below =
         let rows = flat_map (target_row logs nodes causes) (take max_rows positions) in
-        refer_if (nat_lt 0 (length positions)) (same_refer {others = rows} (more_same rows (unlisted_parts (length positions)) (unlisted_bare (length positions)))
-        (rows_refer (λ number. nat_lt number count) (target_row logs nodes causes) (target_row_refers causes) (take max_rows positions) (all_take (λ number. nat_lt number count) max_rows positions below)))
+        refer_if (nat_lt 0 (length positions))
+        (same_refer {others = rows} (more_same rows (unlisted_parts (length positions)) (unlisted_bare (length positions)))
+        (rows_refer (λ number. nat_lt number count) (target_row logs nodes causes) (target_row_refers causes) (take max_rows positions)
+        (all_take (λ number. nat_lt number count) max_rows positions below)))
       where
-        more_same : (rows unlisted : List Part) → Bare unlisted → references (MarkupPart markup.MoreDetails ∷ MarkupPart markup.Summary ∷ NumberPart (length positions) ∷ TextPart heading ∷ MarkupPart markup.EndSummary ∷ MarkupPart list
+        more_same : (rows unlisted : List Part) → Bare unlisted
+            → references (MarkupPart markup.MoreDetails ∷ MarkupPart markup.Summary ∷ NumberPart (length positions) ∷ TextPart heading
+            ∷ MarkupPart markup.EndSummary ∷ MarkupPart list
             ∷ (rows ++ (MarkupPart markup.EndOrdered ∷ (unlisted ++ MarkupPart markup.EndDetails ∷ [])))) ≡ references rows
         more_same rows unlisted unlisted_is =
-            ap (λ t. t ++ references (rows ++ (MarkupPart markup.EndOrdered ∷ (unlisted ++ MarkupPart markup.EndDetails ∷ [])))) (sym (append-nil (reference (MarkupPart list))) ∙ bare) ∙ simp (flat_map-append, append-nil, unlisted_is)
+            ap (λ t. t ++ references (rows ++ (MarkupPart markup.EndOrdered ∷ (unlisted ++ MarkupPart markup.EndDetails ∷ []))))
+            (sym (append-nil (reference (MarkupPart list))) ∙ bare) ∙ simp (flat_map-append, append-nil, unlisted_is)
 
-    section_same : (a b c d e : List Part) → references (MarkupPart markup.FailedSection ∷ MarkupPart markup.FailedHeading ∷ TextPart WHAT_FAILED.now ∷ MarkupPart markup.EndHeading ∷ (a ++ (b ++ (c ++ (d ++ (e ++ MarkupPart markup.EndSection ∷ []))))))
+    section_same : (a b c d e : List Part)
+        → references (MarkupPart markup.FailedSection ∷ MarkupPart markup.FailedHeading ∷ TextPart WHAT_FAILED.now
+        ∷ MarkupPart markup.EndHeading ∷ (a ++ (b ++ (c ++ (d ++ (e ++ MarkupPart markup.EndSection ∷ []))))))
         ≡ references (MarkupPart markup.FailedSection ∷ (a ++ (b ++ (c ++ (d ++ e)))))
     section_same a b c d e = simp (flat_map-append, append-nil)
 
-    section_refers : (shown others dependents unclosed : List ℕ) → AreBelow count shown → list_all (is_among listed) shown ≡ true → AreBelow count others → AreBelow count dependents → AreBelow count unclosed
-        → Refers count listed (section_parts logs nodes shown others dependents unclosed) [] (shown ++ []) (MarkupPart markup.FailedSection ∷ [])
+    section_refers : (shown others dependents unclosed : List ℕ) → AreBelow count shown → list_all (is_among listed) shown ≡ true
+        → AreBelow count others → AreBelow count dependents → AreBelow count unclosed
+        → Refers count listed (section_parts logs nodes shown others dependents unclosed) [] (shown ++ [])
+        (MarkupPart markup.FailedSection ∷ [])
     unfolding section_parts
     section_refers shown others dependents unclosed shown_below among others_below dependents_below unclosed_below =
         let articles_shown = flat_map (article_parts logs nodes) shown in
         let more = more_parts logs nodes (markup.OrderedFrom (suc max_articles)) true MORE_FAILED.now others in
         let with_these = more_parts logs nodes markup.Ordered false FAILED_WITH_THESE.now dependents in
         let not_closed = more_parts logs nodes markup.Ordered false COUNT_NOT_CLOSED.now unclosed in
-        same_refer {others = MarkupPart markup.FailedSection ∷ (list_parts logs nodes shown ++ (articles_shown ++ (more ++ (with_these ++ not_closed))))} (section_same (list_parts logs nodes shown) articles_shown more with_these not_closed)
-        (then_refer {parts = MarkupPart markup.FailedSection ∷ []} (record { target_ids_are = refl; article_ids_are = refl; target_links_lead = refl; article_links_lead = refl; sections_are = refl })
+        same_refer {others = MarkupPart markup.FailedSection
+        ∷ (list_parts logs nodes shown ++ (articles_shown ++ (more ++ (with_these ++ not_closed))))}
+        (section_same (list_parts logs nodes shown) articles_shown more with_these not_closed)
+        (then_refer {parts = MarkupPart markup.FailedSection ∷ []}
+        (record { target_ids_are = refl; article_ids_are = refl; target_links_lead = refl; article_links_lead = refl; sections_are = refl })
         (then_refer (list_refers shown among)
         (then_refer (articles_refer shown shown_below)
         (then_refer (more_refers (markup.OrderedFrom (suc max_articles)) true refl MORE_FAILED.now others others_below)
-        (then_refer (more_refers markup.Ordered false refl FAILED_WITH_THESE.now dependents dependents_below) (more_refers markup.Ordered false refl COUNT_NOT_CLOSED.now unclosed unclosed_below))))))
+        (then_refer (more_refers markup.Ordered false refl FAILED_WITH_THESE.now dependents dependents_below)
+        (more_refers markup.Ordered false refl COUNT_NOT_CLOSED.now unclosed unclosed_below))))))
 
 -- The section, if a target failed.
 abbrev pub failed_section : List ℕ → List Part
 failed_section first = parts_if (nat_lt 0 (length first)) (MarkupPart markup.FailedSection ∷ [])
 
-pub failed_refers : (logs : List Log) (nodes : List Node) → Refers (length nodes) (articles nodes) (failed_parts logs nodes) [] (articles nodes ++ []) (failed_section (root_failures nodes))
+pub failed_refers : (logs : List Log) (nodes : List Node)
+    → Refers (length nodes) (articles nodes) (failed_parts logs nodes) [] (articles nodes ++ []) (failed_section (root_failures nodes))
 unfolding failed_parts
 failed_refers logs nodes = by (root_failures nodes) (roots_are_below nodes)
   where
     below : (holds : Node → Bool) → AreBelow (length nodes) (positions_where holds 0 nodes)
-    below holds = ap (λ count. list_all (λ number. nat_lt number count) (positions_where holds 0 nodes)) (omega arith) ∙ where_below holds 0 nodes
+    below holds = ap (λ count. list_all (λ number. nat_lt number count) (positions_where holds 0 nodes)) (omega arith)
+        ∙ where_below holds 0 nodes
 
-    some : (condition : Bool) → condition ≡ true → {listed ids : List ℕ} {parts sections : List Part} → Refers (length nodes) listed parts [] ids sections → Refers (length nodes) listed (parts_if condition parts) [] ids (parts_if condition sections)
+    some : (condition : Bool) → condition ≡ true → {listed ids : List ℕ} {parts sections : List Part}
+        → Refers (length nodes) listed parts [] ids sections
+        → Refers (length nodes) listed (parts_if condition parts) [] ids (parts_if condition sections)
     some condition is refer = rw is refer
 
     by : (first : List ℕ) → AreBelow (length nodes) first
-        → Refers (length nodes) (take max_articles first) (parts_if (nat_lt 0 (length first)) (section_parts logs nodes (take max_articles first) (drop max_articles first) (positions_where is_dependent_failure 0 nodes) (positions_where is_unclosed 0 nodes))) [] (take max_articles first ++ []) (failed_section first)
+        → Refers (length nodes) (take max_articles first)
+        (parts_if (nat_lt 0 (length first))
+        (section_parts logs nodes (take max_articles first) (drop max_articles first) (positions_where is_dependent_failure 0 nodes)
+        (positions_where is_unclosed 0 nodes))) [] (take max_articles first ++ []) (failed_section first)
     by [] first_are = bare_refers [] refl
     by (position ∷ positions) first_are =
         let first = position ∷ positions in
         some (nat_lt 0 (length (position ∷ positions))) (lt-ltb 0 (length (position ∷ positions)) (omega arith))
-        (section_refers (length nodes) (take max_articles first) logs nodes (take max_articles first) (drop max_articles first) (positions_where is_dependent_failure 0 nodes) (positions_where is_unclosed 0 nodes)
-        (all_take (λ number. nat_lt number (length nodes)) max_articles first first_are) (among_after [] (take max_articles first)) (all_drop (λ number. nat_lt number (length nodes)) max_articles first first_are) (below is_dependent_failure) (below is_unclosed))
+        (section_refers (length nodes) (take max_articles first) logs nodes (take max_articles first) (drop max_articles first)
+        (positions_where is_dependent_failure 0 nodes) (positions_where is_unclosed 0 nodes)
+        (all_take (λ number. nat_lt number (length nodes)) max_articles first first_are) (among_after [] (take max_articles first))
+        (all_drop (λ number. nat_lt number (length nodes)) max_articles first first_are) (below is_dependent_failure) (below is_unclosed))

@@ -29,15 +29,19 @@ lines_text style (line ∷ lines) = ap (λ t. with_line_feed line ++ t) (lines_t
 whole_text : (lines : List (List ℕ)) → log_bytes (whole_parts lines) ≡ flat_map with_line_feed lines
 unfolding whole_parts
 whole_text lines =
-    flat_map-append log_text (line_parts plain_style lines) (MarkupPart markup.EndPre ∷ []) ∙ append-nil (log_bytes (line_parts plain_style lines)) ∙ lines_text plain_style lines
+    flat_map-append log_text (line_parts plain_style lines) (MarkupPart markup.EndPre ∷ [])
+    ∙ append-nil (log_bytes (line_parts plain_style lines)) ∙ lines_text plain_style lines
 
-output_text : (logs : List Log) (position : ℕ) (node : Node) → is_short node ≡ true → log_bytes (output_parts logs position node) ≡ flat_map with_line_feed (printed_by logs node)
+output_text : (logs : List Log) (position : ℕ) (node : Node) → is_short node ≡ true
+    → log_bytes (output_parts logs position node) ≡ flat_map with_line_feed (printed_by logs node)
 unfolding output_parts
 output_text logs position node short =
-    let parts = and_parts (not (node.lines == 0)) (nat_le node.lines 300 && nat_le node.bytes 40000) short in by (node.lines == 0) (is_short node) (not-true (node.lines == 0) parts.0) short
+    let parts = and_parts (not (node.lines == 0)) (nat_le node.lines 300 && nat_le node.bytes 40000) short in
+    by (node.lines == 0) (is_short node) (not-true (node.lines == 0) parts.0) short
   where
     by : (none is : Bool) → none ≡ false → is ≡ true
-        → log_bytes (if none then nothing_parts node else if is then whole_parts (printed_by logs node) else excerpt_parts position (printed_by logs node)) ≡ flat_map with_line_feed (printed_by logs node)
+        → log_bytes (if none then nothing_parts node else if is then whole_parts (printed_by logs node)
+        else excerpt_parts position (printed_by logs node)) ≡ flat_map with_line_feed (printed_by logs node)
     by none is some short_is = rw (some, short_is) (whole_text (printed_by logs node))
 
 in_tree_text : (position : ℕ) (text : List ℕ) → log_bytes (in_tree_parts position text) ≡ []
@@ -45,11 +49,21 @@ unfolding in_tree_parts
 in_tree_text position text = refl
 
 -- An article with a short output shows it as it is.
-pub article_text : (logs : List Log) (nodes : List Node) (position : ℕ) → is_short (node_at nodes position) ≡ true → log_bytes (article_parts logs nodes position) ≡ flat_map with_line_feed (printed_by logs (node_at nodes position))
+pub article_text : (logs : List Log) (nodes : List Node) (position : ℕ) → is_short (node_at nodes position) ≡ true
+    → log_bytes (article_parts logs nodes position) ≡ flat_map with_line_feed (printed_by logs (node_at nodes position))
 unfolding article_parts article_of
 article_text logs nodes position short =
     let node = node_at nodes position in
     let link = in_tree_parts position PLACE_IN_TREE.now in
     same_text (article_parts logs nodes position) (MarkupPart (markup.Article position) ∷ (link ++ output_parts logs position node))
-    (simp (flat_map-append, append-nil, badge_bare node.status, article_took_bare node.took, path_bare logs nodes (max_path logs nodes) node.parent))
-    ∙ flat_map-append log_text link (output_parts logs position node) ∙ ap (λ t. t ++ log_bytes (output_parts logs position node)) (in_tree_text position PLACE_IN_TREE.now) ∙ output_text logs position node short
+    (simp (
+      flat_map-append,
+      append-nil,
+      badge_bare node.status,
+      article_took_bare node.took,
+      path_bare logs nodes
+          (max_path logs nodes) node.parent,
+    ))
+    ∙ flat_map-append log_text link (output_parts logs position node)
+    ∙ ap (λ t. t ++ log_bytes (output_parts logs position node)) (in_tree_text position PLACE_IN_TREE.now)
+    ∙ output_text logs position node short

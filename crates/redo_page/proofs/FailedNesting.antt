@@ -35,12 +35,14 @@ unfolding excerpt_line_parts
 excerpt_line_nests line = record { leads = λ around tags. refl }
 
 stretch_nests : (position : ℕ) (stretch : Stretch) → Nest (stretch_parts position stretch)
-stretch_nests position (Shown lines) = record { leads = λ around tags. simp (joined, (nest_each excerpt_line_parts excerpt_line_nests lines).leads) }
+stretch_nests position (Shown lines) =
+    record { leads = λ around tags. simp (joined, (nest_each excerpt_line_parts excerpt_line_nests lines).leads) }
 stretch_nests position (LeftOut count) = left_out_nests position count
 
 excerpt_nests : (position : ℕ) (lines : List (List ℕ)) → Nest (excerpt_parts position lines)
 unfolding excerpt_parts
-excerpt_nests position lines = nest_each (stretch_parts position) (stretch_nests position) (stretches_from (is_kept (length lines) (error_position lines)) 0 lines)
+excerpt_nests position lines = nest_each (stretch_parts position) (stretch_nests position)
+    (stretches_from (is_kept (length lines) (error_position lines)) 0 lines)
 
 lines_nest : (style : Style) (lines : List (List ℕ)) → Nest (line_parts style lines)
 lines_nest style [] = record { leads = λ around tags. refl }
@@ -68,7 +70,8 @@ module _ (logs : List Log) where
   unfolding output_parts
   output_nests position node = by (node.lines == 0) (is_short node)
     where
-      by : (none short : Bool) → Nest (if none then nothing_parts node else if short then whole_parts (printed_by logs node) else excerpt_parts position (printed_by logs node))
+      by : (none short : Bool) → Nest (if none then nothing_parts node else if short then whole_parts (printed_by logs node)
+          else excerpt_parts position (printed_by logs node))
       by true short = nothing_nests node
       by false true = whole_nests (printed_by logs node)
       by false false = excerpt_nests position (printed_by logs node)
@@ -79,27 +82,38 @@ module _ (logs : List Log) where
   cause_if_nests false node = record { leads = λ around tags. refl }
 
   -- A row, whose link is known to begin an element `a`.
-  row_nests : {link : Markup} (causes : Bool) (node : Node) → Leads [] (MarkupPart markup.Item ∷ MarkupPart link ∷ []) (codes "a" ∷ codes "li" ∷ []) → Nest (row_parts logs link causes node)
+  row_nests : {link : Markup} (causes : Bool) (node : Node)
+      → Leads [] (MarkupPart markup.Item ∷ MarkupPart link ∷ []) (codes "a" ∷ codes "li" ∷ []) → Nest (row_parts logs link causes node)
   unfolding row_parts
-  row_nests causes node start = then_lead start (record { leads = λ around tags. simp (joined, (badge_nests node.status).leads, (cause_if_nests causes node).leads) })
+  row_nests causes node start = then_lead start
+      (record { leads = λ around tags. simp (joined, (badge_nests node.status).leads, (cause_if_nests causes node).leads) })
 
 article_took_nests : (took : Option ℕ) → Nest (article_took took)
 article_took_nests None = record { leads = λ around tags. refl }
-article_took_nests (Some ms) = words_nest {inside = []} [] (TextPart MIDDLE_DOT.now ∷ []) (duration_words ms) (record { leads = λ around tags. refl }) (record { leads = λ around tags. refl })
+article_took_nests (Some ms) = words_nest {inside = []} [] (TextPart MIDDLE_DOT.now ∷ []) (duration_words ms)
+    (record { leads = λ around tags. refl }) (record { leads = λ around tags. refl })
 
 module _ (logs : List Log) (nodes : List Node) where
   path_nests : (levels : ℕ) (position : Option ℕ) → Nest (path_parts logs nodes levels position)
   unfolding path_parts
   path_nests levels None = record { leads = λ around tags. refl }
   path_nests zero (Some position) = record { leads = λ around tags. refl }
-  path_nests (suc levels) (Some position) = then_lead (path_nests levels (node_at nodes position).parent) (record { leads = λ around tags. refl })
+  path_nests (suc levels) (Some position) =
+      then_lead (path_nests levels (node_at nodes position).parent) (record { leads = λ around tags. refl })
 
   article_nests : (position : ℕ) → Nest (article_parts logs nodes position)
   unfolding article_parts article_of
   article_nests position =
       let node = node_at nodes position in
       record {
-        leads = λ around tags. simp (joined, (badge_nests node.status).leads, (article_took_nests node.took).leads, (path_nests (max_path logs nodes) node.parent).leads, (in_tree_nests position PLACE_IN_TREE.now).leads, (output_nests logs position node).leads);
+        leads = λ around tags. simp (
+          joined,
+          (badge_nests node.status).leads,
+          (article_took_nests node.took).leads,
+          (path_nests (max_path logs nodes) node.parent).leads,
+          (in_tree_nests position PLACE_IN_TREE.now).leads,
+          (output_nests logs position node).leads,
+        );
       }
 
   -- ---- lists
@@ -114,16 +128,23 @@ module _ (logs : List Log) (nodes : List Node) where
 
   list_nests : (positions : List ℕ) → Nest (list_parts logs nodes positions)
   unfolding list_parts
-  list_nests positions = nest_if (nat_lt 1 (length positions)) (record { leads = λ around tags. simp (joined, (nest_each (article_row logs nodes) article_row_nests positions).leads) })
+  list_nests positions = nest_if (nat_lt 1 (length positions))
+      (record { leads = λ around tags. simp (joined, (nest_each (article_row logs nodes) article_row_nests positions).leads) })
 
-  more_nest : {list : Markup} (causes : Bool) → Leads [] (MarkupPart list ∷ []) (codes "ol" ∷ []) → (heading positions : List ℕ) → Nest (more_parts logs nodes list causes heading positions)
+  more_nest : {list : Markup} (causes : Bool) → Leads [] (MarkupPart list ∷ []) (codes "ol" ∷ []) → (heading positions : List ℕ)
+      → Nest (more_parts logs nodes list causes heading positions)
   unfolding more_parts
   more_nest {list} causes list_leads heading positions =
-      nest_if (nat_lt 0 (length positions)) (listed (flat_map (target_row logs nodes causes) (take max_rows positions)) (unlisted_parts (length positions)) (nest_each (target_row logs nodes causes) (target_row_nests causes) (take max_rows positions)) (unlisted_nests (length positions)))
+      nest_if (nat_lt 0 (length positions))
+      (listed (flat_map (target_row logs nodes causes) (take max_rows positions)) (unlisted_parts (length positions))
+      (nest_each (target_row logs nodes causes) (target_row_nests causes) (take max_rows positions)) (unlisted_nests (length positions)))
     where
-      listed : (rows unlisted : List Part) → Nest rows → Nest unlisted → Nest (MarkupPart markup.MoreDetails ∷ MarkupPart markup.Summary ∷ NumberPart (length positions) ∷ TextPart heading ∷ MarkupPart markup.EndSummary ∷ MarkupPart list
+      listed : (rows unlisted : List Part) → Nest rows → Nest unlisted
+          → Nest (MarkupPart markup.MoreDetails ∷ MarkupPart markup.Summary ∷ NumberPart (length positions) ∷ TextPart heading
+          ∷ MarkupPart markup.EndSummary ∷ MarkupPart list
           ∷ (rows ++ (MarkupPart markup.EndOrdered ∷ (unlisted ++ MarkupPart markup.EndDetails ∷ []))))
-      listed rows unlisted rows_nest unlisted_nest = record { leads = λ around tags. simp (joined, list_leads.leads, rows_nest.leads, unlisted_nest.leads) }
+      listed rows unlisted rows_nest unlisted_nest =
+          record { leads = λ around tags. simp (joined, list_leads.leads, rows_nest.leads, unlisted_nest.leads) }
 
   section_nests : (articles others dependents unclosed : List ℕ) → Nest (section_parts logs nodes articles others dependents unclosed)
   unfolding section_parts
@@ -142,4 +163,5 @@ module _ (logs : List Log) (nodes : List Node) where
   unfolding failed_parts
   failed_nests =
       nest_if (nat_lt 0 (length (root_failures nodes)))
-      (section_nests (take max_articles (root_failures nodes)) (drop max_articles (root_failures nodes)) (positions_where is_dependent_failure 0 nodes) (positions_where is_unclosed 0 nodes))
+      (section_nests (take max_articles (root_failures nodes)) (drop max_articles (root_failures nodes))
+      (positions_where is_dependent_failure 0 nodes) (positions_where is_unclosed 0 nodes))

@@ -58,25 +58,31 @@ module _ (nodes : List Node) where
   failure_cmp_total = then_total (on_total (λ (position : ℕ). (node_at nodes position).ended) end_cmp_total) nat_cmp_total
 
   failure_cmp_exact : CmpEqualImpliesEq (failure_cmp nodes)
-  failure_cmp_exact position other same = exact_unsigned position other (last_equal (end_cmp (node_at nodes position).ended (node_at nodes other).ended) (nat_cmp position other) same)
+  failure_cmp_exact position other same =
+      exact_unsigned position other (last_equal (end_cmp (node_at nodes position).ended (node_at nodes other).ended)
+      (nat_cmp position other) same)
 
-  pub are_sorted : (positions sorted : List ℕ) → IsPermutation positions sorted → IsSorted (failure_cmp nodes) sorted → sorted ≡ sort (failure_cmp nodes) positions
+  pub are_sorted : (positions sorted : List ℕ) → IsPermutation positions sorted → IsSorted (failure_cmp nodes) sorted
+      → sorted ≡ sort (failure_cmp nodes) positions
   are_sorted positions sorted moved up = sorted_same (failure_cmp nodes) failure_cmp_total failure_cmp_exact positions sorted moved up
 
   -- ---- what holds of all positions
 
-  insert-passes : (passes : ℕ → Bool) (position : ℕ) (positions : List ℕ) → passes position ≡ true → list_all passes positions ≡ true → list_all passes (insert_sorted (failure_cmp nodes) position positions) ≡ true
+  insert-passes : (passes : ℕ → Bool) (position : ℕ) (positions : List ℕ) → passes position ≡ true → list_all passes positions ≡ true
+      → list_all passes (insert_sorted (failure_cmp nodes) position positions) ≡ true
   insert-passes passes position [] here all = and_from (passes position) true here refl
   insert-passes passes position (other ∷ positions) here all =
       let parts = and_parts (passes other) (list_all passes positions) all in
       by (is_gt (failure_cmp nodes position other)) parts.0 (insert-passes passes position positions here parts.1)
     where
       by : (after : Bool) → passes other ≡ true → list_all passes (insert_sorted (failure_cmp nodes) position positions) ≡ true
-          → list_all passes (if after then other ∷ insert_sorted (failure_cmp nodes) position positions else position ∷ other ∷ positions) ≡ true
+          → list_all passes (if after then other ∷ insert_sorted (failure_cmp nodes) position positions
+          else position ∷ other ∷ positions) ≡ true
       by true first more = and_from (passes other) (list_all passes (insert_sorted (failure_cmp nodes) position positions)) first more
       by false first more = and_from (passes position) (list_all passes (other ∷ positions)) here all
 
-  pub sort-passes : (passes : ℕ → Bool) (positions : List ℕ) → list_all passes positions ≡ true → list_all passes (sort (failure_cmp nodes) positions) ≡ true
+  pub sort-passes : (passes : ℕ → Bool) (positions : List ℕ) → list_all passes positions ≡ true
+      → list_all passes (sort (failure_cmp nodes) positions) ≡ true
   sort-passes passes [] all = refl
   sort-passes passes (position ∷ positions) all =
       let parts = and_parts (passes position) (list_all passes positions) all in
@@ -87,12 +93,14 @@ module _ (nodes : List Node) where
 apart : (other position : ℕ) → other < position → nat_eq other position ≡ false
 apart other position less = grind (arith, nat_tests)
 
-positions_apart : (other position : ℕ) (nodes : List Node) → other < position → AllByRecursion (λ number. nat_eq other number ≡ false) (root_failures_from position nodes)
+positions_apart : (other position : ℕ) (nodes : List Node) → other < position
+    → AllByRecursion (λ number. nat_eq other number ≡ false) (root_failures_from position nodes)
 positions_apart other position [] less = tt
 positions_apart other position (node ∷ nodes) less = by (is_root_failure node) (positions_apart other (suc position) nodes (omega arith))
   where
     by : (first : Bool) → AllByRecursion (λ number. nat_eq other number ≡ false) (root_failures_from (suc position) nodes)
-        → AllByRecursion (λ number. nat_eq other number ≡ false) ((if first then position ∷ [] else []) ++ root_failures_from (suc position) nodes)
+        → AllByRecursion (λ number. nat_eq other number ≡ false)
+        ((if first then position ∷ [] else []) ++ root_failures_from (suc position) nodes)
     by true others = (apart other position less, others)
     by false others = others
 
@@ -101,15 +109,19 @@ unfolding IsDistinct
 positions_distinct position [] = tt
 positions_distinct position (node ∷ nodes) = by (is_root_failure node) (positions_distinct (suc position) nodes)
   where
-    by : (first : Bool) → IsDistinct nat_eq (root_failures_from (suc position) nodes) → IsDistinct nat_eq ((if first then position ∷ [] else []) ++ root_failures_from (suc position) nodes)
-    by true others = IsDistinct-cons nat_eq position (root_failures_from (suc position) nodes) (positions_apart position (suc position) nodes (omega arith)) others
+    by : (first : Bool) → IsDistinct nat_eq (root_failures_from (suc position) nodes)
+        → IsDistinct nat_eq ((if first then position ∷ [] else []) ++ root_failures_from (suc position) nodes)
+    by true others = IsDistinct-cons nat_eq position (root_failures_from (suc position) nodes)
+        (positions_apart position (suc position) nodes (omega arith)) others
     by false others = others
 
 roots_distinct : (nodes : List Node) → IsDistinct nat_eq (root_failures nodes)
 roots_distinct nodes =
-    IsDistinct-IsPermutation nat_eq nat_eq_equiv.symm (root_failures_from 0 nodes) (root_failures nodes) (sort-permutation (failure_cmp nodes) (root_failures_from 0 nodes)) (positions_distinct 0 nodes)
+    IsDistinct-IsPermutation nat_eq nat_eq_equiv.symm (root_failures_from 0 nodes) (root_failures nodes)
+    (sort-permutation (failure_cmp nodes) (root_failures_from 0 nodes)) (positions_distinct 0 nodes)
 
-take_apart : (other count : ℕ) (positions : List ℕ) → AllByRecursion (λ number. nat_eq other number ≡ false) positions → AllByRecursion (λ number. nat_eq other number ≡ false) (take count positions)
+take_apart : (other count : ℕ) (positions : List ℕ) → AllByRecursion (λ number. nat_eq other number ≡ false) positions
+    → AllByRecursion (λ number. nat_eq other number ≡ false) (take count positions)
 take_apart other zero positions all = tt
 take_apart other (suc count) [] all = tt
 take_apart other (suc count) (position ∷ positions) all = (all.0, take_apart other count positions all.1)
@@ -118,29 +130,37 @@ take_distinct : (count : ℕ) (positions : List ℕ) → IsDistinct nat_eq posit
 unfolding IsDistinct
 take_distinct zero positions distinct = tt
 take_distinct (suc count) [] distinct = tt
-take_distinct (suc count) (position ∷ positions) distinct = (take_apart position count positions distinct.0, take_distinct count positions distinct.1)
+take_distinct (suc count) (position ∷ positions) distinct =
+    (take_apart position count positions distinct.0, take_distinct count positions distinct.1)
 
 pub articles_distinct : (nodes : List Node) → IsDistinct nat_eq (articles nodes)
 articles_distinct nodes = take_distinct max_articles (root_failures nodes) (roots_distinct nodes)
 
 -- ---- which targets are listed
 
-pub all_listed : (position : ℕ) (nodes : List Node) → IsPermutation (positions_where has_failed position nodes) (root_failures_from position nodes ++ positions_where is_dependent_failure position nodes)
+pub all_listed : (position : ℕ) (nodes : List Node)
+    → IsPermutation (positions_where has_failed position nodes)
+    (root_failures_from position nodes ++ positions_where is_dependent_failure position nodes)
 all_listed position [] = IsPermutation-refl []
 all_listed position (node ∷ nodes) =
-    by (has_failed node) node.fails_below (positions_where has_failed (suc position) nodes) (root_failures_from (suc position) nodes) (positions_where is_dependent_failure (suc position) nodes) (all_listed (suc position) nodes)
+    by (has_failed node) node.fails_below (positions_where has_failed (suc position) nodes) (root_failures_from (suc position) nodes)
+    (positions_where is_dependent_failure (suc position) nodes) (all_listed (suc position) nodes)
   where
     by : (failed below : Bool) (all roots dependents : List ℕ) → IsPermutation all (roots ++ dependents)
-        → IsPermutation (if failed then position ∷ all else all) (((if failed && not below then position ∷ [] else []) ++ roots) ++ (if failed && below then position ∷ dependents else dependents))
+        → IsPermutation (if failed then position ∷ all else all)
+        (((if failed && not below then position ∷ [] else []) ++ roots) ++ (if failed && below then position ∷ dependents else dependents))
     by false below all roots dependents moved = moved
     by true false all roots dependents moved = IsPermutation-cons position all (roots ++ dependents) moved
     by true true all roots dependents moved =
-        IsPermutation-trans _ _ _ (IsPermutation-cons position all (roots ++ dependents) moved) (IsPermutation-sym _ _ (IsPermutation-middle roots position dependents))
+        IsPermutation-trans _ _ _ (IsPermutation-cons position all (roots ++ dependents) moved)
+        (IsPermutation-sym _ _ (IsPermutation-middle roots position dependents))
 
-pub are_listed : (nodes : List Node) → IsPermutation (positions_where has_failed 0 nodes) (root_failures nodes ++ positions_where is_dependent_failure 0 nodes)
+pub are_listed : (nodes : List Node)
+    → IsPermutation (positions_where has_failed 0 nodes) (root_failures nodes ++ positions_where is_dependent_failure 0 nodes)
 are_listed nodes =
     IsPermutation-trans _ _ _ (all_listed 0 nodes)
-    (IsPermutation-append_left (positions_where is_dependent_failure 0 nodes) (root_failures_from 0 nodes) (root_failures nodes) (sort-permutation (failure_cmp nodes) (root_failures_from 0 nodes)))
+    (IsPermutation-append_left (positions_where is_dependent_failure 0 nodes) (root_failures_from 0 nodes) (root_failures nodes)
+    (sort-permutation (failure_cmp nodes) (root_failures_from 0 nodes)))
 
 -- ---- in which order
 
@@ -152,11 +172,14 @@ lower position other not_after differ = by (nat_cmp position other) (ranks posit
     by Equal is up = absurd (eqb-false position other differ is)
     by Greater is up = absurd (cc)
 
-listed_before : (ended other_ended : Option ℕ) (position other : ℕ) → is_gt (ordering_then (end_cmp ended other_ended) (nat_cmp position other)) ≡ false → nat_eq position other ≡ false
+listed_before : (ended other_ended : Option ℕ) (position other : ℕ)
+    → is_gt (ordering_then (end_cmp ended other_ended) (nat_cmp position other)) ≡ false → nat_eq position other ≡ false
     → EndsBefore ended other_ended ⊎ ((ended ≡ other_ended) × (position < other))
-listed_before (Some ended) (Some other_ended) position other not_after differ = by (nat_cmp ended other_ended) (ranks ended other_ended) not_after
+listed_before (Some ended) (Some other_ended) position other not_after differ =
+    by (nat_cmp ended other_ended) (ranks ended other_ended) not_after
   where
-    by : (o : Ordering) → MatchOrdering o (ended < other_ended) (ended ≡ other_ended) (other_ended < ended) → is_gt (ordering_then o (nat_cmp position other)) ≡ false
+    by : (o : Ordering) → MatchOrdering o (ended < other_ended) (ended ≡ other_ended) (other_ended < ended)
+        → is_gt (ordering_then o (nat_cmp position other)) ≡ false
         → (ended < other_ended) ⊎ ((Some ended ≡ Some other_ended) × (position < other))
     by Less is up = inl is
     by Equal is up = inr (ap Some is, lower position other up differ)
@@ -166,15 +189,23 @@ listed_before None (Some other_ended) position other not_after differ = absurd (
 listed_before None None position other not_after differ = inr (refl, lower position other not_after differ)
 
 module _ (nodes : List Node) where
-  all_before : (position : ℕ) (positions : List ℕ) → AllByRecursion (λ other. is_gt (failure_cmp nodes position other) ≡ false) positions → AllByRecursion (λ other. nat_eq position other ≡ false) positions
+  all_before : (position : ℕ) (positions : List ℕ) → AllByRecursion (λ other. is_gt (failure_cmp nodes position other) ≡ false) positions
+      → AllByRecursion (λ other. nat_eq position other ≡ false) positions
       → AllByRecursion (IsListedBefore nodes position) positions
   all_before position [] up differ = tt
-  all_before position (other ∷ positions) up differ = (listed_before (node_at nodes position).ended (node_at nodes other).ended position other up.0 differ.0, all_before position positions up.1 differ.1)
+  all_before position (other ∷ positions) up differ = (
+    listed_before (node_at nodes position).ended (node_at nodes other).ended position other up.0 differ.0,
+    all_before position positions up.1 differ.1,
+  )
 
   rising : (positions : List ℕ) → IsRising (failure_cmp nodes) positions → IsDistinct nat_eq positions → AreInOrderOfEnd nodes positions
   rising [] up distinct = tt
-  rising (position ∷ positions) up distinct =
-      (all_before position positions up.0 (IsDistinct-head nat_eq position positions distinct), rising positions up.1 (IsDistinct-tail nat_eq position positions distinct))
+  rising (position ∷ positions) up distinct = (
+    all_before position positions up.0 (IsDistinct-head nat_eq position positions distinct),
+    rising positions up.1
+        (IsDistinct-tail nat_eq position positions distinct),
+  )
 
   pub are_in_order : AreInOrderOfEnd nodes (root_failures nodes)
-  are_in_order = rising (root_failures nodes) (sort-rising (failure_cmp nodes) (failure_cmp_total nodes) (root_failures_from 0 nodes)) (roots_distinct nodes)
+  are_in_order = rising (root_failures nodes) (sort-rising (failure_cmp nodes) (failure_cmp_total nodes) (root_failures_from 0 nodes))
+      (roots_distinct nodes)

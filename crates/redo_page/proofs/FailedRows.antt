@@ -42,7 +42,17 @@ logs =
 
 -- What is known of log `number`. It is in the log at `parent`.
 abbrev node : ℕ → Option ℕ → Option ℤ → ℕ → ℕ → Bool → Node
-node number parent status lines below fails = record no_node { number = number; parent = parent; status = status; lines = lines; bytes = lines; below = below; children = below; fails_below = fails }
+node number parent status lines below fails =
+    record no_node {
+      number = number;
+      parent = parent;
+      status = status;
+      lines = lines;
+      bytes = lines;
+      below = below;
+      children = below;
+      fails_below = fails;
+    }
 
 abbrev b : Node
 b = node 1 (Some 0) (Some (pos 1)) 2 0 false
@@ -143,7 +153,8 @@ cs count = replicate count c
 
 eleven_failures :
     bytes_eq (marks (failed_parts logs (cs 11)))
-    (codes "<ol class=\"list\">" ++ (outputs (range_with_len 0 10) ++ (articles (range_with_len 0 10) ++ codes "<details class=\"more\"><ol class=\"list\" start=\"11\">")))
+    (codes "<ol class=\"list\">" ++ (outputs (range_with_len 0 10)
+    ++ (articles (range_with_len 0 10) ++ codes "<details class=\"more\"><ol class=\"list\" start=\"11\">")))
     ≡ true
 unfolding failed_parts section_parts list_parts more_parts article_row target_row row_parts unlisted_parts article_parts article_of path_parts output_parts nothing_parts in_tree_parts cause_of_node cause_parts number_text digits
 eleven_failures = refl
@@ -225,7 +236,8 @@ no_dependents = refl
 unclosed_are : positions_where is_unclosed 0 nodes ≡ 2 ∷ []
 unclosed_are = refl
 
-failures_are : (failures : Failures) → failures.roots.items ≡ 1 ∷ [] → failures.dependents.items ≡ 0 ∷ [] → failures.unclosed.items ≡ 2 ∷ [] → AreFailures nodes failures
+failures_are : (failures : Failures) → failures.roots.items ≡ 1 ∷ [] → failures.dependents.items ≡ 0 ∷ [] → failures.unclosed.items ≡ 2 ∷ []
+    → AreFailures nodes failures
 failures_are failures roots dependents unclosed = record { roots = roots; dependents = dependents; unclosed = unclosed }
 
 -- A requested target, and one with others below it, are not at the end of a path.
@@ -279,14 +291,16 @@ no_failure_below_it = refl
 took_are :
     (article_took None ≡ [])
     × (article_took (Some 1234)
-    ≡ NumberPart 1 ∷ TextPart (codes ".") ∷ NumberPart 2 ∷ NumberPart 3 ∷ TextPart (codes " s") ∷ TextPart (32 ∷ 0xC2 ∷ 0xB7 ∷ 32 ∷ []) ∷ [])
+    ≡ NumberPart 1 ∷ TextPart (codes ".") ∷ NumberPart 2 ∷ NumberPart 3 ∷ TextPart (codes " s")
+    ∷ TextPart (32 ∷ 0xC2 ∷ 0xB7 ∷ 32 ∷ []) ∷ [])
 unfolding duration_words
 took_are = (refl, refl)
 
 -- It precedes the path.
 article_begins :
     bytes_eq (html (take 22 (article_parts logs (node 0 None None 0 2 true ∷ record b { took = Some 61000 } ∷ []) 1)))
-    (codes "<article id=\"f1\"><h3><bdi>b</bdi> <strong class=\"x\">exit 1</strong></h3><p class=\"meta\">1 min 01 s " ++ 0xC2 ∷ 0xB7 ∷ codes " <bdi>all</bdi>")
+    (codes "<article id=\"f1\"><h3><bdi>b</bdi> <strong class=\"x\">exit 1</strong></h3><p class=\"meta\">1 min 01 s " ++ 0xC2 ∷ 0xB7
+    ∷ codes " <bdi>all</bdi>")
     ≡ true
 unfolding article_parts article_of path_parts output_parts whole_parts in_tree_parts duration_words symbols_after first_symbol symbol_len is_sequence sequence_len sequence_numbers first_code_point code_point_len is_unprintable notation unprintable_text number_text encode_utf8 digits html_from
 article_begins = refl
@@ -296,7 +310,8 @@ article_begins = refl
 -- Each log is in the one before it.
 abbrev chain : List Node
 chain =
-    node 0 None None 0 5 false ∷ node 1 (Some 0) None 0 4 false ∷ node 2 (Some 1) None 0 3 false ∷ node 3 (Some 2) None 0 2 false ∷ node 0 (Some 3) None 0 1 false
+    node 0 None None 0 5 false ∷ node 1 (Some 0) None 0 4 false ∷ node 2 (Some 1) None 0 3 false ∷ node 3 (Some 2) None 0 2 false
+    ∷ node 0 (Some 3) None 0 1 false
     ∷ node 1 (Some 4) None 0 0 false ∷ []
 
 short_path :

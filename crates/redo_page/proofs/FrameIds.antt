@@ -57,13 +57,50 @@ timeline_nav_same false = refl
 abbrev pub links : Verdict → Bool → List Part
 links verdict timed = failed_link verdict ++ (MarkupPart SummaryLink ∷ (timeline_link timed ++ MarkupPart TreeLink ∷ []))
 
-links_refer : {count : ℕ} {articles : List ℕ} (verdict : Verdict) (timed : Bool) → Refers count articles (links verdict timed) [] [] (links verdict timed)
-links_refer Failed true = record { target_ids_are = refl; article_ids_are = refl; target_links_lead = refl; article_links_lead = refl; sections_are = refl }
-links_refer Failed false = record { target_ids_are = refl; article_ids_are = refl; target_links_lead = refl; article_links_lead = refl; sections_are = refl }
-links_refer Unfinished true = record { target_ids_are = refl; article_ids_are = refl; target_links_lead = refl; article_links_lead = refl; sections_are = refl }
-links_refer Unfinished false = record { target_ids_are = refl; article_ids_are = refl; target_links_lead = refl; article_links_lead = refl; sections_are = refl }
-links_refer Made true = record { target_ids_are = refl; article_ids_are = refl; target_links_lead = refl; article_links_lead = refl; sections_are = refl }
-links_refer Made false = record { target_ids_are = refl; article_ids_are = refl; target_links_lead = refl; article_links_lead = refl; sections_are = refl }
+links_refer : {count : ℕ} {articles : List ℕ} (verdict : Verdict) (timed : Bool)
+    → Refers count articles (links verdict timed) [] [] (links verdict timed)
+links_refer Failed true = record {
+  target_ids_are = refl;
+  article_ids_are = refl;
+  target_links_lead = refl;
+  article_links_lead = refl;
+  sections_are = refl;
+}
+links_refer Failed false = record {
+  target_ids_are = refl;
+  article_ids_are = refl;
+  target_links_lead = refl;
+  article_links_lead = refl;
+  sections_are = refl;
+}
+links_refer Unfinished true = record {
+  target_ids_are = refl;
+  article_ids_are = refl;
+  target_links_lead = refl;
+  article_links_lead = refl;
+  sections_are = refl;
+}
+links_refer Unfinished false = record {
+  target_ids_are = refl;
+  article_ids_are = refl;
+  target_links_lead = refl;
+  article_links_lead = refl;
+  sections_are = refl;
+}
+links_refer Made true = record {
+  target_ids_are = refl;
+  article_ids_are = refl;
+  target_links_lead = refl;
+  article_links_lead = refl;
+  sections_are = refl;
+}
+links_refer Made false = record {
+  target_ids_are = refl;
+  article_ids_are = refl;
+  target_links_lead = refl;
+  article_links_lead = refl;
+  sections_are = refl;
+}
 
 links_same : (verdict : Verdict) (timed : Bool) → references (links verdict timed) ≡ links verdict timed
 links_same Failed true = refl
@@ -80,16 +117,29 @@ date_bare (Some date) = refl
 began_bare : (window : Option Window) (took : ℕ) → Bare (began_parts window took)
 began_bare None took = refl
 began_bare (Some window) took =
-    bare_then (MarkupPart MetaParagraph ∷ date_parts (date_text_of (window.began / 1000))) (TextPart BUILD_TOOK.now ∷ (words_parts (duration_words took) ++ MarkupPart EndParagraph ∷ [])) (date_bare (date_text_of (window.began / 1000)))
+    bare_then (MarkupPart MetaParagraph ∷ date_parts (date_text_of (window.began / 1000)))
+    (TextPart BUILD_TOOK.now ∷ (words_parts (duration_words took) ++ MarkupPart EndParagraph ∷ []))
+    (date_bare (date_text_of (window.began / 1000)))
     (words_bare (TextPart BUILD_TOOK.now ∷ []) (MarkupPart EndParagraph ∷ []) (duration_words took) refl refl)
 
-header_same : (title : List ℕ) (logs : List Log) (verdict : Verdict) (heading : List ℕ) (nodes : List Node) (facts : Facts) → references (header_parts title logs verdict heading nodes facts) ≡ links verdict (has_timeline facts)
+header_same : (title : List ℕ) (logs : List Log) (verdict : Verdict) (heading : List ℕ) (nodes : List Node) (facts : Facts)
+    → references (header_parts title logs verdict heading nodes facts) ≡ links verdict (has_timeline facts)
 header_same title logs verdict heading nodes facts =
-    simp (flat_map-append, title_bare title, bare_each (root_parts logs) (root_bare logs) nodes, began_bare facts.window facts.took, failed_nav_same verdict, timeline_nav_same (has_timeline facts))
+    simp (
+      flat_map-append,
+      title_bare title,
+      bare_each (root_parts logs) (root_bare logs) nodes,
+      began_bare facts.window facts.took,
+      failed_nav_same verdict,
+      timeline_nav_same (has_timeline facts),
+    )
 
-pub header_refers : {count : ℕ} {articles : List ℕ} (title : List ℕ) (logs : List Log) (verdict : Verdict) (heading : List ℕ) (nodes : List Node) (facts : Facts)
+pub header_refers : {count : ℕ} {articles : List ℕ} (title : List ℕ) (logs : List Log) (verdict : Verdict) (heading : List ℕ)
+    (nodes : List Node) (facts : Facts)
     → Refers count articles (header_parts title logs verdict heading nodes facts) [] [] (links verdict (has_timeline facts))
-header_refers title logs verdict heading nodes facts = same_refer (header_same title logs verdict heading nodes facts ∙ sym (links_same verdict (has_timeline facts))) (links_refer verdict (has_timeline facts))
+header_refers title logs verdict heading nodes facts =
+    same_refer (header_same title logs verdict heading nodes facts ∙ sym (links_same verdict (has_timeline facts)))
+    (links_refer verdict (has_timeline facts))
 
 pub footer_bare : (dir command : List ℕ) (logs : ℕ) → Bare (footer_parts dir command logs)
 unfolding footer_parts

@@ -46,17 +46,27 @@ began_nests None took = record { leads = λ around tags. refl }
 began_nests (Some window) took =
     then_lead {middle = codes "p" ∷ []} {parts = MarkupPart markup.MetaParagraph ∷ []} (record { leads = λ around tags. refl })
     (then_lead (lead_in (codes "p" ∷ []) (date_nests (date_text_of (window.began / 1000))))
-    (lead_through (codes "p" ∷ []) (TextPart BUILD_TOOK.now ∷ []) (MarkupPart markup.EndParagraph ∷ []) (duration_words took) (record { leads = λ around tags. refl }) (record { leads = λ around tags. refl })))
+    (lead_through (codes "p" ∷ []) (TextPart BUILD_TOOK.now ∷ []) (MarkupPart markup.EndParagraph ∷ []) (duration_words took)
+    (record { leads = λ around tags. refl }) (record { leads = λ around tags. refl })))
 
 timeline_nav_nests : (timed : Bool) → Nest (timeline_nav timed)
 timeline_nav_nests timed = nest_if timed (record { leads = λ around tags. refl })
 
-pub header_leads : (title : List ℕ) (logs : List Log) (verdict : Verdict) (heading : List ℕ) (nodes : List Node) (facts : Facts) → Leads [] (header_parts title logs verdict heading nodes facts) (codes "main" ∷ [])
+pub header_leads : (title : List ℕ) (logs : List Log) (verdict : Verdict) (heading : List ℕ) (nodes : List Node) (facts : Facts)
+    → Leads [] (header_parts title logs verdict heading nodes facts) (codes "main" ∷ [])
 header_leads title logs verdict heading nodes facts = record {
   leads = λ around tags.
-      simp (joined, (title_nests title).leads, (nest_each (root_parts logs) (root_nests logs) nodes).leads, (began_nests facts.window facts.took).leads, (failed_nav_nests verdict).leads, (timeline_nav_nests (has_timeline facts)).leads);
+      simp (
+        joined,
+        (title_nests title).leads,
+        (nest_each (root_parts logs) (root_nests logs) nodes).leads,
+        (began_nests facts.window facts.took).leads,
+        (failed_nav_nests verdict).leads,
+        (timeline_nav_nests (has_timeline facts)).leads,
+      );
 }
 
-pub footer_leads : (dir command : List ℕ) (logs : ℕ) → Leads (codes "main" ∷ codes "body" ∷ codes "html" ∷ []) (footer_parts dir command logs) []
+pub footer_leads : (dir command : List ℕ) (logs : ℕ)
+    → Leads (codes "main" ∷ codes "body" ∷ codes "html" ∷ []) (footer_parts dir command logs) []
 unfolding footer_parts
 footer_leads dir command logs = record { leads = λ around tags. refl }

@@ -60,7 +60,8 @@ unfolding number_text digits
 failed_texts_are = (refl, refl, refl)
 
 unfinished_texts_are :
-    (verdict_text Unfinished (begun ∷ []) ≡ codes "1 target begun, not ended") × (verdict_text Unfinished (begun ∷ made ∷ []) ≡ codes "2 targets begun, not ended")
+    (verdict_text Unfinished (begun ∷ []) ≡ codes "1 target begun, not ended")
+    × (verdict_text Unfinished (begun ∷ made ∷ []) ≡ codes "2 targets begun, not ended")
 unfolding number_text digits
 unfinished_texts_are = (refl, refl)
 
@@ -87,7 +88,8 @@ titles_are = (refl, refl, refl, refl)
 
 head_is :
     head_parts (codes "t") Unfinished
-    ≡ tag markup.Doctype ∷ tag markup.Html ∷ tag markup.Head ∷ tag markup.Charset ∷ tag markup.Viewport ∷ tag markup.ColorScheme ∷ tag markup.Referrer ∷ tag markup.Policy
+    ≡ tag markup.Doctype ∷ tag markup.Html ∷ tag markup.Head ∷ tag markup.Charset ∷ tag markup.Viewport ∷ tag markup.ColorScheme
+    ∷ tag markup.Referrer ∷ tag markup.Policy
     ∷ TitlePart (codes "t") ∷ StylePart ∷ tag markup.EndHead ∷ tag markup.BodyOpen ∷ []
 head_is = refl
 
@@ -98,7 +100,8 @@ title_is = (refl, refl)
 
 heading_is :
     top_heading_parts Made (codes "h")
-    ≡ tag markup.Header ∷ tag markup.Title1 ∷ tag markup.Sign ∷ words (0xE2 ∷ 0x9C ∷ 0x93 ∷ []) ∷ tag markup.EndSign ∷ words (codes " ") ∷ words (codes "h") ∷ tag markup.EndTitle1 ∷ []
+    ≡ tag markup.Header ∷ tag markup.Title1 ∷ tag markup.Sign ∷ words (0xE2 ∷ 0x9C ∷ 0x93 ∷ []) ∷ tag markup.EndSign ∷ words (codes " ")
+    ∷ words (codes "h") ∷ tag markup.EndTitle1 ∷ []
 heading_is = refl
 
 abbrev logs : List Log
@@ -112,24 +115,39 @@ roots_are :
 roots_are = (refl, refl, refl)
 
 navs_are :
-    (failed_nav Failed ≡ tag markup.Item ∷ tag markup.FailedLink ∷ words (codes "What failed") ∷ tag markup.EndLink ∷ tag markup.EndItem ∷ [])
+    (failed_nav Failed ≡ tag markup.Item ∷ tag markup.FailedLink ∷ words (codes "What failed") ∷ tag markup.EndLink
+    ∷ tag markup.EndItem ∷ [])
     × (failed_nav Unfinished ≡ []) × (failed_nav Made ≡ [])
 navs_are = (refl, refl, refl)
 
 -- What is known of times: a window, and how long it took.
 abbrev facts : Option Window → ℕ → Facts
-facts window took = record { window = window; took = took; callers = []; recipes = []; marks = []; sum = 0; most = 0; warnings = 0; bytes = 0; longest = []; warned = [] }
+facts window took = record {
+  window = window;
+  took = took;
+  callers = [];
+  recipes = [];
+  marks = [];
+  sum = 0;
+  most = 0;
+  warnings = 0;
+  bytes = 0;
+  longest = [];
+  warned = [];
+}
 
 -- A number of seconds from the year 10000 on has no date.
 began_are :
     (began_parts None 5 ≡ [])
     × (began_parts (Some (record { began = 253402300800000; width = 1 })) 0
-    ≡ tag markup.MetaParagraph ∷ words (codes "took ") ∷ number 0 ∷ words (codes ".") ∷ number 0 ∷ number 0 ∷ words (codes " s") ∷ tag markup.EndParagraph ∷ [])
+    ≡ tag markup.MetaParagraph ∷ words (codes "took ") ∷ number 0 ∷ words (codes ".") ∷ number 0 ∷ number 0 ∷ words (codes " s")
+    ∷ tag markup.EndParagraph ∷ [])
 unfolding duration_words dates.date_text_of dates.date_parts dates.period_of
 began_are = (refl, refl)
 
 timeline_navs_are :
-    (timeline_nav true ≡ tag markup.Item ∷ tag markup.TimelineLink ∷ words (codes "Timeline") ∷ tag markup.EndLink ∷ tag markup.EndItem ∷ [])
+    (timeline_nav true ≡ tag markup.Item ∷ tag markup.TimelineLink ∷ words (codes "Timeline") ∷ tag markup.EndLink
+    ∷ tag markup.EndItem ∷ [])
     × (timeline_nav false ≡ [])
 timeline_navs_are = (refl, refl)
 
@@ -146,7 +164,8 @@ nav_is = refl
 
 header_is :
     header_parts (codes "t") logs Failed (codes "h") (made ∷ []) (facts (Some (record { began = 1795829211999; width = 1 })) 61000)
-    ≡ tag markup.Header ∷ tag markup.Title1 ∷ tag markup.Sign ∷ words (0xE2 ∷ 0x9C ∷ 0x97 ∷ []) ∷ tag markup.EndSign ∷ words (codes " ") ∷ words (codes "h") ∷ tag markup.EndTitle1
+    ≡ tag markup.Header ∷ tag markup.Title1 ∷ tag markup.Sign ∷ words (0xE2 ∷ 0x9C ∷ 0x97 ∷ []) ∷ tag markup.EndSign ∷ words (codes " ")
+    ∷ words (codes "h") ∷ tag markup.EndTitle1
     ∷ tag markup.Paragraph ∷ words (codes "t") ∷ tag markup.EndParagraph
     ∷ tag markup.Paragraph ∷ tag markup.Bdi ∷ words (codes "a") ∷ tag markup.EndBdi ∷ tag markup.EndParagraph
     ∷ tag markup.MetaParagraph ∷ words (codes "Sat, 28 Nov 2026 01:26:51 GMT") ∷ words (32 ∷ 0xC2 ∷ 0xB7 ∷ 32 ∷ []) ∷ words (codes "took ")
@@ -165,7 +184,8 @@ two_logs = record { target = codes "a"; entries = []; state = Ended } ∷ record
 -- Two requested targets, with the name and the status of each. The one that is shown first has the second log, and another target is below it.
 requested_are :
     header_parts [] two_logs Made (codes "h") (record made { number = 1 } ∷ node (Some 0) (Some (pos 0)) false ∷ begun ∷ []) (facts None 0)
-    ≡ tag markup.Header ∷ tag markup.Title1 ∷ tag markup.Sign ∷ words (0xE2 ∷ 0x9C ∷ 0x93 ∷ []) ∷ tag markup.EndSign ∷ words (codes " ") ∷ words (codes "h") ∷ tag markup.EndTitle1
+    ≡ tag markup.Header ∷ tag markup.Title1 ∷ tag markup.Sign ∷ words (0xE2 ∷ 0x9C ∷ 0x93 ∷ []) ∷ tag markup.EndSign ∷ words (codes " ")
+    ∷ words (codes "h") ∷ tag markup.EndTitle1
     ∷ tag markup.Paragraph ∷ tag markup.Bdi ∷ words (codes "b") ∷ tag markup.EndBdi ∷ tag markup.EndParagraph
     ∷ tag markup.Paragraph ∷ tag markup.Bdi ∷ words (codes "a") ∷ tag markup.EndBdi
     ∷ words (codes " ") ∷ tag markup.OpenBadge ∷ words (codes "not closed") ∷ tag markup.EndBadge ∷ tag markup.EndParagraph
@@ -178,7 +198,9 @@ requested_are = refl
 -- Only if most times are known, there is a link to the timeline.
 header_links_are :
     (section_links (header_parts [] logs Made [] [] (facts None 0)) ≡ codes "summary" ∷ codes "tree" ∷ [])
-    × (section_links (header_parts [] logs Failed [] [] (record (facts (Some (record { began = 7; width = 1 })) 1) { recipes = record { began = 7; position = 0; ended = 8; failed = false } ∷ [] }))
+    × (section_links (header_parts [] logs Failed [] []
+    (record (facts (Some (record { began = 7; width = 1 })) 1)
+    { recipes = record { began = 7; position = 0; ended = 8; failed = false } ∷ [] }))
     ≡ codes "failed" ∷ codes "summary" ∷ codes "timeline" ∷ codes "tree" ∷ [])
 unfolding duration_words dates.date_text_of dates.date_parts dates.period_of
 header_links_are = (refl, refl)
@@ -199,13 +221,15 @@ abbrev word : List ℕ → List ℕ → Word
 word text result = record { word = text; quoted = result }
 
 abbrev quotes : List Word
-quotes = word (codes "out/a-1.o") (codes "out/a-1.o") ∷ word [] (codes "''") ∷ word (codes "a b") (codes "'a b'") ∷ word (codes "a'b") (codes "'a'\\''b'") ∷ word (codes "$a") (codes "'$a'") ∷ []
+quotes = word (codes "out/a-1.o") (codes "out/a-1.o") ∷ word [] (codes "''") ∷ word (codes "a b") (codes "'a b'")
+    ∷ word (codes "a'b") (codes "'a'\\''b'") ∷ word (codes "$a") (codes "'$a'") ∷ []
 
 words_are : AllByRecursion (λ row. quoted row.word ≡ row.quoted) quotes
 unfolding is_safe
 words_are = (refl, (refl, (refl, (refl, (refl, tt)))))
 
-arguments_are : (argument (codes "a") ≡ codes " a") × (argument (codes "-r") ≡ codes " ./-r") × (argument (codes "- ") ≡ codes " ./'- '") × (argument (codes "a-") ≡ codes " a-")
+arguments_are : (argument (codes "a") ≡ codes " a") × (argument (codes "-r") ≡ codes " ./-r") × (argument (codes "- ") ≡ codes " ./'- '")
+    × (argument (codes "a-") ≡ codes " a-")
 unfolding is_safe
 arguments_are = (refl, refl, refl, refl)
 
@@ -220,13 +244,16 @@ commands_are :
 unfolding is_safe
 commands_are = (refl, refl, refl, refl)
 
-counts_are : (log_count_parts 1 ≡ number 1 ∷ words (codes " log in ") ∷ []) × (log_count_parts 2 ≡ number 2 ∷ words (codes " logs in ") ∷ [])
+counts_are : (log_count_parts 1 ≡ number 1 ∷ words (codes " log in ") ∷ [])
+    × (log_count_parts 2 ≡ number 2 ∷ words (codes " logs in ") ∷ [])
 counts_are = (refl, refl)
 
 footer_is :
     footer_parts (codes "d") (codes "c") 3
-    ≡ tag markup.EndMain ∷ tag markup.Footer ∷ tag markup.Paragraph ∷ words (codes "Made by ") ∷ tag markup.Code ∷ words (codes "redo-log-html") ∷ tag markup.EndCode ∷ words (codes " of ")
-    ∷ number 3 ∷ words (codes " logs in ") ∷ tag markup.Code ∷ words (codes "d") ∷ tag markup.EndCode ∷ words (codes ". As one text: ") ∷ tag markup.Code ∷ words (codes "c") ∷ tag markup.EndCode
+    ≡ tag markup.EndMain ∷ tag markup.Footer ∷ tag markup.Paragraph ∷ words (codes "Made by ") ∷ tag markup.Code
+    ∷ words (codes "redo-log-html") ∷ tag markup.EndCode ∷ words (codes " of ")
+    ∷ number 3 ∷ words (codes " logs in ") ∷ tag markup.Code ∷ words (codes "d") ∷ tag markup.EndCode ∷ words (codes ". As one text: ")
+    ∷ tag markup.Code ∷ words (codes "c") ∷ tag markup.EndCode
     ∷ tag markup.EndParagraph ∷ tag markup.EndFooter ∷ tag markup.EndBody ∷ tag markup.EndHtml ∷ words (codes "\n") ∷ []
 unfolding footer_parts
 footer_is = refl

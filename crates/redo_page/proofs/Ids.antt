@@ -64,10 +64,12 @@ abbrev pub references : List Part → List Part
 references parts = flat_map reference parts
 
 -- What is found in references is found in all parts.
-pub in_references : {X : Type 0} (f : Part → List X) → ((part : Part) → flat_map f (reference part) ≡ f part) → (parts : List Part) → flat_map f parts ≡ flat_map f (references parts)
+pub in_references : {X : Type 0} (f : Part → List X) → ((part : Part) → flat_map f (reference part) ≡ f part) → (parts : List Part)
+    → flat_map f parts ≡ flat_map f (references parts)
 in_references f each [] = refl
 in_references f each (part ∷ parts) =
-    ap (λ t. t ++ flat_map f parts) (sym (each part)) ∙ ap (λ t. flat_map f (reference part) ++ t) (in_references f each parts) ∙ sym (flat_map-append f (reference part) (references parts))
+    ap (λ t. t ++ flat_map f parts) (sym (each part)) ∙ ap (λ t. flat_map f (reference part) ++ t) (in_references f each parts)
+    ∙ sym (flat_map-append f (reference part) (references parts))
 
 target_id_part : (part : Part) → flat_map target_id (reference part) ≡ target_id part
 target_id_part (MarkupPart markup) = by markup
@@ -98,18 +100,27 @@ pub record Refers (count : ℕ) (articles : List ℕ) (parts : List Part) (targe
 abbrev pub Refer : ℕ → List ℕ → List Part → List ℕ → List ℕ → Type 0
 Refer count articles parts targets ids = Refers count articles parts targets ids []
 
-pub then_refer : {count : ℕ} {articles : List ℕ} {parts others : List Part} {targets ids more_targets more_ids : List ℕ} {sections more_sections : List Part}
-    → Refers count articles parts targets ids sections → Refers count articles others more_targets more_ids more_sections → Refers count articles (parts ++ others) (targets ++ more_targets) (ids ++ more_ids) (sections ++ more_sections)
+pub then_refer : {count : ℕ} {articles : List ℕ} {parts others : List Part} {targets ids more_targets more_ids : List ℕ}
+    {sections more_sections : List Part}
+    → Refers count articles parts targets ids sections → Refers count articles others more_targets more_ids more_sections
+    → Refers count articles (parts ++ others) (targets ++ more_targets) (ids ++ more_ids) (sections ++ more_sections)
 then_refer {count} {articles} {parts} {others} {targets} {ids} {more_targets} {more_ids} {sections} {more_sections} first last = record {
-  sections_are = flat_map-append section parts others ∙ ap (λ t. t ++ flat_map section others) first.sections_are ∙ ap (λ t. sections ++ t) last.sections_are;
-  target_ids_are = flat_map-append target_id parts others ∙ ap (λ t. t ++ target_ids others) first.target_ids_are ∙ ap (λ t. targets ++ t) last.target_ids_are;
-  article_ids_are = flat_map-append article_id parts others ∙ ap (λ t. t ++ article_ids others) first.article_ids_are ∙ ap (λ t. ids ++ t) last.article_ids_are;
+  sections_are = flat_map-append section parts others ∙ ap (λ t. t ++ flat_map section others) first.sections_are
+      ∙ ap (λ t. sections ++ t) last.sections_are;
+  target_ids_are = flat_map-append target_id parts others ∙ ap (λ t. t ++ target_ids others) first.target_ids_are
+      ∙ ap (λ t. targets ++ t) last.target_ids_are;
+  article_ids_are = flat_map-append article_id parts others ∙ ap (λ t. t ++ article_ids others) first.article_ids_are
+      ∙ ap (λ t. ids ++ t) last.article_ids_are;
   target_links_lead =
-      ap (list_all (λ number. nat_lt number count)) (flat_map-append target_link parts others) ∙ list_all-append (λ number. nat_lt number count) (target_links parts) (target_links others)
-      ∙ and_from (list_all (λ number. nat_lt number count) (target_links parts)) (list_all (λ number. nat_lt number count) (target_links others)) first.target_links_lead last.target_links_lead;
+      ap (list_all (λ number. nat_lt number count)) (flat_map-append target_link parts others)
+      ∙ list_all-append (λ number. nat_lt number count) (target_links parts) (target_links others)
+      ∙ and_from (list_all (λ number. nat_lt number count) (target_links parts))
+      (list_all (λ number. nat_lt number count) (target_links others)) first.target_links_lead last.target_links_lead;
   article_links_lead =
-      ap (list_all (is_among articles)) (flat_map-append article_link parts others) ∙ list_all-append (is_among articles) (article_links parts) (article_links others)
-      ∙ and_from (list_all (is_among articles) (article_links parts)) (list_all (is_among articles) (article_links others)) first.article_links_lead last.article_links_lead;
+      ap (list_all (is_among articles)) (flat_map-append article_link parts others)
+      ∙ list_all-append (is_among articles) (article_links parts) (article_links others)
+      ∙ and_from (list_all (is_among articles) (article_links parts))
+      (list_all (is_among articles) (article_links others)) first.article_links_lead last.article_links_lead;
 }
 
 target_link_part : (part : Part) → flat_map target_link (reference part) ≡ target_link part
@@ -138,16 +149,21 @@ article_link_part (MarkupPart markup) = by markup
 article_link_part part = refl
 
 -- Parts with the same references.
-pub same_found : {X : Type 0} (f : Part → List X) → ((part : Part) → flat_map f (reference part) ≡ f part) → (parts others : List Part) → references parts ≡ references others → flat_map f parts ≡ flat_map f others
+pub same_found : {X : Type 0} (f : Part → List X) → ((part : Part) → flat_map f (reference part) ≡ f part) → (parts others : List Part)
+    → references parts ≡ references others → flat_map f parts ≡ flat_map f others
 same_found f each parts others same = in_references f each parts ∙ ap (flat_map f) same ∙ sym (in_references f each others)
 
-pub same_refer : {count : ℕ} {articles : List ℕ} {parts others : List Part} {targets ids : List ℕ} {sections : List Part} → references parts ≡ references others → Refers count articles others targets ids sections → Refers count articles parts targets ids sections
+pub same_refer : {count : ℕ} {articles : List ℕ} {parts others : List Part} {targets ids : List ℕ} {sections : List Part}
+    → references parts ≡ references others → Refers count articles others targets ids sections
+    → Refers count articles parts targets ids sections
 same_refer {count} {articles} {parts} {others} {targets} {ids} {sections} same refer = record {
   sections_are = same_found section section_part parts others same ∙ refer.sections_are;
   target_ids_are = same_found target_id target_id_part parts others same ∙ refer.target_ids_are;
   article_ids_are = same_found article_id article_id_part parts others same ∙ refer.article_ids_are;
-  target_links_lead = ap (list_all (λ number. nat_lt number count)) (same_found target_link target_link_part parts others same) ∙ refer.target_links_lead;
-  article_links_lead = ap (list_all (is_among articles)) (same_found article_link article_link_part parts others same) ∙ refer.article_links_lead;
+  target_links_lead = ap (list_all (λ number. nat_lt number count)) (same_found target_link target_link_part parts others same)
+      ∙ refer.target_links_lead;
+  article_links_lead = ap (list_all (is_among articles)) (same_found article_link article_link_part parts others same)
+      ∙ refer.article_links_lead;
 }
 
 -- Parts without references.
@@ -155,7 +171,9 @@ abbrev pub Bare : List Part → Type 0
 Bare parts = references parts ≡ []
 
 pub bare_refers : {count : ℕ} {articles : List ℕ} (parts : List Part) → Bare parts → Refer count articles parts [] []
-bare_refers {count} {articles} parts bare = same_refer {others = []} bare (record { target_ids_are = refl; article_ids_are = refl; target_links_lead = refl; article_links_lead = refl; sections_are = refl })
+bare_refers {count} {articles} parts bare =
+    same_refer {others = []} bare (record
+    { target_ids_are = refl; article_ids_are = refl; target_links_lead = refl; article_links_lead = refl; sections_are = refl })
 
 pub bare_if : (condition : Bool) (parts : List Part) → Bare parts → Bare (parts_if condition parts)
 bare_if true parts bare = bare
@@ -168,19 +186,36 @@ pub bare_each : {X : Type 0} (f : X → List Part) → ((x : X) → Bare (f x)) 
 bare_each f each [] = refl
 bare_each f each (x ∷ xs) = bare_then (f x) (flat_map f xs) (each x) (bare_each f each xs)
 
-pub refer_if : {count : ℕ} {articles : List ℕ} (condition : Bool) {parts : List Part} → Refer count articles parts [] [] → Refer count articles (parts_if condition parts) [] []
+pub refer_if : {count : ℕ} {articles : List ℕ} (condition : Bool) {parts : List Part} → Refer count articles parts [] []
+    → Refer count articles (parts_if condition parts) [] []
 refer_if true refer = refer
 refer_if false refer = bare_refers [] refl
 
-pub refer_each : {X : Type 0} {count : ℕ} {articles : List ℕ} (f : X → List Part) → ((x : X) → Refer count articles (f x) [] []) → (xs : List X) → Refer count articles (flat_map f xs) [] []
+pub refer_each : {X : Type 0} {count : ℕ} {articles : List ℕ} (f : X → List Part) → ((x : X) → Refer count articles (f x) [] [])
+    → (xs : List X) → Refer count articles (flat_map f xs) [] []
 refer_each f each [] = bare_refers [] refl
 refer_each f each (x ∷ xs) = then_refer (each x) (refer_each f each xs)
 
-pub link_refers : {count : ℕ} {articles : List ℕ} (number : ℕ) → nat_lt number count ≡ true → Refer count articles (MarkupPart (TargetLink number) ∷ []) [] []
-link_refers {count} number leads = record { target_ids_are = refl; article_ids_are = refl; target_links_lead = and_from (nat_lt number count) true leads refl; article_links_lead = refl; sections_are = refl }
+pub link_refers : {count : ℕ} {articles : List ℕ} (number : ℕ) → nat_lt number count ≡ true
+    → Refer count articles (MarkupPart (TargetLink number) ∷ []) [] []
+link_refers {count} number leads = record {
+  target_ids_are = refl;
+  article_ids_are = refl;
+  target_links_lead = and_from (nat_lt number count) true leads refl;
+  article_links_lead = refl;
+  sections_are = refl;
+}
 
-pub article_link_refers : {count : ℕ} {articles : List ℕ} (number : ℕ) → is_among articles number ≡ true → Refer count articles (MarkupPart (OutputLink number) ∷ []) [] []
-article_link_refers {count} {articles} number leads = record { target_ids_are = refl; article_ids_are = refl; target_links_lead = refl; article_links_lead = and_from (is_among articles number) true leads refl; sections_are = refl }
+pub article_link_refers : {count : ℕ} {articles : List ℕ} (number : ℕ) → is_among articles number ≡ true
+    → Refer count articles (MarkupPart (OutputLink number) ∷ []) [] []
+article_link_refers {count} {articles} number leads =
+    record {
+      target_ids_are = refl;
+      article_ids_are = refl;
+      target_links_lead = refl;
+      article_links_lead = and_from (is_among articles number) true leads refl;
+      sections_are = refl;
+    }
 
 -- ---- names, statuses and counts
 
@@ -205,7 +240,8 @@ word_bare (NumberWord number) = refl
 word_bare (TextWord text) = refl
 
 -- Words between parts without references.
-pub words_bare : (before after : List Part) (words : List WordValue) → Bare before → Bare after → Bare (before ++ (words_parts words ++ after))
+pub words_bare : (before after : List Part) (words : List WordValue) → Bare before → Bare after
+    → Bare (before ++ (words_parts words ++ after))
 words_bare before after words first last =
     bare_then before (words_parts words ++ after) first (bare_then (words_parts words) after (bare_each word_part word_bare words) last)
 
@@ -217,7 +253,15 @@ warnings_below_bare : (warnings : ℕ) → Bare (warnings_below_parts warnings)
 warnings_below_bare warnings = bare_if (not (warnings == 0)) _ refl
 
 pub facts_bare : (node : Node) → Bare (facts_parts node)
-facts_bare node = simp (flat_map-append, badge_bare node.status, took_bare node.took, lines_bare node.lines, warnings_bare node.warnings, below_bare node.below, warnings_below_bare node.warnings_below)
+facts_bare node = simp (
+  flat_map-append,
+  badge_bare node.status,
+  took_bare node.took,
+  lines_bare node.lines,
+  warnings_bare node.warnings,
+  below_bare node.below,
+  warnings_below_bare node.warnings_below,
+)
 
 pub how_bare : (shown : Bool) (how : How) → Bare (how_parts shown how)
 how_bare shown how = bare_if shown _ refl
@@ -227,6 +271,7 @@ abbrev pub IsBelow : ℕ → Option ℕ → Type 0
 IsBelow count None = Unit {0}
 IsBelow count (Some position) = nat_lt position count ≡ true
 
-pub linked_refers : {count : ℕ} {articles : List ℕ} (position : Option ℕ) (name : List ℕ) → IsBelow count position → Refer count articles (linked_parts position name) [] []
+pub linked_refers : {count : ℕ} {articles : List ℕ} (position : Option ℕ) (name : List ℕ) → IsBelow count position
+    → Refer count articles (linked_parts position name) [] []
 linked_refers None name below = bare_refers (name_parts name) refl
 linked_refers (Some position) name below = same_refer {others = MarkupPart (TargetLink position) ∷ []} refl (link_refers position below)

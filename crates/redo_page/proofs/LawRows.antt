@@ -31,8 +31,10 @@ drawing = record { height = 9; lanes = 1; layers = record { kind = Recipes; shap
 
 abbrev parts : List Part
 parts =
-    MarkupPart (markup.TargetItem 3) ∷ MarkupPart (markup.Details 4) ∷ LogPart plain_style (codes "a\n") ∷ MarkupPart (markup.OpenDetails 5) ∷ MarkupPart (markup.TargetLink 6)
-    ∷ TextPart (codes "b") ∷ MarkupPart (markup.OutputLink 7) ∷ NumberPart 9 ∷ MarkupPart (markup.Article 8) ∷ TitlePart (codes "c") ∷ StylePart ∷ LogPart plain_style (codes "d\n")
+    MarkupPart (markup.TargetItem 3) ∷ MarkupPart (markup.Details 4) ∷ LogPart plain_style (codes "a\n") ∷ MarkupPart (markup.OpenDetails 5)
+    ∷ MarkupPart (markup.TargetLink 6)
+    ∷ TextPart (codes "b") ∷ MarkupPart (markup.OutputLink 7) ∷ NumberPart 9 ∷ MarkupPart (markup.Article 8) ∷ TitlePart (codes "c")
+    ∷ StylePart ∷ LogPart plain_style (codes "d\n")
     ∷ ChartPart drawing ∷ MeterPart 12 ∷ []
 
 target_ids_are : target_ids parts ≡ 3 ∷ 4 ∷ 5 ∷ []
@@ -53,8 +55,10 @@ charts_are = refl
 -- Tags that begin sections or lead to them, and others.
 abbrev framed : List Part
 framed =
-    MarkupPart markup.FailedLink ∷ MarkupPart markup.TreeLink ∷ MarkupPart markup.EndLink ∷ MarkupPart markup.SummaryLink ∷ MarkupPart markup.TreeSection ∷ MarkupPart markup.TreeHeading ∷ MarkupPart markup.SummarySection
-    ∷ MarkupPart markup.FailedSection ∷ MarkupPart markup.TimelineLink ∷ MarkupPart markup.TimelineSection ∷ MarkupPart markup.EndSection ∷ []
+    MarkupPart markup.FailedLink ∷ MarkupPart markup.TreeLink ∷ MarkupPart markup.EndLink ∷ MarkupPart markup.SummaryLink
+    ∷ MarkupPart markup.TreeSection ∷ MarkupPart markup.TreeHeading ∷ MarkupPart markup.SummarySection
+    ∷ MarkupPart markup.FailedSection ∷ MarkupPart markup.TimelineLink ∷ MarkupPart markup.TimelineSection
+    ∷ MarkupPart markup.EndSection ∷ []
 
 section_links_are : section_links framed ≡ codes "failed" ∷ codes "tree" ∷ codes "summary" ∷ codes "timeline" ∷ []
 section_links_are = refl
@@ -65,7 +69,8 @@ section_ids_are = refl
 log_bytes_are : log_bytes parts ≡ codes "a\nd\n"
 log_bytes_are = refl
 
-markups_are : markups parts ≡ markup.TargetItem 3 ∷ markup.Details 4 ∷ markup.OpenDetails 5 ∷ markup.TargetLink 6 ∷ markup.OutputLink 7 ∷ markup.Article 8 ∷ []
+markups_are : markups parts ≡ markup.TargetItem 3 ∷ markup.Details 4 ∷ markup.OpenDetails 5 ∷ markup.TargetLink 6 ∷ markup.OutputLink 7
+    ∷ markup.Article 8 ∷ []
 markups_are = refl
 
 -- ---- parts of parts
@@ -78,7 +83,8 @@ first_number (NumberPart value ∷ others) = value
 first_number others = 0
 
 no_part : IsPartOf (number 1 ∷ []) [] → ⊥
-no_part part = let count : length (part.before ++ (number 1 ∷ part.after)) ≡ 0 = ap length part.splits in omega (arith, count, length-append part.before (number 1 ∷ part.after))
+no_part part = let count : length (part.before ++ (number 1 ∷ part.after)) ≡ 0 = ap length part.splits in
+    omega (arith, count, length-append part.before (number 1 ∷ part.after))
 
 -- Parts in another order, and parts that are not next to each other.
 no_other_order : IsPartOf (number 1 ∷ number 2 ∷ []) (number 2 ∷ number 1 ∷ []) → ⊥
@@ -124,12 +130,15 @@ abbrev nodes : List Node
 nodes = ended None ∷ ended None ∷ ended (Some 9) ∷ ended (Some 5) ∷ ended (Some 5) ∷ []
 
 in_order : AreInOrderOfEnd nodes (3 ∷ 4 ∷ 2 ∷ 0 ∷ 1 ∷ [])
-in_order =
-    ((inr (refl, omega arith), (inl (omega arith), (inl tt, (inl tt, tt)))), ((inl (omega arith), (inl tt, (inl tt, tt))), ((inl tt, (inl tt, tt)), ((inr (refl, omega arith), tt), (tt, tt)))))
+in_order = (
+  (inr (refl, omega arith), (inl (omega arith), (inl tt, (inl tt, tt)))),
+  ((inl (omega arith), (inl tt, (inl tt, tt))), ((inl tt, (inl tt, tt)), ((inr (refl, omega arith), tt), (tt, tt)))),
+)
 
 -- One that ended later, an unknown end before a known one, and equal ends not in the order of the tree.
 not_in_order :
-    ¬ AreInOrderOfEnd nodes (2 ∷ 3 ∷ []) × ¬ AreInOrderOfEnd nodes (0 ∷ 2 ∷ []) × ¬ AreInOrderOfEnd nodes (4 ∷ 3 ∷ []) × ¬ AreInOrderOfEnd nodes (1 ∷ 0 ∷ [])
+    ¬ AreInOrderOfEnd nodes (2 ∷ 3 ∷ []) × ¬ AreInOrderOfEnd nodes (0 ∷ 2 ∷ []) × ¬ AreInOrderOfEnd nodes (4 ∷ 3 ∷ [])
+    × ¬ AreInOrderOfEnd nodes (1 ∷ 0 ∷ [])
     × ¬ AreInOrderOfEnd nodes (3 ∷ 3 ∷ [])
 not_in_order = (
   λ is. elim is.0.0 [ inl less ↦ omega (arith, less) | inr same ↦ let equal = same_Some 9 5 same.0 in omega (arith, equal) ],
@@ -145,8 +154,12 @@ not_in_order = (
 abbrev contents : Contents
 contents =
     Opened (Requested (codes "all") (OpensHere 0)) 0
-    (Shown (EntryShown 1 (Text (codes "a"))) (Opened (Mentioned 1 9 Made (codes "x") (OpensHere 1)) 1 (Shown (EntryShown 2 (Text (codes "bc"))) (Shown (EntryShown 2 (Note 9 (codes "n") (codes "t"))) Nothing)) (Shown (EntryShown 1 (Text (codes "d"))) Nothing)))
-    (Opened (Requested (codes "y") (OpensHere 2)) 2 (Shown (EntryShown 1 (Text (codes "e"))) Nothing) (Shown (Requested (codes "z") NotOpened) Nothing))
+    (Shown (EntryShown 1 (Text (codes "a")))
+    (Opened (Mentioned 1 9 Made (codes "x") (OpensHere 1)) 1
+    (Shown (EntryShown 2 (Text (codes "bc"))) (Shown (EntryShown 2 (Note 9 (codes "n") (codes "t"))) Nothing))
+    (Shown (EntryShown 1 (Text (codes "d"))) Nothing)))
+    (Opened (Requested (codes "y") (OpensHere 2)) 2 (Shown (EntryShown 1 (Text (codes "e"))) Nothing)
+    (Shown (Requested (codes "z") NotOpened) Nothing))
 
 abbrev at : ℕ → List ℕ → PositionedLine
 at position line = record { position = Some position; line = line }
@@ -165,12 +178,19 @@ lines_at_are = refl
 
 -- The log at position 1 has an article that shows its output.
 abbrev build : Build
-build = record { logs = []; options = record { recursive = true; unchanged = false; details = true; debug_locks = false; debug_pids = false }; nodes = no_node ∷ record no_node { lines = 1; bytes = 3 } ∷ no_node ∷ []; articles = 1 ∷ [] }
+build = record {
+  logs = [];
+  options =
+      record { recursive = true; unchanged = false; details = true; debug_locks = false; debug_pids = false };
+  nodes = no_node ∷ record no_node { lines = 1; bytes = 3 } ∷ no_node ∷ [];
+  articles = 1 ∷ [];
+}
 
 unmoved_are : unmoved_lines build (positioned_lines None 0 contents) ≡ at 0 (codes "a") ∷ at 0 (codes "d") ∷ at 2 (codes "e") ∷ []
 unmoved_are = refl
 
-event_lines_are : event_lines (EntryShown 1 (Text (codes "a"))) ∷ event_lines (EntryShown 1 (Note 9 (codes "n") (codes "t"))) ∷ event_lines (Requested (codes "z") NotOpened) ∷ [] ≡ (codes "a" ∷ []) ∷ [] ∷ [] ∷ []
+event_lines_are : event_lines (EntryShown 1 (Text (codes "a"))) ∷ event_lines (EntryShown 1 (Note 9 (codes "n") (codes "t")))
+    ∷ event_lines (Requested (codes "z") NotOpened) ∷ [] ≡ (codes "a" ∷ []) ∷ [] ∷ [] ∷ []
 event_lines_are = refl
 
 -- ---- blanks
@@ -179,9 +199,15 @@ abbrev rename : List ℕ → List ℕ
 rename name = 114 ∷ name
 
 blanks_are : blanked rename contents
-    ≡ Opened (Requested (codes "rall") (OpensHere 0)) 0 (Shown (EntryShown 1 (Text (codes " "))) (Opened (Mentioned 1 9 Made (codes "rx") (OpensHere 1)) 1 (Shown (EntryShown 2 (Text (codes "  "))) (Shown (EntryShown 2 (Note 9 [] [])) Nothing)) (Shown (EntryShown 1 (Text (codes " "))) Nothing)))
-    (Opened (Requested (codes "ry") (OpensHere 2)) 2 (Shown (EntryShown 1 (Text (codes " "))) Nothing) (Shown (Requested (codes "rz") NotOpened) Nothing))
+    ≡ Opened (Requested (codes "rall") (OpensHere 0)) 0
+    (Shown (EntryShown 1 (Text (codes " ")))
+    (Opened (Mentioned 1 9 Made (codes "rx") (OpensHere 1)) 1
+    (Shown (EntryShown 2 (Text (codes "  "))) (Shown (EntryShown 2 (Note 9 [] [])) Nothing))
+    (Shown (EntryShown 1 (Text (codes " "))) Nothing)))
+    (Opened (Requested (codes "ry") (OpensHere 2)) 2 (Shown (EntryShown 1 (Text (codes " "))) Nothing)
+    (Shown (Requested (codes "rz") NotOpened) Nothing))
 blanks_are = refl
 
-blank_entries_are : blank_event rename (EntryShown 1 (Done 9 (pos 2) (codes "x"))) ∷ blank_event rename (EntryShown 1 (Closing 9 (pos 2))) ∷ [] ≡ EntryShown 1 (Done 9 (pos 2) (codes "rx")) ∷ EntryShown 1 (Closing 9 (pos 2)) ∷ []
+blank_entries_are : blank_event rename (EntryShown 1 (Done 9 (pos 2) (codes "x"))) ∷ blank_event rename (EntryShown 1 (Closing 9 (pos 2)))
+    ∷ [] ≡ EntryShown 1 (Done 9 (pos 2) (codes "rx")) ∷ EntryShown 1 (Closing 9 (pos 2)) ∷ []
 blank_entries_are = refl

@@ -31,16 +31,19 @@ module _ (passes : ℕ → Bool) where
   last_below low zero below none = let same : zero ≡ low = omega arith in ap (last_where passes) same
   last_below low (suc high) below none = by (λ within. last_below low high within none) (cases_lt high low)
     where
-      by : (low ≤ high → last_where passes high ≡ last_where passes low) → (high < low) ⊎ (low ≤ high) → last_where passes (suc high) ≡ last_where passes low
+      by : (low ≤ high → last_where passes high ≡ last_where passes low) → (high < low) ⊎ (low ≤ high)
+          → last_where passes (suc high) ≡ last_where passes low
       by before (inl above) = let same : suc high ≡ low = omega arith in ap (last_where passes) same
-      by before (inr within) = ap (λ (b : Bool). if b then suc high else last_where passes high) (none (suc high) (omega arith)) ∙ before within
+      by before (inr within) = ap (λ (b : Bool). if b then suc high else last_where passes high) (none (suc high) (omega arith))
+          ∙ before within
 
   -- The last one passes, if 0 does.
   pub last_passes : (n : ℕ) → passes 0 ≡ true → passes (last_where passes n) ≡ true
   last_passes zero first = first
   last_passes (suc n) first = by (passes (suc n)) refl (last_passes n first)
     where
-      by : (is : Bool) → passes (suc n) ≡ is → passes (last_where passes n) ≡ true → passes (if is then suc n else last_where passes n) ≡ true
+      by : (is : Bool) → passes (suc n) ≡ is → passes (last_where passes n) ≡ true
+          → passes (if is then suc n else last_where passes n) ≡ true
       by true is before = is
       by false is before = before
 
@@ -57,7 +60,8 @@ module _ (passes : ℕ → Bool) where
   none_after zero higher after within = absurd (omega (arith, after, within))
   none_after (suc n) higher after within = by (passes (suc n)) refl (none_after n higher) after (cases_lt n higher)
     where
-      by : (is : Bool) → passes (suc n) ≡ is → (last_where passes n < higher → higher ≤ n → passes higher ≡ false) → (if is then suc n else last_where passes n) < higher
+      by : (is : Bool) → passes (suc n) ≡ is → (last_where passes n < higher → higher ≤ n → passes higher ≡ false)
+          → (if is then suc n else last_where passes n) < higher
           → (n < higher) ⊎ (higher ≤ n) → passes higher ≡ false
       by true is before less where_is = absurd (omega (arith, less, within))
       by false is before less (inl above) = let same : higher ≡ suc n = omega (arith, above, within) in ap passes same ∙ is
@@ -77,7 +81,8 @@ module _ (budget : ℕ) (nodes : List Node) where
 
   -- If a cap fails, only lower ones count.
   pub lower_counts : (cap above : ℕ) → fits cap ≡ false → 0 < cap → cap ≤ above → last_where fits above ≡ last_where fits (cap - 1)
-  lower_counts cap above fails some below = last_below fits (cap - 1) above (omega arith) (λ n higher. higher_fails cap n fails (omega arith))
+  lower_counts cap above fails some below =
+      last_below fits (cap - 1) above (omega arith) (λ n higher. higher_fails cap n fails (omega arith))
 
 no_bytes : (nodes : List Node) → bytes_shown (Some 0) nodes ≡ 0
 no_bytes [] = refl
@@ -93,14 +98,18 @@ highest_fits budget nodes =
     leb-true (bytes_shown (Some (highest_cap budget nodes)) nodes) budget
     (last_passes (fits budget nodes) budget (le-leb (bytes_shown (Some 0) nodes) budget (omega (arith, none))))
 
-pub none_higher : (budget : ℕ) (nodes : List Node) (cap : ℕ) → highest_cap budget nodes < cap → cap ≤ budget → budget < bytes_shown (Some cap) nodes
-none_higher budget nodes cap above within = leb-false (bytes_shown (Some cap) nodes) budget (none_after (fits budget nodes) budget cap above within)
+pub none_higher : (budget : ℕ) (nodes : List Node) (cap : ℕ) → highest_cap budget nodes < cap → cap ≤ budget
+    → budget < bytes_shown (Some cap) nodes
+none_higher budget nodes cap above within =
+    leb-false (bytes_shown (Some cap) nodes) budget (none_after (fits budget nodes) budget cap above within)
 
 -- ---- limits, one by one
 
 -- The limit of one log more.
-pub next_limit : (build : Build) (cap number count : ℕ) → number < count → (limits after : List Limit) (limit : Limit) → limit ≡ limit_if build cap (position_of build.nodes number) → after ≡ limits ++ (limit ∷ [])
-    → limits ++ limits_from build cap number (count - number) ≡ limits_from build cap 0 count → after ++ limits_from build cap (number + 1) (count - (number + 1)) ≡ limits_from build cap 0 count
+pub next_limit : (build : Build) (cap number count : ℕ) → number < count → (limits after : List Limit) (limit : Limit)
+    → limit ≡ limit_if build cap (position_of build.nodes number) → after ≡ limits ++ (limit ∷ [])
+    → limits ++ limits_from build cap number (count - number) ≡ limits_from build cap 0 count
+    → after ++ limits_from build cap (number + 1) (count - (number + 1)) ≡ limits_from build cap 0 count
 next_limit build cap number count below limits after limit limit_is after_is so_far =
     let rest = limits_from build cap (suc number) (count - suc number) in
     let next : number + 1 ≡ suc number = omega arith in

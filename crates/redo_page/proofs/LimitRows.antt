@@ -27,12 +27,14 @@ whole = limit 0 0
 -- ---- the cap
 
 shown_are :
-    (at_most None 5 ≡ 5) × (at_most (Some 3) 5 ≡ 3) × (at_most (Some 7) 5 ≡ 5) × (bytes_shown None (node 5 ∷ node 3 ∷ []) ≡ 8) × (bytes_shown (Some 4) (node 5 ∷ node 3 ∷ []) ≡ 7)
+    (at_most None 5 ≡ 5) × (at_most (Some 3) 5 ≡ 3) × (at_most (Some 7) 5 ≡ 5) × (bytes_shown None (node 5 ∷ node 3 ∷ []) ≡ 8)
+    × (bytes_shown (Some 4) (node 5 ∷ node 3 ∷ []) ≡ 7)
     × (bytes_shown (Some 0) (node 5 ∷ node 3 ∷ []) ≡ 0) × (bytes_shown (Some 4) [] ≡ 0)
 shown_are = (refl, refl, refl, refl, refl, refl, refl)
 
 fits_are :
-    (fit_in None 8 (node 5 ∷ node 3 ∷ []) ≡ true) × (fit_in None 7 (node 5 ∷ node 3 ∷ []) ≡ false) × (fit_in (Some 4) 7 (node 5 ∷ node 3 ∷ []) ≡ true)
+    (fit_in None 8 (node 5 ∷ node 3 ∷ []) ≡ true) × (fit_in None 7 (node 5 ∷ node 3 ∷ []) ≡ false)
+    × (fit_in (Some 4) 7 (node 5 ∷ node 3 ∷ []) ≡ true)
     × (fit_in (Some 4) 6 (node 5 ∷ node 3 ∷ []) ≡ false) × (fit_in (Some 4) 0 [] ≡ true)
 fits_are = (refl, refl, refl, refl, refl)
 
@@ -53,7 +55,8 @@ no_caps_are = (refl, refl, refl)
 
 -- 4,096 bytes are shown, even if this is more than the budget.
 some_caps_are :
-    (min_cap ≡ 4096) × (cap_for 299 (node 200 ∷ node 100 ∷ []) ≡ Some 4096) × (cap_for 5000 (node 20000 ∷ []) ≡ Some 5000) × (cap_for 5000 (node 20000 ∷ node 50 ∷ []) ≡ Some 4950)
+    (min_cap ≡ 4096) × (cap_for 299 (node 200 ∷ node 100 ∷ []) ≡ Some 4096) × (cap_for 5000 (node 20000 ∷ []) ≡ Some 5000)
+    × (cap_for 5000 (node 20000 ∷ node 50 ∷ []) ≡ Some 4950)
     × (cap_for 4097 (node 5000 ∷ node 1 ∷ []) ≡ Some 4096) × (cap_for 4097 (node 5000 ∷ []) ≡ Some 4097)
 some_caps_are = (refl, refl, refl, refl, refl, refl)
 
@@ -61,7 +64,8 @@ some_caps_are = (refl, refl, refl, refl, refl, refl)
 
 -- Of 20,000 bytes, the first 1,250 and the last 3,750 are shown. A quarter is rounded down.
 limits_are :
-    (limit_at 5000 20000 ≡ limit 1250 16250) × (limit_at 4096 4097 ≡ limit 1024 1025) × (limit_at 4099 10000 ≡ limit 1024 6925) × (limit_at 5000 3000 ≡ limit 1250 0)
+    (limit_at 5000 20000 ≡ limit 1250 16250) × (limit_at 4096 4097 ≡ limit 1024 1025) × (limit_at 4099 10000 ≡ limit 1024 6925)
+    × (limit_at 5000 3000 ≡ limit 1250 0)
 limits_are = (refl, refl, refl, refl)
 
 abbrev options : Options
@@ -83,17 +87,20 @@ build = record { logs = logs; options = options; nodes = nodes; articles = 1 ∷
 
 -- A log that has as many bytes as the cap is shown whole.
 positions_are :
-    (position_limit build 5000 0 ≡ limit 1250 16250) × (position_limit build 19999 0 ≡ limit 4999 5000) × (position_limit build 20000 0 ≡ whole) × (position_limit build 5000 1 ≡ whole)
+    (position_limit build 5000 0 ≡ limit 1250 16250) × (position_limit build 19999 0 ≡ limit 4999 5000)
+    × (position_limit build 20000 0 ≡ whole) × (position_limit build 5000 1 ≡ whole)
     × (position_limit build 5000 2 ≡ limit 1250 36251) × (position_limit (record build { articles = [] }) 5000 1 ≡ limit 1250 36250)
     × (limit_if build 5000 None ≡ whole) × (limit_if build 5000 (Some 0) ≡ limit 1250 16250)
 positions_are = (refl, refl, refl, refl, refl, refl, refl, refl)
 
 numbers_are :
-    (limits_from build 5000 0 4 ≡ limit 1250 36251 ∷ whole ∷ limit 1250 16250 ∷ whole ∷ []) × (limits_from build 5000 2 1 ≡ limit 1250 16250 ∷ []) × (limits_from build 5000 0 0 ≡ [])
+    (limits_from build 5000 0 4 ≡ limit 1250 36251 ∷ whole ∷ limit 1250 16250 ∷ whole ∷ [])
+    × (limits_from build 5000 2 1 ≡ limit 1250 16250 ∷ []) × (limits_from build 5000 0 0 ≡ [])
     × (limits_of build None 4 ≡ []) × (limits_of build (Some 5000) 3 ≡ limit 1250 36251 ∷ whole ∷ limit 1250 16250 ∷ [])
 numbers_are = (refl, refl, refl, refl, refl)
 
 -- The logs have 100,001 bytes. A limit of 10 still allows 4,096 of each.
 trees_are :
-    (tree_limits logs options nodes 0 ≡ []) × (tree_limits logs options nodes 100001 ≡ []) × (tree_limits logs options nodes 10 ≡ limit 1024 36929 ∷ whole ∷ limit 1024 16928 ∷ whole ∷ [])
+    (tree_limits logs options nodes 0 ≡ []) × (tree_limits logs options nodes 100001 ≡ [])
+    × (tree_limits logs options nodes 10 ≡ limit 1024 36929 ∷ whole ∷ limit 1024 16928 ∷ whole ∷ [])
 trees_are = (refl, refl, refl)

@@ -15,13 +15,15 @@ characters_tags (byte ∷ text) = characters_tags text
 
 -- With the elements `before` open, parts lead to the elements `after`, the innermost first. Elements around these stay open.
 pub record Leads (before : List (List ℕ)) (parts : List Part) (after : List (List ℕ)) : Type 0 where
-  pub leads : (around tags : List (List ℕ)) → nests_in (before ++ around) (flat_map markup_tag parts ++ tags) ≡ nests_in (after ++ around) tags
+  pub leads : (around tags : List (List ℕ))
+      → nests_in (before ++ around) (flat_map markup_tag parts ++ tags) ≡ nests_in (after ++ around) tags
 
 -- Each element that begins in these parts ends in them.
 abbrev pub Nest : List Part → Type 0
 Nest parts = Leads [] parts []
 
-pub then_lead : {before middle after : List (List ℕ)} {parts others : List Part} → Leads before parts middle → Leads middle others after → Leads before (parts ++ others) after
+pub then_lead : {before middle after : List (List ℕ)} {parts others : List Part} → Leads before parts middle → Leads middle others after
+    → Leads before (parts ++ others) after
 then_lead {before} {middle} {after} {parts} {others} first last = record {
   leads = λ around tags.
       ap (λ (t : List (List ℕ)). nests_in (before ++ around) (t ++ tags)) (flat_map-append markup_tag parts others)
@@ -33,10 +35,12 @@ then_lead {before} {middle} {after} {parts} {others} first last = record {
 pub lead_in : {parts : List Part} (outer : List (List ℕ)) → Nest parts → Leads outer parts outer
 lead_in outer nest = record { leads = λ around tags. nest.leads (outer ++ around) tags }
 
-pub lead_around : {before after : List (List ℕ)} {parts : List Part} (outer : List (List ℕ)) → Leads before parts after → Leads (before ++ outer) parts (after ++ outer)
+pub lead_around : {before after : List (List ℕ)} {parts : List Part} (outer : List (List ℕ)) → Leads before parts after
+    → Leads (before ++ outer) parts (after ++ outer)
 lead_around {before} {after} {parts} outer inner = record {
   leads = λ around tags.
-      ap (λ (names : List (List ℕ)). nests_in names (flat_map markup_tag parts ++ tags)) (append_assoc before outer around) ∙ inner.leads (outer ++ around) tags
+      ap (λ (names : List (List ℕ)). nests_in names (flat_map markup_tag parts ++ tags)) (append_assoc before outer around)
+      ∙ inner.leads (outer ++ around) tags
       ∙ ap (λ (names : List (List ℕ)). nests_in names tags) (sym (append_assoc after outer around));
 }
 

@@ -30,17 +30,20 @@ no_markup other = refl
 abbrev Lack : List Node → Type 0
 Lack nodes = is_one_of script (tags_of (nodes_tokens nodes)) ≡ false
 
-none_of_both : (tags others : List (List ℕ)) → is_one_of script tags ≡ false → is_one_of script others ≡ false → is_one_of script (tags ++ others) ≡ false
+none_of_both : (tags others : List (List ℕ)) → is_one_of script tags ≡ false → is_one_of script others ≡ false
+    → is_one_of script (tags ++ others) ≡ false
 none_of_both [] others first last = last
 none_of_both (tag ∷ tags) others first last = by (bytes_eq script tag) first (λ none. none_of_both tags others none last)
   where
-    by : (is : Bool) → (is || is_one_of script tags) ≡ false → (is_one_of script tags ≡ false → is_one_of script (tags ++ others) ≡ false) → (is || is_one_of script (tags ++ others)) ≡ false
+    by : (is : Bool) → (is || is_one_of script tags) ≡ false → (is_one_of script tags ≡ false → is_one_of script (tags ++ others) ≡ false)
+        → (is || is_one_of script (tags ++ others)) ≡ false
     by true none later = absurd (cc)
     by false none later = later none
 
 both_lack : (nodes others : List Node) → Lack nodes → Lack others → Lack (nodes ++ others)
 both_lack nodes others first last =
-    ap (λ tokens. is_one_of script (tags_of tokens)) (flat_map-append node_tokens nodes others) ∙ ap (is_one_of script) (flat_map-append tag_of (nodes_tokens nodes) (nodes_tokens others))
+    ap (λ tokens. is_one_of script (tags_of tokens)) (flat_map-append node_tokens nodes others)
+    ∙ ap (is_one_of script) (flat_map-append tag_of (nodes_tokens nodes) (nodes_tokens others))
     ∙ none_of_both (tags_of (nodes_tokens nodes)) (tags_of (nodes_tokens others)) first last
 
 -- Without its texts.
@@ -59,27 +62,33 @@ shape_lacks kind (BarShape bar) = by bar.label
 
 shapes_lack : (kind : GroupKind) (shapes : List Shape) → Lack (flat_map (shape_nodes kind) (map (reworded_shape blank) shapes))
 shapes_lack kind [] = refl
-shapes_lack kind (shape ∷ shapes) = both_lack (shape_nodes kind (reworded_shape blank shape)) (flat_map (shape_nodes kind) (map (reworded_shape blank) shapes)) (shape_lacks kind shape) (shapes_lack kind shapes)
+shapes_lack kind (shape ∷ shapes) = both_lack (shape_nodes kind (reworded_shape blank shape))
+    (flat_map (shape_nodes kind) (map (reworded_shape blank) shapes)) (shape_lacks kind shape) (shapes_lack kind shapes)
 
-layers_lack : (layers : List Layer) → Lack (flat_map layer_nodes (map (λ (layer : Layer). record layer { shapes = map (reworded_shape blank) layer.shapes }) layers))
+layers_lack : (layers : List Layer) → Lack
+    (flat_map layer_nodes (map (λ (layer : Layer). record layer { shapes = map (reworded_shape blank) layer.shapes }) layers))
 layers_lack [] = refl
 layers_lack (layer ∷ layers) =
     let shapes = flat_map (shape_nodes layer.kind) (map (reworded_shape blank) layer.shapes) in
     let others = flat_map layer_nodes (map (λ (other : Layer). record other { shapes = map (reworded_shape blank) other.shapes }) layers) in
     both_lack (element (codes "g") (group_attributes layer.kind) shapes) others
-    (both_lack (StartTag (codes "g") (group_attributes layer.kind) ∷ []) (shapes ++ EndTag (codes "g") ∷ []) refl (both_lack shapes (EndTag (codes "g") ∷ []) (shapes_lack layer.kind layer.shapes) refl))
+    (both_lack (StartTag (codes "g") (group_attributes layer.kind) ∷ []) (shapes ++ EndTag (codes "g") ∷ []) refl
+    (both_lack shapes (EndTag (codes "g") ∷ []) (shapes_lack layer.kind layer.shapes) refl))
     (layers_lack layers)
 
 no_chart_tag : (drawing : Drawing) → is_one_of script (tags_of (part_tokens (ChartPart (reworded blank drawing)))) ≡ false
 no_chart_tag drawing =
-    let layers = flat_map layer_nodes (map (λ (layer : Layer). record layer { shapes = map (reworded_shape blank) layer.shapes }) drawing.layers) in
-    both_lack (StartTag (codes "svg") (chart_attributes drawing.height drawing.lanes) ∷ []) (layers ++ EndTag (codes "svg") ∷ []) refl (both_lack layers (EndTag (codes "svg") ∷ []) (layers_lack drawing.layers) refl)
+    let layers = flat_map layer_nodes (map
+    (λ (layer : Layer). record layer { shapes = map (reworded_shape blank) layer.shapes }) drawing.layers) in
+    both_lack (StartTag (codes "svg") (chart_attributes drawing.height drawing.lanes) ∷ []) (layers ++ EndTag (codes "svg") ∷ []) refl
+    (both_lack layers (EndTag (codes "svg") ∷ []) (layers_lack drawing.layers) refl)
 
 no_meter_tag : (width : ℕ) → is_one_of script (tags_of (part_tokens (MeterPart width))) ≡ false
 no_meter_tag width = refl
 
 pub script_is_not_own : IsOwnTag script → ⊥
-script_is_not_own (inl own) = let is : bytes_eq (take 3 (markup_text own.0)) (codes "scr") ≡ true = ap (λ tag. bytes_eq (take 3 tag) (codes "scr")) (sym own.1) in let no = no_markup own.0 in absurd (cc)
+script_is_not_own (inl own) = let is : bytes_eq (take 3 (markup_text own.0)) (codes "scr") ≡ true =
+    ap (λ tag. bytes_eq (take 3 tag) (codes "scr")) (sym own.1) in let no = no_markup own.0 in absurd (cc)
 script_is_not_own (inr (inl highlight)) = absurd (cc)
 script_is_not_own (inr (inr (inl own))) = let no = no_chart_tag own.0 in let is = own.1 in absurd (cc)
 script_is_not_own (inr (inr (inr own))) = let no = no_meter_tag own.0 in let is = own.1 in absurd (cc)

@@ -38,7 +38,8 @@ use Rattle.redo_timeline.specs.declared.span.Window.{Window}
 use Rattle.redo_times.specs.declared.times.Times.{Times}
 use Rattle.redo_view.specs.Event.{Event}
 
-pub all_weaker : (passes others : ℕ → Bool) → ((number : ℕ) → passes number ≡ true → others number ≡ true) → (numbers : List ℕ) → list_all passes numbers ≡ true → list_all others numbers ≡ true
+pub all_weaker : (passes others : ℕ → Bool) → ((number : ℕ) → passes number ≡ true → others number ≡ true) → (numbers : List ℕ)
+    → list_all passes numbers ≡ true → list_all others numbers ≡ true
 all_weaker passes others weaker [] all = refl
 all_weaker passes others weaker (number ∷ numbers) all =
     let parts = and_parts (passes number) (list_all passes numbers) all in
@@ -46,17 +47,21 @@ all_weaker passes others weaker (number ∷ numbers) all =
 
 among_numbers : (first count number : ℕ) → first ≤ number → number < first + count → is_among (numbers_from first count) number ≡ true
 among_numbers first zero number from below = absurd (omega arith)
-among_numbers first (suc count) number from below = by (number == first) refl (λ after. among_numbers (suc first) count number after (omega arith))
+among_numbers first (suc count) number from below =
+    by (number == first) refl (λ after. among_numbers (suc first) count number after (omega arith))
   where
-    by : (here : Bool) → (number == first) ≡ here → (suc first ≤ number → is_among (numbers_from (suc first) count) number ≡ true) → (here || is_among (numbers_from (suc first) count) number) ≡ true
+    by : (here : Bool) → (number == first) ≡ here → (suc first ≤ number → is_among (numbers_from (suc first) count) number ≡ true)
+        → (here || is_among (numbers_from (suc first) count) number) ≡ true
     by true is later = refl
     by false is later = let other : number ≡ first → ⊥ = eqb-false number first is in later (omega arith)
 
 -- What is found in tags of sections is found in all parts.
-in_sections : {X : Type 0} (f : Part → List X) → ((part : Part) → flat_map f (section part) ≡ f part) → (parts : List Part) → flat_map f parts ≡ flat_map f (flat_map section parts)
+in_sections : {X : Type 0} (f : Part → List X) → ((part : Part) → flat_map f (section part) ≡ f part) → (parts : List Part)
+    → flat_map f parts ≡ flat_map f (flat_map section parts)
 in_sections f each [] = refl
 in_sections f each (part ∷ parts) =
-    ap (λ t. t ++ flat_map f parts) (sym (each part)) ∙ ap (λ t. flat_map f (section part) ++ t) (in_sections f each parts) ∙ sym (flat_map-append f (section part) (flat_map section parts))
+    ap (λ t. t ++ flat_map f parts) (sym (each part)) ∙ ap (λ t. flat_map f (section part) ++ t) (in_sections f each parts)
+    ∙ sym (flat_map-append f (section part) (flat_map section parts))
 
 section_id_part : (part : Part) → flat_map section_id (section part) ≡ section_id part
 section_id_part (MarkupPart markup) = by markup
@@ -91,13 +96,15 @@ chart_part (MarkupPart markup) = by (is_section markup)
 chart_part part = refl
 
 -- The charts are the charts of the timeline.
-charts_found : (verdict : Verdict) (timed some : Bool) (timeline : List Part) → charts (page_sections verdict timed (parts_if some (MarkupPart FailedSection ∷ [])) timeline) ≡ charts timeline
+charts_found : (verdict : Verdict) (timed some : Bool) (timeline : List Part)
+    → charts (page_sections verdict timed (parts_if some (MarkupPart FailedSection ∷ [])) timeline) ≡ charts timeline
 charts_found verdict timed some timeline = by verdict timed some
   where
     last : charts ((timeline ++ MarkupPart TreeSection ∷ []) ++ []) ≡ charts timeline
     last = simp (flat_map-append, append-nil)
 
-    by : (verdict : Verdict) (timed some : Bool) → charts (page_sections verdict timed (parts_if some (MarkupPart FailedSection ∷ [])) timeline) ≡ charts timeline
+    by : (verdict : Verdict) (timed some : Bool)
+        → charts (page_sections verdict timed (parts_if some (MarkupPart FailedSection ∷ [])) timeline) ≡ charts timeline
     by Failed true true = last
     by Failed true false = last
     by Failed false true = last
@@ -113,25 +120,33 @@ charts_found verdict timed some timeline = by verdict timed some
 
 module _ (nodes : List Node) (facts : Facts) (positions : AreOfNodes nodes facts) where
   top_refers : (title : List ℕ) (logs : List Log) (verdict : Verdict) (title_is heading : List ℕ)
-      → Refers (length nodes) (articles nodes) (top_parts_of title logs verdict title_is heading nodes facts) [] ((articles nodes ++ []) ++ []) (top_sections verdict (has_timeline facts) (failed_section (root_failures nodes)))
+      → Refers (length nodes) (articles nodes) (top_parts_of title logs verdict title_is heading nodes facts) []
+      ((articles nodes ++ []) ++ []) (top_sections verdict (has_timeline facts) (failed_section (root_failures nodes)))
   unfolding top_parts_of
   top_refers title logs verdict title_is heading =
       then_refer (bare_refers (head_parts title_is verdict) (head_bare title_is verdict))
-      (then_refer (header_refers title logs verdict heading nodes facts) (then_refer (failed_refers logs nodes) (summary_refers (length nodes) (articles nodes) logs nodes facts positions.longest positions.warned)))
+      (then_refer (header_refers title logs verdict heading nodes facts)
+      (then_refer (failed_refers logs nodes)
+      (summary_refers (length nodes) (articles nodes) logs nodes facts positions.longest positions.warned)))
 
 -- There is a link to each section.
 module _ (logs : List Log) (nodes : List Node) (facts : Facts) where
   -- The tags of sections of a page with this outcome, and its charts.
   abbrev sections_of : Verdict → Bool → Bool → Option Window → List Part
-  sections_of verdict some timed window = page_sections verdict (is_some window && timed) (parts_if some (MarkupPart FailedSection ∷ [])) (timeline_found logs nodes facts timed window)
+  sections_of verdict some timed window =
+      page_sections verdict (is_some window && timed) (parts_if some (MarkupPart FailedSection ∷ []))
+      (timeline_found logs nodes facts timed window)
 
   sections_linked :
-      section_links (page_sections (verdict_of nodes) (has_timeline facts) (failed_section (root_failures nodes)) (timeline_found logs nodes facts (is_timed facts) facts.window))
-      ≡ section_ids (page_sections (verdict_of nodes) (has_timeline facts) (failed_section (root_failures nodes)) (timeline_found logs nodes facts (is_timed facts) facts.window))
+      section_links (page_sections (verdict_of nodes) (has_timeline facts) (failed_section (root_failures nodes))
+      (timeline_found logs nodes facts (is_timed facts) facts.window))
+      ≡ section_ids (page_sections (verdict_of nodes) (has_timeline facts) (failed_section (root_failures nodes))
+      (timeline_found logs nodes facts (is_timed facts) facts.window))
   sections_linked = by (nat_lt 0 (length (root_failures nodes))) (list_any is_unfinished nodes) (is_timed facts) facts.window
     where
       by : (some unfinished timed : Bool) (window : Option Window)
-          → section_links (sections_of (if some then Failed else if unfinished then Unfinished else Made) some timed window) ≡ section_ids (sections_of (if some then Failed else if unfinished then Unfinished else Made) some timed window)
+          → section_links (sections_of (if some then Failed else if unfinished then Unfinished else Made) some timed window)
+          ≡ section_ids (sections_of (if some then Failed else if unfinished then Unfinished else Made) some timed window)
       by true unfinished timed None = refl
       by true unfinished true (Some window) = refl
       by true unfinished false (Some window) = refl
@@ -151,10 +166,12 @@ abbrev pub KeepLogs : Type 0
 KeepLogs = (limits : List Limit) (contents : Contents) → log_count (trim limits [] contents) ≡ log_count contents
 
 -- There is a node for each log that is opened.
-pub outline_counted : (request : Request) (logs : List Log) (requested : List (List ℕ)) → length (page_outline request logs requested) ≡ log_count (contents_of (page_events request logs requested))
+pub outline_counted : (request : Request) (logs : List Log) (requested : List (List ℕ))
+    → length (page_outline request logs requested) ≡ log_count (contents_of (page_events request logs requested))
 outline_counted request logs requested =
     let events = page_events request logs requested in
-    length-map (outline_of logs events) (with_times (map run_times request.times)) ∙ nodes_counted logs (target_status logs events) None 0 (contents_of events)
+    length-map (outline_of logs events) (with_times (map run_times request.times))
+    ∙ nodes_counted logs (target_status logs events) None 0 (contents_of events)
 
 module _ (have : HavePositions) (lead : BarsLead) (keep : KeepLogs) (request : Request) (logs : List Log) (requested : List (List ℕ)) where
   abbrev parts : List Part
@@ -174,46 +191,60 @@ module _ (have : HavePositions) (lead : BarsLead) (keep : KeepLogs) (request : R
   shown = page_contents request logs requested
 
   page_refers : Refers (length nodes) (articles nodes) parts (numbers_from 0 (log_count shown) ++ []) (((articles nodes ++ []) ++ []) ++ [])
-      (page_sections (verdict_of nodes) (has_timeline facts) (failed_section (root_failures nodes)) (timeline_found logs nodes facts (is_timed facts) facts.window))
+      (page_sections (verdict_of nodes) (has_timeline facts) (failed_section (root_failures nodes))
+      (timeline_found logs nodes facts (is_timed facts) facts.window))
   unfolding page_parts
   page_refers =
       let positions = have nodes request.times in
-      then_refer (top_refers nodes facts positions request.title logs (verdict_of nodes) (title_text request.title (verdict_of nodes) (heading_of nodes)) (heading_of nodes))
-      (then_refer (then_refer (timeline_refers lead (length nodes) (articles nodes) logs nodes facts positions.callers positions.recipes positions.marks) (tree_refers logs (options_of request) nodes shown))
-      (bare_refers (footer_parts request.dir (command request.dir (options_of request) requested) (length nodes)) (footer_bare request.dir (command request.dir (options_of request) requested) (length nodes))))
+      then_refer (top_refers nodes facts positions request.title logs (verdict_of nodes)
+      (title_text request.title (verdict_of nodes) (heading_of nodes)) (heading_of nodes))
+      (then_refer (then_refer (timeline_refers lead (length nodes)
+      (articles nodes) logs nodes facts positions.callers positions.recipes positions.marks)
+      (tree_refers logs (options_of request) nodes shown))
+      (bare_refers (footer_parts request.dir (command request.dir (options_of request) requested) (length nodes))
+      (footer_bare request.dir (command request.dir (options_of request) requested) (length nodes))))
 
   pub page_target_ids : target_ids parts ≡ numbers_from 0 (length nodes)
   page_target_ids =
       page_refers.target_ids_are ∙ append-nil (numbers_from 0 (log_count shown))
-      ∙ ap (numbers_from 0) (keep (tree_limits logs (options_of request) nodes request.max_bytes) (contents_of events) ∙ sym (outline_counted request logs requested))
+      ∙ ap (numbers_from 0) (keep (tree_limits logs (options_of request) nodes request.max_bytes) (contents_of events)
+      ∙ sym (outline_counted request logs requested))
 
   pub page_article_ids : article_ids parts ≡ articles nodes
-  page_article_ids = page_refers.article_ids_are ∙ append-nil ((articles nodes ++ []) ++ []) ∙ append-nil (articles nodes ++ []) ∙ append-nil (articles nodes)
+  page_article_ids = page_refers.article_ids_are ∙ append-nil ((articles nodes ++ []) ++ []) ∙ append-nil (articles nodes ++ [])
+      ∙ append-nil (articles nodes)
 
   pub page_target_links : list_all (is_among (target_ids parts)) (target_links parts) ≡ true
   page_target_links =
       ap (λ ids. list_all (is_among ids) (target_links parts)) page_target_ids
-      ∙ all_weaker (λ number. nat_lt number (length nodes)) (is_among (numbers_from 0 (length nodes))) (λ number less. let below : number < length nodes = ltb-true number (length nodes) less in among_numbers 0 (length nodes) number (omega arith) (omega arith)) (target_links parts) page_refers.target_links_lead
+      ∙ all_weaker (λ number. nat_lt number (length nodes)) (is_among (numbers_from 0 (length nodes)))
+      (λ number less. let below : number < length nodes = ltb-true number (length nodes) less in
+      among_numbers 0 (length nodes) number (omega arith) (omega arith)) (target_links parts) page_refers.target_links_lead
 
   pub page_article_links : list_all (is_among (article_ids parts)) (article_links parts) ≡ true
   page_article_links = ap (λ ids. list_all (is_among ids) (article_links parts)) page_article_ids ∙ page_refers.article_links_lead
 
   pub page_section_links : section_links parts ≡ section_ids parts
   page_section_links =
-      in_sections section_link section_link_part parts ∙ ap section_links page_refers.sections_are ∙ sections_linked logs nodes facts ∙ sym (ap section_ids page_refers.sections_are) ∙ sym (in_sections section_id section_id_part parts)
+      in_sections section_link section_link_part parts ∙ ap section_links page_refers.sections_are ∙ sections_linked logs nodes facts
+      ∙ sym (ap section_ids page_refers.sections_are) ∙ sym (in_sections section_id section_id_part parts)
 
   charts_are : charts parts ≡ charts (timeline_found logs nodes facts (is_timed facts) facts.window)
   charts_are =
       in_sections part_chart chart_part parts ∙ ap charts page_refers.sections_are
-      ∙ charts_found (verdict_of nodes) (has_timeline facts) (nat_lt 0 (length (root_failures nodes))) (timeline_found logs nodes facts (is_timed facts) facts.window)
+      ∙ charts_found (verdict_of nodes) (has_timeline facts) (nat_lt 0 (length (root_failures nodes)))
+      (timeline_found logs nodes facts (is_timed facts) facts.window)
 
-  pub page_has_chart : (window : Window) → facts.window ≡ Some window → is_timed facts ≡ true → charts parts ≡ page_chart request logs requested window ∷ []
-  page_has_chart window is timed = charts_are ∙ ap (λ (w : Option Window). charts (timeline_found logs nodes facts (is_timed facts) w)) is ∙ ap (λ (b : Bool). charts (timeline_found logs nodes facts b (Some window))) timed
+  pub page_has_chart : (window : Window) → facts.window ≡ Some window → is_timed facts ≡ true
+      → charts parts ≡ page_chart request logs requested window ∷ []
+  page_has_chart window is timed = charts_are ∙ ap (λ (w : Option Window). charts (timeline_found logs nodes facts (is_timed facts) w)) is
+      ∙ ap (λ (b : Bool). charts (timeline_found logs nodes facts b (Some window))) timed
 
   pub page_has_no_chart : has_timeline facts ≡ false → charts parts ≡ []
   page_has_no_chart none = charts_are ∙ by facts.window (is_timed facts) none
     where
-      by : (window : Option Window) (timed : Bool) → (is_some window && timed) ≡ false → charts (timeline_found logs nodes facts timed window) ≡ []
+      by : (window : Option Window) (timed : Bool) → (is_some window && timed) ≡ false
+          → charts (timeline_found logs nodes facts timed window) ≡ []
       by None timed none = refl
       by (Some window) true none = absurd (cc)
       by (Some window) false none = refl

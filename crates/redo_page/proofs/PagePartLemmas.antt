@@ -35,46 +35,64 @@ part_earlier : {inner whole : List Part} (back : List Part) → IsPartOf inner w
 part_earlier {inner} back part = record {
   before = part.before;
   after = part.after ++ back;
-  splits = ap (λ t. part.before ++ t) (sym (append_assoc inner part.after back)) ∙ sym (append_assoc part.before (inner ++ part.after) back) ∙ ap (λ t. t ++ back) part.splits;
+  splits = ap (λ t. part.before ++ t) (sym (append_assoc inner part.after back)) ∙ sym (append_assoc part.before (inner ++ part.after) back)
+      ∙ ap (λ t. t ++ back) part.splits;
 }
 
 part_among : (f : ℕ → List Part) (numbers : List ℕ) (number : ℕ) → is_among numbers number ≡ true → IsPartOf (f number) (flat_map f numbers)
 part_among f [] number among = absurd (cc)
 part_among f (other ∷ numbers) number among = by (part_among f numbers number) (or_cases (number == other) (is_among numbers number) among)
   where
-    by : (is_among numbers number ≡ true → IsPartOf (f number) (flat_map f numbers)) → ((number == other) ≡ true) ⊎ (is_among numbers number ≡ true) → IsPartOf (f number) (f other ++ flat_map f numbers)
-    by later (inl same) = record { before = []; after = flat_map f numbers; splits = ap (λ n. f n ++ flat_map f numbers) (eqb-true number other same) }
+    by : (is_among numbers number ≡ true → IsPartOf (f number) (flat_map f numbers))
+        → ((number == other) ≡ true) ⊎ (is_among numbers number ≡ true) → IsPartOf (f number) (f other ++ flat_map f numbers)
+    by later (inl same) = record {
+      before = [];
+      after = flat_map f numbers;
+      splits = ap (λ n. f n ++ flat_map f numbers) (eqb-true number other same);
+    }
     by later (inr found) = part_later (f other) (later found)
 
-section_has_article : (logs : List Log) (nodes : List Node) (shown others dependents unclosed : List ℕ) (position : ℕ) → is_among shown position ≡ true → IsPartOf (article_parts logs nodes position) (section_parts logs nodes shown others dependents unclosed)
+section_has_article : (logs : List Log) (nodes : List Node) (shown others dependents unclosed : List ℕ) (position : ℕ)
+    → is_among shown position ≡ true → IsPartOf (article_parts logs nodes position)
+    (section_parts logs nodes shown others dependents unclosed)
 unfolding section_parts
 section_has_article logs nodes shown others dependents unclosed position among =
-    part_later (MarkupPart markup.FailedSection ∷ MarkupPart markup.FailedHeading ∷ TextPart WHAT_FAILED.now ∷ MarkupPart markup.EndHeading ∷ [])
+    part_later (MarkupPart markup.FailedSection ∷ MarkupPart markup.FailedHeading ∷ TextPart WHAT_FAILED.now
+    ∷ MarkupPart markup.EndHeading ∷ [])
     (part_later (list_parts logs nodes shown)
     (part_earlier (more_parts logs nodes (markup.OrderedFrom (suc max_articles)) true MORE_FAILED.now others
     ++ (more_parts logs nodes markup.Ordered false FAILED_WITH_THESE.now dependents
     ++ (more_parts logs nodes markup.Ordered false COUNT_NOT_CLOSED.now unclosed ++ MarkupPart markup.EndSection ∷ [])))
     (part_among (article_parts logs nodes) shown position among)))
 
-failed_has_article : (logs : List Log) (nodes : List Node) (position : ℕ) → is_among (articles nodes) position ≡ true → IsPartOf (article_parts logs nodes position) (failed_parts logs nodes)
+failed_has_article : (logs : List Log) (nodes : List Node) (position : ℕ) → is_among (articles nodes) position ≡ true
+    → IsPartOf (article_parts logs nodes position) (failed_parts logs nodes)
 unfolding failed_parts
 failed_has_article logs nodes position among = by (root_failures nodes) among
   where
-    some : (condition : Bool) → condition ≡ true → {inner parts : List Part} → IsPartOf inner parts → IsPartOf inner (parts_if condition parts)
+    some : (condition : Bool) → condition ≡ true → {inner parts : List Part} → IsPartOf inner parts
+        → IsPartOf inner (parts_if condition parts)
     some condition is part = rw is part
 
     by : (first : List ℕ) → is_among (take max_articles first) position ≡ true
-        → IsPartOf (article_parts logs nodes position) (parts_if (nat_lt 0 (length first)) (section_parts logs nodes (take max_articles first) (drop max_articles first) (positions_where is_dependent_failure 0 nodes) (positions_where is_unclosed 0 nodes)))
+        → IsPartOf (article_parts logs nodes position)
+        (parts_if (nat_lt 0 (length first))
+        (section_parts logs nodes (take max_articles first) (drop max_articles first) (positions_where is_dependent_failure 0 nodes)
+        (positions_where is_unclosed 0 nodes)))
     by [] is = absurd (cc)
     by (other ∷ positions) is =
         some (nat_lt 0 (length (other ∷ positions))) (lt-ltb 0 (length (other ∷ positions)) (omega arith))
-        (section_has_article logs nodes (take max_articles (other ∷ positions)) (drop max_articles (other ∷ positions)) (positions_where is_dependent_failure 0 nodes) (positions_where is_unclosed 0 nodes) position is)
+        (section_has_article logs nodes (take max_articles (other ∷ positions)) (drop max_articles (other ∷ positions))
+        (positions_where is_dependent_failure 0 nodes) (positions_where is_unclosed 0 nodes) position is)
 
-top_has_article : (title : List ℕ) (logs : List Log) (verdict : Verdict) (title_is heading : List ℕ) (nodes : List Node) (facts : Facts) (position : ℕ) → is_among (articles nodes) position ≡ true
+top_has_article : (title : List ℕ) (logs : List Log) (verdict : Verdict) (title_is heading : List ℕ) (nodes : List Node) (facts : Facts)
+    (position : ℕ) → is_among (articles nodes) position ≡ true
     → IsPartOf (article_parts logs nodes position) (top_parts_of title logs verdict title_is heading nodes facts)
 unfolding top_parts_of
 top_has_article title logs verdict title_is heading nodes facts position among =
-    part_later (head_parts title_is verdict) (part_later (header_parts title logs verdict heading nodes facts) (part_earlier (summary_parts logs nodes facts) (failed_has_article logs nodes position among)))
+    part_later (head_parts title_is verdict)
+    (part_later (header_parts title logs verdict heading nodes facts)
+    (part_earlier (summary_parts logs nodes facts) (failed_has_article logs nodes position among)))
 
 module _ (request : Request) (logs : List Log) (requested : List (List ℕ)) where
   abbrev footer : List Part
@@ -82,10 +100,15 @@ module _ (request : Request) (logs : List Log) (requested : List (List ℕ)) whe
 
   pub page_has_tree : IsPartOf (page_tree request logs requested) (page_parts request logs requested)
   unfolding page_parts
-  page_has_tree = part_later (top_parts request.title logs (page_outline request logs requested) (page_facts request logs requested)) (part_earlier footer (part_later (timeline_parts logs (page_outline request logs requested) (page_facts request logs requested)) (whole_part (page_tree request logs requested))))
+  page_has_tree = part_later (top_parts request.title logs (page_outline request logs requested) (page_facts request logs requested))
+      (part_earlier footer (part_later (timeline_parts logs (page_outline request logs requested) (page_facts request logs requested))
+      (whole_part (page_tree request logs requested))))
 
-  pub page_has_article : (position : ℕ) → is_among (articles (page_outline request logs requested)) position ≡ true → IsPartOf (page_article request logs requested position) (page_parts request logs requested)
+  pub page_has_article : (position : ℕ) → is_among (articles (page_outline request logs requested)) position ≡ true
+      → IsPartOf (page_article request logs requested position) (page_parts request logs requested)
   unfolding page_parts
   page_has_article position among =
       let nodes = page_outline request logs requested in
-      part_earlier ((timeline_parts logs nodes (page_facts request logs requested) ++ page_tree request logs requested) ++ footer) (top_has_article request.title logs (verdict_of nodes) (title_text request.title (verdict_of nodes) (heading_of nodes)) (heading_of nodes) nodes (page_facts request logs requested) position among)
+      part_earlier ((timeline_parts logs nodes (page_facts request logs requested) ++ page_tree request logs requested) ++ footer)
+      (top_has_article request.title logs (verdict_of nodes) (title_text request.title (verdict_of nodes) (heading_of nodes))
+      (heading_of nodes) nodes (page_facts request logs requested) position among)

@@ -52,7 +52,14 @@ log target entries = record { target = target; entries = entries; state = Ended 
 -- ---- what is asked
 
 abbrev request : List ℕ → Bool → Bool → Request
-request title unchanged locks = record { title = title; dir = codes "d"; unchanged = unchanged; debug_locks = locks; max_bytes = 0; times = [] }
+request title unchanged locks = record {
+  title = title;
+  dir = codes "d";
+  unchanged = unchanged;
+  debug_locks = locks;
+  max_bytes = 0;
+  times = [];
+}
 
 abbrev at : {A : Type 0} → List A → Bor (List A)
 at items = record { ref_ptr = (0, 0); now = items }
@@ -62,33 +69,81 @@ abbrev begun : Times
 begun = record { began = Some 7; ended = None }
 
 requests_are :
-    (request_of (record { title = at (codes "t"); dir = at (codes "d"); unchanged = true; debug_locks = false; max_bytes = 0; times = at [] }) ≡ request (codes "t") true false)
-    × (request_of (record { title = at []; dir = at (codes "d"); unchanged = false; debug_locks = true; max_bytes = 5; times = at (begun ∷ []) })
+    (request_of (record {
+      title = at (codes "t");
+      dir = at (codes "d");
+      unchanged = true;
+      debug_locks = false;
+      max_bytes = 0;
+      times = at [];
+    }) ≡ request (codes "t") true false)
+    × (request_of (record {
+      title = at [];
+      dir = at (codes "d");
+      unchanged = false;
+      debug_locks = true;
+      max_bytes = 5;
+      times = at (begun ∷ []);
+    })
     ≡ record (request [] false true) { max_bytes = 5; times = begun ∷ [] })
 requests_are = (refl, refl)
 
 options_are :
-    (options_of (request [] true false) ≡ record { recursive = true; unchanged = true; details = true; debug_locks = false; debug_pids = false })
-    × (options_of (request [] false true) ≡ record { recursive = true; unchanged = false; details = true; debug_locks = true; debug_pids = false })
+    (options_of (request [] true false)
+    ≡ record { recursive = true; unchanged = true; details = true; debug_locks = false; debug_pids = false })
+    × (options_of (request [] false true)
+    ≡ record { recursive = true; unchanged = false; details = true; debug_locks = true; debug_pids = false })
 options_are = (refl, refl)
 
 -- ---- what is shown
 
 abbrev made : List Log
-made = log (codes "a") (Text (codes "x") ∷ Mention 9 Made (codes "b") ∷ Closing 9 (pos 0) ∷ []) ∷ log (codes "b") (Closing 9 (pos 0) ∷ []) ∷ log (codes "c") [] ∷ []
+made = log (codes "a") (Text (codes "x") ∷ Mention 9 Made (codes "b") ∷ Closing 9 (pos 0) ∷ []) ∷ log (codes "b") (Closing 9 (pos 0) ∷ [])
+    ∷ log (codes "c") [] ∷ []
 
 -- The logs of mentioned targets, and all text lines.
 events_are :
     page_events (request [] false false) made (codes "a" ∷ [])
-    ≡ Requested (codes "a") (OpensHere 0) ∷ EntryShown 1 (Text (codes "x")) ∷ Mentioned 1 9 Made (codes "b") (OpensHere 1) ∷ EntryShown 2 (Closing 9 (pos 0)) ∷ LogEnds 2
+    ≡ Requested (codes "a") (OpensHere 0) ∷ EntryShown 1 (Text (codes "x")) ∷ Mentioned 1 9 Made (codes "b") (OpensHere 1)
+    ∷ EntryShown 2 (Closing 9 (pos 0)) ∷ LogEnds 2
     ∷ EntryShown 1 (Closing 9 (pos 0)) ∷ LogEnds 1 ∷ []
 unfolding show_log show_log_within
 events_are = refl
 
 outline_is :
     page_outline (request [] false false) made (codes "a" ∷ [])
-    ≡ record { number = 0; parent = None; status = Some (pos 0); lines = 1; bytes = 2; warnings = 0; below = 1; children = 1; others = true; warnings_below = 0; fails_below = false; silent = 0; took = None; ended = None }
-    ∷ record { number = 1; parent = Some 0; status = Some (pos 0); lines = 0; bytes = 0; warnings = 0; below = 0; children = 0; others = false; warnings_below = 0; fails_below = false; silent = 1; took = None; ended = None }
+    ≡ record {
+      number = 0;
+      parent = None;
+      status = Some (pos 0);
+      lines = 1;
+      bytes = 2;
+      warnings = 0;
+      below = 1;
+      children = 1;
+      others = true;
+      warnings_below = 0;
+      fails_below = false;
+      silent = 0;
+      took = None;
+      ended = None;
+    }
+    ∷ record {
+      number = 1;
+      parent = Some 0;
+      status = Some (pos 0);
+      lines = 0;
+      bytes = 0;
+      warnings = 0;
+      below = 0;
+      children = 0;
+      others = false;
+      warnings_below = 0;
+      fails_below = false;
+      silent = 1;
+      took = None;
+      ended = None;
+    }
     ∷ []
 unfolding show_log show_log_within
 outline_is = refl
@@ -116,8 +171,10 @@ abbrev node_times : Node → RunTimes
 node_times node = run node.took node.ended
 
 timed_outline_is :
-    (map node_times (page_outline timed made (codes "a" ∷ [])) ≡ run (Some 2500) (Some 1795829213500) ∷ run (Some 1800) (Some 1795829213000) ∷ [])
-    × (map node_times (page_outline (record timed { times = begun ∷ ran 3 9 ∷ [] }) made (codes "a" ∷ [])) ≡ run None None ∷ run (Some 6) (Some 9) ∷ [])
+    (map node_times (page_outline timed made (codes "a" ∷ []))
+    ≡ run (Some 2500) (Some 1795829213500) ∷ run (Some 1800) (Some 1795829213000) ∷ [])
+    × (map node_times (page_outline (record timed { times = begun ∷ ran 3 9 ∷ [] }) made (codes "a" ∷ []))
+    ≡ run None None ∷ run (Some 6) (Some 9) ∷ [])
 unfolding show_log show_log_within
 timed_outline_is = (refl, refl)
 
@@ -156,8 +213,10 @@ line_count contents = length (positioned_lines None 0 contents)
 -- Without a limit, or within it, all lines are shown. Otherwise, the first line ends in the first 1,024 bytes, and three lines begin in the
 -- last 3,072.
 contents_are :
-    (line_count (page_contents (limited 0) long (codes "a" ∷ [])) ≡ 5) × (line_count (page_contents (limited 5005) long (codes "a" ∷ [])) ≡ 5)
-    × (line_count (page_contents (limited 4096) long (codes "a" ∷ [])) ≡ 4) × (line_count (page_contents (limited 1) long (codes "a" ∷ [])) ≡ 4)
+    (line_count (page_contents (limited 0) long (codes "a" ∷ [])) ≡ 5)
+    × (line_count (page_contents (limited 5005) long (codes "a" ∷ [])) ≡ 5)
+    × (line_count (page_contents (limited 4096) long (codes "a" ∷ [])) ≡ 4)
+    × (line_count (page_contents (limited 1) long (codes "a" ∷ [])) ≡ 4)
     × (line_count (tree_contents long (options_of (limited 1)) 0 (codes "a" ∷ []) (page_outline (limited 1) long (codes "a" ∷ []))) ≡ 5)
 unfolding show_log show_log_within
 contents_are = (refl, refl, refl, refl, refl)
@@ -166,7 +225,9 @@ contents_are = (refl, refl, refl, refl, refl)
 made_contents :
     page_contents (request [] false false) made (codes "a" ∷ [])
     ≡ Opened (Requested (codes "a") (OpensHere 0)) 0
-    (Shown (EntryShown 1 (Text (codes "x"))) (Opened (Mentioned 1 9 Made (codes "b") (OpensHere 1)) 1 (Shown (EntryShown 2 (Closing 9 (pos 0))) Nothing) (Shown (EntryShown 1 (Closing 9 (pos 0))) Nothing))) Nothing
+    (Shown (EntryShown 1 (Text (codes "x")))
+    (Opened (Mentioned 1 9 Made (codes "b") (OpensHere 1)) 1 (Shown (EntryShown 2 (Closing 9 (pos 0))) Nothing)
+    (Shown (EntryShown 1 (Closing 9 (pos 0))) Nothing))) Nothing
 unfolding show_log show_log_within
 made_contents = refl
 
@@ -174,7 +235,8 @@ made_contents = refl
 
 abbrev head : List ℕ → Markup → List Part → List Part
 head title body rest =
-    tag markup.Doctype ∷ tag markup.Html ∷ tag markup.Head ∷ tag markup.Charset ∷ tag markup.Viewport ∷ tag markup.ColorScheme ∷ tag markup.Referrer ∷ tag markup.Policy ∷ TitlePart title ∷ StylePart
+    tag markup.Doctype ∷ tag markup.Html ∷ tag markup.Head ∷ tag markup.Charset ∷ tag markup.Viewport ∷ tag markup.ColorScheme
+    ∷ tag markup.Referrer ∷ tag markup.Policy ∷ TitlePart title ∷ StylePart
     ∷ tag markup.EndHead ∷ tag body ∷ rest
 
 abbrev item : Markup → List ℕ → List Part → List Part
@@ -183,16 +245,19 @@ item link text rest = tag markup.Item ∷ tag link ∷ words text ∷ tag markup
 abbrev tree : List Part → List Part
 tree rest =
     tag markup.TreeSection ∷ tag markup.TreeHeading ∷ words (codes "All logs") ∷ tag markup.EndHeading ∷ tag markup.QuietParagraph
-    ∷ words (codes "Each log is shown where its target is first mentioned. Logs of targets that failed are open.") ∷ tag markup.EndParagraph ∷ tag markup.Tree ∷ rest
+    ∷ words (codes "Each log is shown where its target is first mentioned. Logs of targets that failed are open.") ∷ tag markup.EndParagraph
+    ∷ tag markup.Tree ∷ rest
 
 abbrev end : List ℕ → List Part
 end command =
-    tag markup.Code ∷ words (codes "d") ∷ tag markup.EndCode ∷ words (codes ". As one text: ") ∷ tag markup.Code ∷ words command ∷ tag markup.EndCode ∷ tag markup.EndParagraph
+    tag markup.Code ∷ words (codes "d") ∷ tag markup.EndCode ∷ words (codes ". As one text: ") ∷ tag markup.Code ∷ words command
+    ∷ tag markup.EndCode ∷ tag markup.EndParagraph
     ∷ tag markup.EndFooter ∷ tag markup.EndBody ∷ tag markup.EndHtml ∷ words (codes "\n") ∷ []
 
 abbrev footer : List Part → List Part
 footer rest =
-    tag markup.EndUnordered ∷ tag markup.EndSection ∷ tag markup.EndMain ∷ tag markup.Footer ∷ tag markup.Paragraph ∷ words (codes "Made by ") ∷ tag markup.Code ∷ words (codes "redo-log-html") ∷ tag markup.EndCode ∷ words (codes " of ") ∷ rest
+    tag markup.EndUnordered ∷ tag markup.EndSection ∷ tag markup.EndMain ∷ tag markup.Footer ∷ tag markup.Paragraph
+    ∷ words (codes "Made by ") ∷ tag markup.Code ∷ words (codes "redo-log-html") ∷ tag markup.EndCode ∷ words (codes " of ") ∷ rest
 
 abbrev tile : List ℕ → List Part → List Part
 tile term rest = tag markup.Div ∷ tag markup.Term ∷ words term ∷ tag markup.EndTerm ∷ tag markup.Description ∷ rest
@@ -204,22 +269,30 @@ tile_end rest = tag markup.EndDescription ∷ tag markup.EndDiv ∷ rest
 abbrev summary : ℕ → ℕ → ℕ → List Part → List Part
 summary targets failures bytes rest =
     tag markup.SummarySection ∷ tag markup.SummaryHeading ∷ words (codes "Summary") ∷ tag markup.EndHeading ∷ tag markup.DescriptionList
-    ∷ tile (codes "Targets") (NumberPart targets ∷ tile_end (tile (codes "Failed") (NumberPart failures ∷ tile_end (tile (codes "Lines with warning:") (NumberPart 0 ∷ tile_end
+    ∷ tile (codes "Targets") (NumberPart targets
+    ∷ tile_end (tile (codes "Failed") (NumberPart failures ∷ tile_end (tile (codes "Lines with warning:") (NumberPart 0 ∷ tile_end
     (tile (codes "Logs") (NumberPart bytes ∷ words (codes " bytes") ∷ words [] ∷ words [] ∷ tile_end
-    (tag markup.EndDescriptionList ∷ tag markup.QuietParagraph ∷ words (codes "There is no timeline: the logs do not say when the targets ran.") ∷ tag markup.EndParagraph
+    (tag markup.EndDescriptionList ∷ tag markup.QuietParagraph
+    ∷ words (codes "There is no timeline: the logs do not say when the targets ran.") ∷ tag markup.EndParagraph
     ∷ tag markup.EndSection ∷ rest))))))))
 
 -- A build of two targets, with a title. `C2 B7` is a middle dot.
 made_page :
     page_parts (request (codes "t") false false) made (codes "a" ∷ [])
     ≡ head (0xE2 ∷ 0x9C ∷ 0x93 ∷ (codes " t " ++ 0xC2 ∷ 0xB7 ∷ codes " 2 targets made, none failed")) markup.BodyGood
-    (tag markup.Header ∷ tag markup.Title1 ∷ tag markup.Sign ∷ words (0xE2 ∷ 0x9C ∷ 0x93 ∷ []) ∷ tag markup.EndSign ∷ words (codes " ") ∷ words (codes "2 targets made, none failed") ∷ tag markup.EndTitle1
+    (tag markup.Header ∷ tag markup.Title1 ∷ tag markup.Sign ∷ words (0xE2 ∷ 0x9C ∷ 0x93 ∷ []) ∷ tag markup.EndSign ∷ words (codes " ")
+    ∷ words (codes "2 targets made, none failed") ∷ tag markup.EndTitle1
     ∷ tag markup.Paragraph ∷ words (codes "t") ∷ tag markup.EndParagraph ∷ tag markup.Paragraph ∷ name (codes "a") (tag markup.EndParagraph
-    ∷ tag markup.EndHeader ∷ tag markup.Nav ∷ tag markup.Unordered ∷ item markup.SummaryLink (codes "Summary") (item markup.TreeLink (codes "All logs") (tag markup.EndUnordered ∷ tag markup.EndNav ∷ tag markup.Main
+    ∷ tag markup.EndHeader ∷ tag markup.Nav ∷ tag markup.Unordered
+    ∷ item markup.SummaryLink (codes "Summary")
+    (item markup.TreeLink (codes "All logs") (tag markup.EndUnordered ∷ tag markup.EndNav ∷ tag markup.Main
     ∷ summary 2 0 2 (tree (tag markup.Item ∷ tag (markup.OpenDetails 0) ∷ tag markup.Summary ∷ name (codes "a")
-    (words (codes " ") ∷ tag markup.Small ∷ NumberPart 1 ∷ words (codes " line") ∷ tag markup.EndSmall ∷ words (codes " ") ∷ tag markup.Small ∷ NumberPart 1 ∷ words (codes " below") ∷ tag markup.EndSmall
-    ∷ tag markup.EndSummary ∷ tag markup.Unordered ∷ tag markup.Item ∷ tag markup.Pre ∷ LogPart plain_style (codes "x\n") ∷ tag markup.EndPre ∷ tag markup.EndItem
-    ∷ tag (markup.TargetItem 1) ∷ name (codes "b") (tag markup.EndItem ∷ tag markup.EndUnordered ∷ tag markup.EndDetails ∷ tag markup.EndItem
+    (words (codes " ") ∷ tag markup.Small ∷ NumberPart 1 ∷ words (codes " line") ∷ tag markup.EndSmall ∷ words (codes " ")
+    ∷ tag markup.Small ∷ NumberPart 1 ∷ words (codes " below") ∷ tag markup.EndSmall
+    ∷ tag markup.EndSummary ∷ tag markup.Unordered ∷ tag markup.Item ∷ tag markup.Pre ∷ LogPart plain_style (codes "x\n")
+    ∷ tag markup.EndPre ∷ tag markup.EndItem
+    ∷ tag (markup.TargetItem 1) ∷ name (codes "b")
+    (tag markup.EndItem ∷ tag markup.EndUnordered ∷ tag markup.EndDetails ∷ tag markup.EndItem
     ∷ footer (NumberPart 2 ∷ words (codes " logs in ") ∷ end (codes "redo-log -r --dir=d a"))))))))))
 unfolding page_parts top_parts_of summary_parts tables_parts size_words footer_parts failed_parts is_safe number_text digits show_log show_log_within
 made_page = refl
@@ -234,15 +307,23 @@ failed = log (codes "a") (Text (codes "x") ∷ Closing 9 (pos 2) ∷ []) ∷ []
 failed_page :
     page_parts (request [] true true) failed (codes "a" ∷ [])
     ≡ head (0xE2 ∷ 0x9C ∷ 0x97 ∷ codes " 1 of 1 target failed") markup.BodyBad
-    (tag markup.Header ∷ tag markup.Title1 ∷ tag markup.Sign ∷ words (0xE2 ∷ 0x9C ∷ 0x97 ∷ []) ∷ tag markup.EndSign ∷ words (codes " ") ∷ words (codes "1 of 1 target failed") ∷ tag markup.EndTitle1
+    (tag markup.Header ∷ tag markup.Title1 ∷ tag markup.Sign ∷ words (0xE2 ∷ 0x9C ∷ 0x97 ∷ []) ∷ tag markup.EndSign ∷ words (codes " ")
+    ∷ words (codes "1 of 1 target failed") ∷ tag markup.EndTitle1
     ∷ tag markup.Paragraph ∷ name (codes "a") (badge (tag markup.EndParagraph
-    ∷ tag markup.EndHeader ∷ tag markup.Nav ∷ tag markup.Unordered ∷ item markup.FailedLink (codes "What failed") (item markup.SummaryLink (codes "Summary") (item markup.TreeLink (codes "All logs") (tag markup.EndUnordered ∷ tag markup.EndNav ∷ tag markup.Main
+    ∷ tag markup.EndHeader ∷ tag markup.Nav ∷ tag markup.Unordered
+    ∷ item markup.FailedLink (codes "What failed")
+    (item markup.SummaryLink (codes "Summary")
+    (item markup.TreeLink (codes "All logs") (tag markup.EndUnordered ∷ tag markup.EndNav ∷ tag markup.Main
     ∷ tag markup.FailedSection ∷ tag markup.FailedHeading ∷ words (codes "What failed") ∷ tag markup.EndHeading
-    ∷ tag (markup.Article 0) ∷ tag markup.Title3 ∷ name (codes "a") (badge (tag markup.EndTitle3 ∷ tag markup.MetaParagraph ∷ tag (markup.TargetLink 0) ∷ words (codes "its place in the tree") ∷ tag markup.EndLink ∷ tag markup.EndParagraph
+    ∷ tag (markup.Article 0) ∷ tag markup.Title3
+    ∷ name (codes "a") (badge (tag markup.EndTitle3 ∷ tag markup.MetaParagraph ∷ tag (markup.TargetLink 0)
+    ∷ words (codes "its place in the tree") ∷ tag markup.EndLink ∷ tag markup.EndParagraph
     ∷ tag markup.Pre ∷ LogPart plain_style (codes "x\n") ∷ tag markup.EndPre ∷ tag markup.EndArticle ∷ tag markup.EndSection
     ∷ summary 1 1 2 (tree (tag markup.Item ∷ tag (markup.OpenDetails 0) ∷ tag markup.Summary ∷ name (codes "a") (badge
-    (words (codes " ") ∷ tag markup.Small ∷ NumberPart 1 ∷ words (codes " line") ∷ tag markup.EndSmall ∷ tag markup.EndSummary ∷ tag markup.Unordered
-    ∷ tag markup.NoteItem ∷ tag (markup.OutputLink 0) ∷ words (codes "What it printed is shown above") ∷ tag markup.EndLink ∷ tag markup.EndItem ∷ tag markup.EndUnordered ∷ tag markup.EndDetails ∷ tag markup.EndItem
+    (words (codes " ") ∷ tag markup.Small ∷ NumberPart 1 ∷ words (codes " line") ∷ tag markup.EndSmall ∷ tag markup.EndSummary
+    ∷ tag markup.Unordered
+    ∷ tag markup.NoteItem ∷ tag (markup.OutputLink 0) ∷ words (codes "What it printed is shown above") ∷ tag markup.EndLink
+    ∷ tag markup.EndItem ∷ tag markup.EndUnordered ∷ tag markup.EndDetails ∷ tag markup.EndItem
     ∷ footer (NumberPart 1 ∷ words (codes " log in ") ∷ end (codes "redo-log -r -u --debug-locks --dir=d a"))))))))))))))
 unfolding page_parts top_parts_of summary_parts tables_parts size_words footer_parts failed_parts section_parts list_parts more_parts article_parts article_of path_parts in_tree_parts output_parts whole_parts is_safe number_text digits show_log show_log_within
 failed_page = refl
@@ -263,13 +344,15 @@ milestone part = []
 
 made_milestones :
     flat_map milestone (page_parts (request (codes "t") false false) made (codes "a" ∷ []))
-    ≡ markup.Head ∷ markup.Header ∷ markup.Nav ∷ markup.Main ∷ markup.SummarySection ∷ markup.TreeSection ∷ markup.Footer ∷ markup.EndHtml ∷ []
+    ≡ markup.Head ∷ markup.Header ∷ markup.Nav ∷ markup.Main ∷ markup.SummarySection ∷ markup.TreeSection ∷ markup.Footer
+    ∷ markup.EndHtml ∷ []
 unfolding page_parts top_parts_of summary_parts tables_parts size_words footer_parts failed_parts is_safe number_text digits show_log show_log_within
 made_milestones = refl
 
 failed_milestones :
     flat_map milestone (page_parts (request [] true true) failed (codes "a" ∷ []))
-    ≡ markup.Head ∷ markup.Header ∷ markup.Nav ∷ markup.Main ∷ markup.FailedSection ∷ markup.SummarySection ∷ markup.TreeSection ∷ markup.Footer ∷ markup.EndHtml ∷ []
+    ≡ markup.Head ∷ markup.Header ∷ markup.Nav ∷ markup.Main ∷ markup.FailedSection ∷ markup.SummarySection ∷ markup.TreeSection
+    ∷ markup.Footer ∷ markup.EndHtml ∷ []
 unfolding page_parts top_parts_of summary_parts tables_parts size_words footer_parts failed_parts section_parts list_parts more_parts article_parts article_of path_parts in_tree_parts output_parts whole_parts is_safe number_text digits show_log show_log_within
 failed_milestones = refl
 
@@ -291,7 +374,8 @@ failures_in_order = (refl, refl)
 -- If most times are known, there is a timeline.
 timed_milestones :
     flat_map milestone (page_parts timed made (codes "a" ∷ []))
-    ≡ markup.Head ∷ markup.Header ∷ markup.Nav ∷ markup.Main ∷ markup.SummarySection ∷ markup.TimelineSection ∷ markup.TreeSection ∷ markup.Footer ∷ markup.EndHtml ∷ []
+    ≡ markup.Head ∷ markup.Header ∷ markup.Nav ∷ markup.Main ∷ markup.SummarySection ∷ markup.TimelineSection ∷ markup.TreeSection
+    ∷ markup.Footer ∷ markup.EndHtml ∷ []
 unfolding page_parts top_parts_of summary_parts tables_parts table_parts rank_parts size_words tenths_words duration_words dates.date_text_of dates.date_parts dates.period_of footer_parts failed_parts is_safe number_text digits show_log show_log_within
 timed_milestones = refl
 
@@ -300,7 +384,8 @@ facts = page_facts timed made (codes "a" ∷ [])
 
 -- The page of these facts has a timeline, too, and the tree of the contents.
 body_is :
-    flat_map milestone (body_parts made (options_of timed) 0 (codes "a" ∷ []) (page_outline timed made (codes "a" ∷ [])) facts) ≡ markup.TimelineSection ∷ markup.TreeSection ∷ []
+    flat_map milestone (body_parts made (options_of timed) 0 (codes "a" ∷ []) (page_outline timed made (codes "a" ∷ [])) facts)
+    ≡ markup.TimelineSection ∷ markup.TreeSection ∷ []
 unfolding duration_words show_log show_log_within
 body_is = refl
 
@@ -310,13 +395,15 @@ chart_count (ChartPart drawing) = 1
 chart_count part = 0
 
 charts_are :
-    (sum_by chart_count (page_parts timed made (codes "a" ∷ [])) ≡ 1) × (sum_by chart_count (page_parts (request [] false false) made (codes "a" ∷ [])) ≡ 0)
+    (sum_by chart_count (page_parts timed made (codes "a" ∷ [])) ≡ 1)
+    × (sum_by chart_count (page_parts (request [] false false) made (codes "a" ∷ [])) ≡ 0)
 unfolding page_parts top_parts_of summary_parts tables_parts table_parts rank_parts size_words tenths_words duration_words dates.date_text_of dates.date_parts dates.period_of footer_parts failed_parts is_safe number_text digits show_log show_log_within
 charts_are = (refl, refl)
 
 -- The tree of a page shows these lines.
 limited_page :
-    (length (log_bytes (page_parts (limited 0) long (codes "a" ∷ []))) ≡ 5005) × (length (log_bytes (page_parts (limited 1) long (codes "a" ∷ []))) ≡ 4004)
+    (length (log_bytes (page_parts (limited 0) long (codes "a" ∷ []))) ≡ 5005)
+    × (length (log_bytes (page_parts (limited 1) long (codes "a" ∷ []))) ≡ 4004)
 unfolding page_parts top_parts_of summary_parts tables_parts size_words footer_parts failed_parts is_safe number_text digits show_log show_log_within
 limited_page = (refl, refl)
 
@@ -328,7 +415,8 @@ abbrev words_of : Part → List (List ℕ)
 words_of (TextPart text) = text ∷ []
 words_of part = []
 
-title_is : flat_map title_of (page_parts (request (codes "t") false false) made (codes "a" ∷ [])) ≡ (0xE2 ∷ 0x9C ∷ 0x93 ∷ (codes " t " ++ 0xC2 ∷ 0xB7 ∷ codes " 2 targets made, none failed")) ∷ []
+title_is : flat_map title_of (page_parts (request (codes "t") false false) made (codes "a" ∷ []))
+    ≡ (0xE2 ∷ 0x9C ∷ 0x93 ∷ (codes " t " ++ 0xC2 ∷ 0xB7 ∷ codes " 2 targets made, none failed")) ∷ []
 unfolding page_parts top_parts_of summary_parts tables_parts size_words footer_parts failed_parts is_safe number_text digits show_log show_log_within
 title_is = refl
 
@@ -339,12 +427,14 @@ unfolding page_parts top_parts_of summary_parts tables_parts size_words footer_p
 made_words = refl
 
 failed_words :
-    take 3 (flat_map words_of (page_parts (request [] true true) failed (codes "a" ∷ []))) ≡ (0xE2 ∷ 0x9C ∷ 0x97 ∷ []) ∷ codes " " ∷ codes "1 of 1 target failed" ∷ []
+    take 3 (flat_map words_of (page_parts (request [] true true) failed (codes "a" ∷ [])))
+    ≡ (0xE2 ∷ 0x9C ∷ 0x97 ∷ []) ∷ codes " " ∷ codes "1 of 1 target failed" ∷ []
 unfolding page_parts top_parts_of summary_parts tables_parts size_words footer_parts failed_parts section_parts list_parts more_parts article_parts article_of path_parts in_tree_parts output_parts whole_parts is_safe number_text digits show_log show_log_within
 failed_words = refl
 
 command_is :
-    filter (λ text. starts_with nat_eq text (codes "redo-log -r")) (flat_map words_of (page_parts (request [] true true) failed (codes "a" ∷ []))) ≡ codes "redo-log -r -u --debug-locks --dir=d a" ∷ []
+    filter (λ text. starts_with nat_eq text (codes "redo-log -r"))
+    (flat_map words_of (page_parts (request [] true true) failed (codes "a" ∷ []))) ≡ codes "redo-log -r -u --debug-locks --dir=d a" ∷ []
 unfolding page_parts top_parts_of summary_parts tables_parts size_words footer_parts failed_parts section_parts list_parts more_parts article_parts article_of path_parts in_tree_parts output_parts whole_parts is_safe number_text digits show_log show_log_within
 command_is = refl
 

@@ -26,45 +26,58 @@ module _ {W : Type 0} (written : W → Option Output) where
   upto_start page parts left whole = record { first = []; wrote = wrote_nothing page; whole = whole }
 
   pub upto_next : (before middle after : PageWriter W) (parts left next rest : List Part)
-      → WrotePartsUpTo written before middle parts left → WroteParts written middle after next → left ≡ next ++ rest → WrotePartsUpTo written before after parts rest
+      → WrotePartsUpTo written before middle parts left → WroteParts written middle after next → left ≡ next ++ rest
+      → WrotePartsUpTo written before after parts rest
   upto_next before middle after parts left next rest so_far wrote splits = record {
     first = so_far.first ++ next;
     wrote = wrote_then so_far.wrote wrote;
     whole = so_far.whole ∙ ap (λ (others : List Part). so_far.first ++ others) splits ∙ sym (append_assoc so_far.first next rest);
   }
 
-  pub upto_last : (before middle after : PageWriter W) (parts left : List Part) → WrotePartsUpTo written before middle parts left → WroteParts written middle after left → WroteParts written before after parts
+  pub upto_last : (before middle after : PageWriter W) (parts left : List Part) → WrotePartsUpTo written before middle parts left
+      → WroteParts written middle after left → WroteParts written before after parts
   upto_last before middle after parts left so_far wrote =
       subst (WroteParts written before after) (sym so_far.whole) (wrote_then so_far.wrote wrote)
 
-  pub upto_end : (before now : PageWriter W) (parts : List Part) → WrotePartsUpTo written before now parts [] → WroteParts written before now parts
+  pub upto_end : (before now : PageWriter W) (parts : List Part) → WrotePartsUpTo written before now parts []
+      → WroteParts written before now parts
   upto_end before now parts so_far = upto_last before now now parts [] so_far (wrote_nothing now)
 
   -- Parts that depend on a condition which holds.
-  pub wrote_if : (before now : PageWriter W) (condition : Bool) (parts : List Part) → condition ≡ true → WroteParts written before now parts → WroteParts written before now (parts_if condition parts)
+  pub wrote_if : (before now : PageWriter W) (condition : Bool) (parts : List Part) → condition ≡ true → WroteParts written before now parts
+      → WroteParts written before now (parts_if condition parts)
   wrote_if before now condition parts is wrote = subst (λ (b : Bool). WroteParts written before now (parts_if b parts)) (sym is) wrote
 
-  pub wrote_unless : (page : PageWriter W) (condition : Bool) (parts : List Part) → condition ≡ false → WroteParts written page page (parts_if condition parts)
+  pub wrote_unless : (page : PageWriter W) (condition : Bool) (parts : List Part) → condition ≡ false
+      → WroteParts written page page (parts_if condition parts)
   wrote_unless page condition parts is = subst (λ (b : Bool). WroteParts written page page (parts_if b parts)) (sym is) (wrote_nothing page)
 
-  pub wrote_as : (before now : PageWriter W) (parts others : List Part) → parts ≡ others → WroteParts written before now parts → WroteParts written before now others
+  pub wrote_as : (before now : PageWriter W) (parts others : List Part) → parts ≡ others → WroteParts written before now parts
+      → WroteParts written before now others
   wrote_as before now parts others same wrote = subst (WroteParts written before now) same wrote
 
   -- ---- lines
 
-  unless_styled : (failed : Bool) (before after : Option Output) (style right : Style) (lines : List (List ℕ)) (now_failed : Bool) → (failed ≡ false → style ≡ right)
-      → WroteUnless failed before after (line_parts style lines) now_failed → WroteUnless failed before after (line_parts right lines) now_failed
+  unless_styled : (failed : Bool) (before after : Option Output) (style right : Style) (lines : List (List ℕ)) (now_failed : Bool)
+      → (failed ≡ false → style ≡ right)
+      → WroteUnless failed before after (line_parts style lines) now_failed
+      → WroteUnless failed before after (line_parts right lines) now_failed
   unless_styled true before after style right lines now_failed is wrote = wrote
-  unless_styled false before after style right lines now_failed is wrote = subst (λ (s : Style). WroteUnless false before after (line_parts s lines) now_failed) (is refl) wrote
+  unless_styled false before after style right lines now_failed is wrote =
+      subst (λ (s : Style). WroteUnless false before after (line_parts s lines) now_failed) (is refl) wrote
 
   -- A write that failed is not undone.
-  still_good : (failed : Bool) (before after : Option Output) (parts : List Part) (now_failed : Bool) → WroteUnless failed before after parts now_failed → now_failed ≡ false → failed ≡ false
+  still_good : (failed : Bool) (before after : Option Output) (parts : List Part) (now_failed : Bool)
+      → WroteUnless failed before after parts now_failed → now_failed ≡ false → failed ≡ false
   still_good true before after parts now_failed wrote good = absurd (true≢false (sym wrote.1 ∙ good))
   still_good false before after parts now_failed wrote good = refl
 
-  lines_split : (style : Style) (lines more : List (List ℕ)) → line_parts style (lines ++ more) ≡ line_parts style lines ++ line_parts (style_after_lines style lines) more
+  lines_split : (style : Style) (lines more : List (List ℕ))
+      → line_parts style (lines ++ more) ≡ line_parts style lines ++ line_parts (style_after_lines style lines) more
   lines_split style [] more = refl
-  lines_split style (line ∷ lines) more = ap (λ (parts : List Part). LogPart style (with_line_feed line) ∷ parts) (lines_split (style_after style (with_line_feed line)) lines more)
+  lines_split style (line ∷ lines) more =
+      ap (λ (parts : List Part). LogPart style (with_line_feed line) ∷ parts)
+      (lines_split (style_after style (with_line_feed line)) lines more)
 
   -- Of these parts, everything except these lines was written, or a write failed. Unless it did, `style` is the style of the first of them.
   pub record LinesLeft (before now : PageWriter W) (parts : List Part) (style : Style) (lines : List (List ℕ)) : Type 0 where
@@ -72,7 +85,8 @@ module _ {W : Type 0} (written : W → Option Output) where
     pub style_is : now.failed ≡ false → style ≡ right
     pub wrote : WrotePartsUpTo written before now parts (line_parts right lines)
 
-  pub lines_start : (page : PageWriter W) (style : Style) (lines left : List (List ℕ)) → left ≡ lines → LinesLeft page page (line_parts style lines) style left
+  pub lines_start : (page : PageWriter W) (style : Style) (lines left : List (List ℕ)) → left ≡ lines
+      → LinesLeft page page (line_parts style lines) style left
   lines_start page style lines left same = record {
     right = style;
     style_is = λ good. refl;
@@ -86,11 +100,20 @@ module _ {W : Type 0} (written : W → Option Output) where
     right = style_after_lines so_far.right lines;
     style_is = λ good.
         next_is good
-        ∙ ap (λ (s : Style). style_after_lines s lines) (so_far.style_is (still_good middle.failed (written middle.out.now) (written after.out.now) (line_parts style lines) after.failed wrote.wrote good));
-    wrote = upto_next before middle after parts (line_parts so_far.right left) (line_parts so_far.right lines) (line_parts (style_after_lines so_far.right lines) more) so_far.wrote
-        (record { out = wrote.out; wrote = unless_styled middle.failed (written middle.out.now) (written after.out.now) style so_far.right lines after.failed so_far.style_is wrote.wrote })
+        ∙ ap (λ (s : Style). style_after_lines s lines)
+        (so_far.style_is (still_good middle.failed (written middle.out.now) (written after.out.now)
+        (line_parts style lines) after.failed wrote.wrote good));
+    wrote = upto_next before middle after parts (line_parts so_far.right left) (line_parts so_far.right lines)
+        (line_parts (style_after_lines so_far.right lines) more) so_far.wrote
+        (record {
+          out = wrote.out;
+          wrote = unless_styled middle.failed (written middle.out.now)
+              (written after.out.now) style so_far.right lines after.failed so_far.style_is wrote.wrote;
+        })
         (ap (line_parts so_far.right) splits ∙ lines_split so_far.right lines more);
   }
 
-  pub lines_end : (before now : PageWriter W) (parts : List Part) (style : Style) (left : List (List ℕ)) → LinesLeft before now parts style left → left ≡ [] → WroteParts written before now parts
-  lines_end before now parts style left so_far none = upto_end before now parts (subst (WrotePartsUpTo written before now parts) (ap (line_parts so_far.right) none) so_far.wrote)
+  pub lines_end : (before now : PageWriter W) (parts : List Part) (style : Style) (left : List (List ℕ))
+      → LinesLeft before now parts style left → left ≡ [] → WroteParts written before now parts
+  lines_end before now parts style left so_far none =
+      upto_end before now parts (subst (WrotePartsUpTo written before now parts) (ap (line_parts so_far.right) none) so_far.wrote)

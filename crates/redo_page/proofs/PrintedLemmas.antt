@@ -21,7 +21,8 @@ entry_is [] i k = refl
 entry_is (log ∷ logs) zero k = refl
 entry_is (log ∷ logs) (suc i) k = entry_is logs i k
 
-drop_here : (entries : List Entry) (k : ℕ) (entry : Entry) → slice_get entries k ≡ Some entry → drop k entries ≡ entry ∷ drop (k + 1) entries
+drop_here : (entries : List Entry) (k : ℕ) (entry : Entry) → slice_get entries k ≡ Some entry
+    → drop k entries ≡ entry ∷ drop (k + 1) entries
 drop_here [] k entry is = absurd (none-some entry is)
 drop_here (first ∷ entries) zero entry is = ap (λ (e : Entry). e ∷ entries) (same_Some first entry is)
 drop_here (first ∷ entries) (suc k) entry is =
@@ -47,7 +48,8 @@ module _ (logs : List Log) (number : ℕ) where
   skipped (Closing pid status) k is none = refl
   skipped (Note pid kind text) k is none = refl
 
-  pub no_text : (entry : Entry) (k : ℕ) → entry_at number k logs ≡ Some entry → (HasText logs number k → ⊥) → texts_from logs number k ≡ texts_from logs number (k + 1)
+  pub no_text : (entry : Entry) (k : ℕ) → entry_at number k logs ≡ Some entry → (HasText logs number k → ⊥)
+      → texts_from logs number k ≡ texts_from logs number (k + 1)
   no_text entry k is none =
       ap texts_of (drop_here (entries_at number logs) k entry (sym (entry_is logs number k) ∙ is))
       ∙ ap (λ (text : Option (List ℕ)). cons_option text (texts_from logs number (k + 1))) (skipped entry k is none)
@@ -55,7 +57,8 @@ module _ (logs : List Log) (number : ℕ) where
   pub within : (entry : Entry) (k : ℕ) → entry_at number k logs ≡ Some entry → k < length (entries_at number logs)
   within entry k is = slice_get_within (entries_at number logs) k entry (sym (entry_is logs number k) ∙ is)
 
-  texts_are : (k : ℕ) (texts : List (List ℕ)) → AreTexts logs number k texts → texts_from logs number k ≡ texts ++ texts_from logs number (k + length texts)
+  texts_are : (k : ℕ) (texts : List (List ℕ)) → AreTexts logs number k texts
+      → texts_from logs number k ≡ texts ++ texts_from logs number (k + length texts)
   texts_are k [] are = let same : k ≡ k + 0 = omega arith in ap (texts_from logs number) same
   texts_are k (text ∷ texts) are =
       let same : k + 1 + length texts ≡ k + suc (length texts) = omega arith in
@@ -63,13 +66,16 @@ module _ (logs : List Log) (number : ℕ) where
       ∙ ap (λ (left : List (List ℕ)). text ∷ left) (texts_are (k + 1) texts are.1 ∙ ap (λ (n : ℕ). texts ++ texts_from logs number n) same)
 
   -- Lines that are stored together.
-  pub next_texts : (k : ℕ) (bytes : List ℕ) (count : ℕ) → 0 < count → AreLinesAt logs number k bytes count → AreNextLines logs number k bytes (k + count)
+  pub next_texts : (k : ℕ) (bytes : List ℕ) (count : ℕ) → 0 < count → AreLinesAt logs number k bytes count
+      → AreNextLines logs number k bytes (k + count)
   next_texts k bytes count some lines = record {
     complete = sym only.1;
-    split = texts_are k lines.texts lines.are ∙ ap (λ (texts : List (List ℕ)). texts ++ texts_from logs number (k + length lines.texts)) only.0
+    split = texts_are k lines.texts lines.are
+        ∙ ap (λ (texts : List (List ℕ)). texts ++ texts_from logs number (k + length lines.texts)) only.0
         ∙ ap (λ (n : ℕ). ended bytes ++ texts_from logs number (k + n)) lines.count_is;
     count = let same = ap length only.0 in let count_is = lines.count_is in omega (arith, same, count_is);
-    none = λ empty. let no_lines = ap length (only.0 ∙ ap ended empty ∙ ended-free [] tt) in let count_is = lines.count_is in absurd (omega (arith, no_lines, count_is, some));
+    none = λ empty. let no_lines = ap length (only.0 ∙ ap ended empty ∙ ended-free [] tt) in let count_is = lines.count_is in
+        absurd (omega (arith, no_lines, count_is, some));
   }
     where
       only : (lines.texts ≡ ended bytes) × ([] ≡ rest bytes)
@@ -80,7 +86,8 @@ module _ (logs : List Log) (number : ℕ) where
       })
 
   -- Lines that follow entries which are no text lines.
-  pub later_lines : (next k : ℕ) (bytes : List ℕ) (after : ℕ) → next ≤ k → texts_from logs number next ≡ texts_from logs number k → AreNextLines logs number k bytes after → AreNextLines logs number next bytes after
+  pub later_lines : (next k : ℕ) (bytes : List ℕ) (after : ℕ) → next ≤ k → texts_from logs number next ≡ texts_from logs number k
+      → AreNextLines logs number k bytes after → AreNextLines logs number next bytes after
   later_lines next k bytes after low same lines = record {
     complete = lines.complete;
     split = same ∙ lines.split;
@@ -105,7 +112,8 @@ module _ (logs : List Log) (number : ℕ) where
     none = λ empty. absurd (some empty);
   }
 
-  pub refilled : (stretch : List ℕ) (next : ℕ) (lines : List ℕ) (after : ℕ) → stretch ≡ [] → AreNextLines logs number next lines after → IsRefilled logs number stretch next lines after
+  pub refilled : (stretch : List ℕ) (next : ℕ) (lines : List ℕ) (after : ℕ) → stretch ≡ [] → AreNextLines logs number next lines after
+      → IsRefilled logs number stretch next lines after
   refilled stretch next lines after empty are = record {
     complete = are.complete;
     left = ap (λ (texts : List (List ℕ)). texts ++ texts_from logs number next) none ∙ are.split;
@@ -117,7 +125,8 @@ module _ (logs : List Log) (number : ℕ) where
       none = ap ended empty ∙ ended-free [] tt
 
 -- The first line of a stretch.
-module _ (bytes : List ℕ) (at : ℕ) (found : NoneBefore (Passes (is_byte line_feed) bytes) 0 (length bytes) at × Passes (is_byte line_feed) bytes at) where
+module _ (bytes : List ℕ) (at : ℕ) (found : NoneBefore (Passes (is_byte line_feed) bytes) 0 (length bytes) at
+    × Passes (is_byte line_feed) bytes at) where
   after_line : List ℕ
   after_line = take (length bytes - (at + 1)) (drop (at + 1) bytes)
 
@@ -133,7 +142,8 @@ module _ (bytes : List ℕ) (at : ℕ) (found : NoneBefore (Passes (is_byte line
       ∙ append_assoc (take at bytes) (line_feed ∷ []) (drop (at + 1) bytes)
 
   pub first_line : ended bytes ≡ take at bytes ∷ ended (take (length bytes - (at + 1)) (drop (at + 1) bytes))
-  first_line = ap ended parts ∙ ended-line (take at bytes) (drop (at + 1) bytes) free ∙ ap (λ (b : List ℕ). take at bytes ∷ ended b) (sym after_is)
+  first_line = ap ended parts ∙ ended-line (take at bytes) (drop (at + 1) bytes) free
+      ∙ ap (λ (b : List ℕ). take at bytes ∷ ended b) (sym after_is)
 
   pub rest_after : rest bytes ≡ rest (take (length bytes - (at + 1)) (drop (at + 1) bytes))
   rest_after = ap rest parts ∙ rest-line (take at bytes) (drop (at + 1) bytes) free ∙ ap rest (sym after_is)
@@ -150,5 +160,6 @@ pub some_lines : (bytes : List ℕ) → rest bytes ≡ [] → (bytes ≡ [] → 
 some_lines bytes complete some = by (ended bytes) refl
   where
     by : (lines : List (List ℕ)) → ended bytes ≡ lines → 0 < length lines
-    by [] none = absurd (some ((are_lines bytes).whole ∙ ap (λ (lines : List (List ℕ)). flat_map with_line_feed lines ++ rest bytes) none ∙ complete))
+    by [] none = absurd (some ((are_lines bytes).whole ∙ ap (λ (lines : List (List ℕ)). flat_map with_line_feed lines ++ rest bytes) none
+        ∙ complete))
     by (line ∷ lines) is = omega arith

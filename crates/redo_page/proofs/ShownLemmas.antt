@@ -10,7 +10,9 @@ use Rattle.redo_page.specs.Tree.{Build, after_item, after_shown, is_seen, item_p
 
 module _ (build : Build) (level : Level) (before : Pending) where
   -- Such an event is no text line.
-  pub alone_parts : (event : EventRef) → IsWrittenAlone event → shown_parts build level before (event_value event) ≡ item_parts before (is_seen build level (event_value event)) (seen_parts build (event_value event))
+  pub alone_parts : (event : EventRef) → IsWrittenAlone event
+      → shown_parts build level before (event_value event)
+      ≡ item_parts before (is_seen build level (event_value event)) (seen_parts build (event_value event))
   alone_parts (ref.Requested name opening) alone = refl
   alone_parts (ref.Mentioned depth pid how name opening) alone = refl
   alone_parts (ref.LogEnds depth) alone = refl
@@ -20,7 +22,8 @@ module _ (build : Build) (level : Level) (before : Pending) where
   alone_parts (ref.EntryShown depth (entry.Closing pid status)) alone = refl
   alone_parts (ref.EntryShown depth (entry.Note pid kind text)) alone = refl
 
-  pub after_alone : (event : EventRef) → IsWrittenAlone event → after_shown build level before (event_value event) ≡ after_item before (is_seen build level (event_value event))
+  pub after_alone : (event : EventRef) → IsWrittenAlone event
+      → after_shown build level before (event_value event) ≡ after_item before (is_seen build level (event_value event))
   after_alone (ref.Requested name opening) alone = refl
   after_alone (ref.Mentioned depth pid how name opening) alone = refl
   after_alone (ref.LogEnds depth) alone = refl

@@ -45,14 +45,18 @@ tiles_bare facts targets roots dependents =
     let logs = tile LOGS.now (words_parts (size_words facts.bytes)) in
     let warnings = tile WARNED_LINES.now (NumberPart facts.warnings ∷ []) in
     let failed = tile FAILED.now (failed_counts roots dependents) in
-    bare_then (tile TARGETS.now (NumberPart targets ∷ [])) (failed ++ (warnings ++ (logs ++ timed))) (tile_bare TARGETS.now (NumberPart targets ∷ []) refl)
+    bare_then (tile TARGETS.now (NumberPart targets ∷ [])) (failed ++ (warnings ++ (logs ++ timed)))
+    (tile_bare TARGETS.now (NumberPart targets ∷ []) refl)
     (bare_then failed (warnings ++ (logs ++ timed)) (tile_bare FAILED.now (failed_counts roots dependents) (failed_bare roots dependents))
     (bare_then warnings (logs ++ timed) (tile_bare WARNED_LINES.now (NumberPart facts.warnings ∷ []) refl)
     (bare_then logs timed (tile_bare LOGS.now (words_parts (size_words facts.bytes)) (plain_bare (size_words facts.bytes)))
-    (bare_then (took_tile facts) (timed_tiles facts) (bare_if (is_some facts.window) (tile TOOK.now (words_parts (duration_words facts.took))) (tile_bare TOOK.now (words_parts (duration_words facts.took)) (plain_bare (duration_words facts.took))))
+    (bare_then (took_tile facts) (timed_tiles facts)
+    (bare_if (is_some facts.window) (tile TOOK.now (words_parts (duration_words facts.took)))
+    (tile_bare TOOK.now (words_parts (duration_words facts.took)) (plain_bare (duration_words facts.took))))
     (bare_if (is_timed facts) (sum ++ at_once)
     (bare_then sum at_once (tile_bare SUM_OF_TIMES.now (words_parts (duration_words facts.sum)) (plain_bare (duration_words facts.sum)))
-    (tile_bare AT_ONCE.now (at_once_parts facts) (words_bare [] (TextPart AT_MOST.now ∷ NumberPart facts.most ∷ []) (tenths_words facts.sum facts.took) refl refl))))))))
+    (tile_bare AT_ONCE.now (at_once_parts facts)
+    (words_bare [] (TextPart AT_MOST.now ∷ NumberPart facts.most ∷ []) (tenths_words facts.sum facts.took) refl refl))))))))
 
 measure_bare : (measure : Measure) (value : ℕ) → Bare (measure_parts measure value)
 measure_bare Milliseconds value = plain_bare (duration_words value)
@@ -68,27 +72,36 @@ why_bare facts = bare_if (not (is_timed facts)) _ (by (known_count facts == 0))
     by false = refl
 
 module _ (count : ℕ) (listed : List ℕ) (logs : List Log) (nodes : List Node) where
-  row_refers : (measure : Measure) (largest : ℕ) (rank : Rank) → rank.position < count → Refer count listed (rank_parts logs nodes measure largest rank) [] []
+  row_refers : (measure : Measure) (largest : ℕ) (rank : Rank) → rank.position < count
+      → Refer count listed (rank_parts logs nodes measure largest rank) [] []
   unfolding rank_parts
   row_refers measure largest rank below =
       let name = target_at logs (node_at nodes rank.position).number in
-      same_refer {others = linked_parts (Some rank.position) name} (simp (flat_map-append, badge_bare (node_at nodes rank.position).status, measure_bare measure rank.value))
+      same_refer {others = linked_parts (Some rank.position) name}
+      (simp (flat_map-append, badge_bare (node_at nodes rank.position).status, measure_bare measure rank.value))
       (linked_refers (Some rank.position) name (lt-ltb rank.position count below))
 
-  rows_refer : (measure : Measure) (largest : ℕ) (ranks : List Rank) → AreRanksBelow count ranks → Refer count listed (flat_map (rank_parts logs nodes measure largest) ranks) [] []
+  rows_refer : (measure : Measure) (largest : ℕ) (ranks : List Rank) → AreRanksBelow count ranks
+      → Refer count listed (flat_map (rank_parts logs nodes measure largest) ranks) [] []
   rows_refer measure largest [] below = bare_refers [] refl
-  rows_refer measure largest (rank ∷ ranks) below = then_refer (row_refers measure largest rank below.0) (rows_refer measure largest ranks below.1)
+  rows_refer measure largest (rank ∷ ranks) below =
+      then_refer (row_refers measure largest rank below.0) (rows_refer measure largest ranks below.1)
 
-  table_refers : (measure : Measure) (heading : List ℕ) (ranks : List Rank) → AreRanksBelow count ranks → Refer count listed (table_parts logs nodes measure heading ranks) [] []
+  table_refers : (measure : Measure) (heading : List ℕ) (ranks : List Rank) → AreRanksBelow count ranks
+      → Refer count listed (table_parts logs nodes measure heading ranks) [] []
   unfolding table_parts
   table_refers measure heading ranks below =
-      refer_if (not (length ranks == 0)) (same_refer {others = flat_map (rank_parts logs nodes measure (largest_of ranks)) ranks} (simp (flat_map-append, append-nil)) (rows_refer measure (largest_of ranks) ranks below))
+      refer_if (not (length ranks == 0))
+      (same_refer {others = flat_map (rank_parts logs nodes measure (largest_of ranks)) ranks} (simp (flat_map-append, append-nil))
+      (rows_refer measure (largest_of ranks) ranks below))
 
-  tables_refer : (longest warned : List Rank) → AreRanksBelow count longest → AreRanksBelow count warned → Refer count listed (tables_parts logs nodes longest warned) [] []
+  tables_refer : (longest warned : List Rank) → AreRanksBelow count longest → AreRanksBelow count warned
+      → Refer count listed (tables_parts logs nodes longest warned) [] []
   unfolding tables_parts
   tables_refer longest warned longest_below warned_below =
       refer_if (not (length longest == 0 && length warned == 0))
-      (same_refer {others = table_parts logs nodes Milliseconds LONGEST.now longest ++ table_parts logs nodes Count MOST_WARNINGS.now warned} (simp (flat_map-append, append-nil))
+      (same_refer {others = table_parts logs nodes Milliseconds LONGEST.now longest
+      ++ table_parts logs nodes Count MOST_WARNINGS.now warned} (simp (flat_map-append, append-nil))
       (then_refer (table_refers Milliseconds LONGEST.now longest longest_below) (table_refers Count MOST_WARNINGS.now warned warned_below)))
 
   longest_below : (facts : Facts) → AreRanksBelow count facts.longest → AreRanksBelow count (shown_longest facts)
@@ -98,10 +111,18 @@ module _ (count : ℕ) (listed : List ℕ) (logs : List Log) (nodes : List Node)
       by true = below
       by false = tt
 
-  pub summary_refers : (facts : Facts) → AreRanksBelow count facts.longest → AreRanksBelow count facts.warned → Refers count listed (summary_parts logs nodes facts) [] [] (MarkupPart SummarySection ∷ [])
+  pub summary_refers : (facts : Facts) → AreRanksBelow count facts.longest → AreRanksBelow count facts.warned
+      → Refers count listed (summary_parts logs nodes facts) [] [] (MarkupPart SummarySection ∷ [])
   unfolding summary_parts
   summary_refers facts longest warned =
       same_refer {others = MarkupPart SummarySection ∷ tables_parts logs nodes (shown_longest facts) facts.warned}
-      (simp (flat_map-append, append-nil, tiles_bare facts (length nodes) (length (root_failures nodes)) (length (positions_where is_dependent_failure 0 nodes)), why_bare facts))
-      (then_refer {parts = MarkupPart SummarySection ∷ []} (record { target_ids_are = refl; article_ids_are = refl; target_links_lead = refl; article_links_lead = refl; sections_are = refl })
+      (simp (
+        flat_map-append,
+        append-nil,
+        tiles_bare facts (length nodes) (length (root_failures nodes))
+            (length (positions_where is_dependent_failure 0 nodes)),
+        why_bare facts,
+      ))
+      (then_refer {parts = MarkupPart SummarySection ∷ []}
+      (record { target_ids_are = refl; article_ids_are = refl; target_links_lead = refl; article_links_lead = refl; sections_are = refl })
       (tables_refer (shown_longest facts) facts.warned (longest_below facts longest) warned))

@@ -31,7 +31,8 @@ tile_nests term description nests =
     (then_lead (lead_in (codes "dd" ∷ codes "div" ∷ []) nests) (record { leads = λ around tags. refl }))
 
 failed_nest : (roots dependents : ℕ) → Nest (failed_counts roots dependents)
-failed_nest roots dependents = then_lead {middle = []} {parts = NumberPart roots ∷ []} (record { leads = λ around tags. refl }) (nest_if (not (dependents == 0)) (record { leads = λ around tags. refl }))
+failed_nest roots dependents = then_lead {middle = []} {parts = NumberPart roots ∷ []} (record { leads = λ around tags. refl })
+    (nest_if (not (dependents == 0)) (record { leads = λ around tags. refl }))
 
 number_nests : (number : ℕ) → Nest (NumberPart number ∷ [])
 number_nests number = record { leads = λ around tags. refl }
@@ -42,10 +43,12 @@ tiles_nest facts targets roots dependents =
     (then_lead (tile_nests FAILED.now (failed_counts roots dependents) (failed_nest roots dependents))
     (then_lead (tile_nests WARNED_LINES.now (NumberPart facts.warnings ∷ []) (number_nests facts.warnings))
     (then_lead (tile_nests LOGS.now (words_parts (size_words facts.bytes)) (plain_nests (size_words facts.bytes)))
-    (then_lead (nest_if (is_some facts.window) (tile_nests TOOK.now (words_parts (duration_words facts.took)) (plain_nests (duration_words facts.took))))
+    (then_lead (nest_if (is_some facts.window)
+    (tile_nests TOOK.now (words_parts (duration_words facts.took)) (plain_nests (duration_words facts.took))))
     (nest_if (is_timed facts)
     (then_lead (tile_nests SUM_OF_TIMES.now (words_parts (duration_words facts.sum)) (plain_nests (duration_words facts.sum)))
-    (tile_nests AT_ONCE.now (at_once_parts facts) (then_lead (plain_nests (tenths_words facts.sum facts.took)) (record { leads = λ around tags. refl })))))))))
+    (tile_nests AT_ONCE.now (at_once_parts facts)
+    (then_lead (plain_nests (tenths_words facts.sum facts.took)) (record { leads = λ around tags. refl })))))))))
 
 measure_nests : (measure : Measure) (value : ℕ) → Nest (measure_parts measure value)
 measure_nests Milliseconds value = plain_nests (duration_words value)
@@ -68,15 +71,23 @@ module _ (logs : List Log) (nodes : List Node) where
   unfolding rank_parts
   row_nests measure largest rank = record {
     leads = λ around tags.
-        simp (joined, (linked_nests (Some rank.position) (target_at logs (node_at nodes rank.position).number)).leads, (badge_nests (node_at nodes rank.position).status).leads, (measure_nests measure rank.value).leads);
+        simp (
+          joined,
+          (linked_nests (Some rank.position) (target_at logs (node_at nodes rank.position).number)).leads,
+          (badge_nests (node_at nodes rank.position).status).leads,
+          (measure_nests measure rank.value).leads,
+        );
   }
 
   table_nests : (measure : Measure) (heading : List ℕ) (ranks : List Rank) → Nest (table_parts logs nodes measure heading ranks)
   unfolding table_parts
   table_nests measure heading ranks =
       nest_if (not (length ranks == 0))
-      (then_lead {middle = codes "tbody" ∷ codes "table" ∷ codes "div" ∷ []} {parts = table_start heading} (record { leads = λ around tags. refl })
-      (then_lead (lead_in (codes "tbody" ∷ codes "table" ∷ codes "div" ∷ []) (nest_each (rank_parts logs nodes measure (largest_of ranks)) (row_nests measure (largest_of ranks)) ranks)) (record { leads = λ around tags. refl })))
+      (then_lead {middle = codes "tbody" ∷ codes "table" ∷ codes "div" ∷ []} {parts = table_start heading}
+      (record { leads = λ around tags. refl })
+      (then_lead (lead_in (codes "tbody" ∷ codes "table" ∷ codes "div" ∷ [])
+      (nest_each (rank_parts logs nodes measure (largest_of ranks)) (row_nests measure (largest_of ranks)) ranks))
+      (record { leads = λ around tags. refl })))
 
   tables_nest : (longest warned : List Rank) → Nest (tables_parts logs nodes longest warned)
   unfolding tables_parts
@@ -89,8 +100,12 @@ module _ (logs : List Log) (nodes : List Node) where
   pub summary_nests : (facts : Facts) → Nest (summary_parts logs nodes facts)
   unfolding summary_parts
   summary_nests facts =
-      then_lead {middle = codes "dl" ∷ codes "section" ∷ []} {parts = MarkupPart markup.SummarySection ∷ MarkupPart markup.SummaryHeading ∷ TextPart SUMMARY.now ∷ MarkupPart markup.EndHeading ∷ MarkupPart markup.DescriptionList ∷ []} (record { leads = λ around tags. refl })
-      (then_lead (lead_in (codes "dl" ∷ codes "section" ∷ []) (tiles_nest facts (length nodes) (length (root_failures nodes)) (length (positions_where is_dependent_failure 0 nodes))))
-      (then_lead {middle = codes "section" ∷ []} {parts = MarkupPart markup.EndDescriptionList ∷ []} (record { leads = λ around tags. refl })
+      then_lead {middle = codes "dl" ∷ codes "section" ∷ []}
+      {parts = MarkupPart markup.SummarySection ∷ MarkupPart markup.SummaryHeading ∷ TextPart SUMMARY.now ∷ MarkupPart markup.EndHeading
+      ∷ MarkupPart markup.DescriptionList ∷ []} (record { leads = λ around tags. refl })
+      (then_lead (lead_in (codes "dl" ∷ codes "section" ∷ [])
+      (tiles_nest facts (length nodes) (length (root_failures nodes)) (length (positions_where is_dependent_failure 0 nodes))))
+      (then_lead {middle = codes "section" ∷ []} {parts = MarkupPart markup.EndDescriptionList ∷ []}
+      (record { leads = λ around tags. refl })
       (then_lead (lead_in (codes "section" ∷ []) (tables_nest (shown_longest facts) facts.warned))
       (then_lead (lead_in (codes "section" ∷ []) (why_nests facts)) (record { leads = λ around tags. refl })))))

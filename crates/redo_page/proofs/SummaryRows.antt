@@ -53,7 +53,19 @@ rank value position = record { value = value; position = position }
 
 -- No time is known.
 abbrev unknown : Facts
-unknown = record { window = None; took = 0; callers = []; recipes = []; marks = []; sum = 0; most = 0; warnings = 4; bytes = 46099; longest = rank 9 0 ∷ []; warned = [] }
+unknown = record {
+  window = None;
+  took = 0;
+  callers = [];
+  recipes = [];
+  marks = [];
+  sum = 0;
+  most = 0;
+  warnings = 4;
+  bytes = 46099;
+  longest = rank 9 0 ∷ [];
+  warned = [];
+}
 
 abbrev window : Window
 window = record { began = 1000; width = 90000 }
@@ -82,7 +94,8 @@ few = record known { callers = []; marks = span 0 ∷ [] }
 
 words_are :
     (word_part (NumberWord 5) ≡ number 5 ∷ []) × (word_part (TextWord (codes " s")) ≡ words (codes " s") ∷ [])
-    × (words_parts [] ≡ []) × (words_parts (NumberWord 1 ∷ TextWord (codes ".") ∷ NumberWord 0 ∷ []) ≡ number 1 ∷ words (codes ".") ∷ number 0 ∷ [])
+    × (words_parts [] ≡ []) × (words_parts (NumberWord 1 ∷ TextWord (codes ".") ∷ NumberWord 0 ∷ [])
+    ≡ number 1 ∷ words (codes ".") ∷ number 0 ∷ [])
 words_are = (refl, refl, refl, refl)
 
 -- ---- tiles
@@ -91,17 +104,20 @@ tile_is :
     (tile_start (codes "t") ≡ tag markup.Div ∷ tag markup.Term ∷ words (codes "t") ∷ tag markup.EndTerm ∷ tag markup.Description ∷ [])
     × (tile_end ≡ tag markup.EndDescription ∷ tag markup.EndDiv ∷ [])
     × (tile (codes "t") (number 5 ∷ [])
-    ≡ tag markup.Div ∷ tag markup.Term ∷ words (codes "t") ∷ tag markup.EndTerm ∷ tag markup.Description ∷ number 5 ∷ tag markup.EndDescription ∷ tag markup.EndDiv ∷ [])
+    ≡ tag markup.Div ∷ tag markup.Term ∷ words (codes "t") ∷ tag markup.EndTerm ∷ tag markup.Description ∷ number 5
+    ∷ tag markup.EndDescription ∷ tag markup.EndDiv ∷ [])
 tile_is = (refl, refl, refl)
 
 failures_are :
     (dependents_parts 0 ≡ []) × (dependents_parts 1 ≡ words (codes ", and ") ∷ number 1 ∷ words (codes " above") ∷ [])
-    × (failed_counts 0 0 ≡ number 0 ∷ []) × (failed_counts 3 0 ≡ number 3 ∷ []) × (failed_counts 3 2 ≡ number 3 ∷ words (codes ", and ") ∷ number 2 ∷ words (codes " above") ∷ [])
+    × (failed_counts 0 0 ≡ number 0 ∷ []) × (failed_counts 3 0 ≡ number 3 ∷ [])
+    × (failed_counts 3 2 ≡ number 3 ∷ words (codes ", and ") ∷ number 2 ∷ words (codes " above") ∷ [])
 failures_are = (refl, refl, refl, refl, refl)
 
 abbrev tile_of : List ℕ → List Part → List Part → List Part
 tile_of term description rest =
-    tag markup.Div ∷ tag markup.Term ∷ words term ∷ tag markup.EndTerm ∷ tag markup.Description ∷ (description ++ tag markup.EndDescription ∷ tag markup.EndDiv ∷ rest)
+    tag markup.Div ∷ tag markup.Term ∷ words term ∷ tag markup.EndTerm ∷ tag markup.Description
+    ∷ (description ++ tag markup.EndDescription ∷ tag markup.EndDiv ∷ rest)
 
 -- 125 seconds in 90 are 1.3 at once.
 at_once_is : at_once_parts known ≡ number 1 ∷ words (codes ".") ∷ number 3 ∷ words (codes ", at most ") ∷ number 2 ∷ []
@@ -109,7 +125,8 @@ unfolding tenths_words
 at_once_is = refl
 
 took_is :
-    (took_tile unknown ≡ []) × (took_tile few ≡ tile_of (codes "Took") (number 1 ∷ words (codes " min ") ∷ number 3 ∷ number 0 ∷ words (codes " s") ∷ []) [])
+    (took_tile unknown ≡ []) × (took_tile few
+    ≡ tile_of (codes "Took") (number 1 ∷ words (codes " min ") ∷ number 3 ∷ number 0 ∷ words (codes " s") ∷ []) [])
 unfolding duration_words
 took_is = (refl, refl)
 
@@ -133,7 +150,8 @@ all_tiles rest =
 tiles_are :
     (tiles known 3 1 1 ≡ all_tiles [])
     × (tiles unknown 5 2 0
-    ≡ tile_of (codes "Targets") (number 5 ∷ []) (tile_of (codes "Failed") (number 2 ∷ []) (tile_of (codes "Lines with warning:") (number 4 ∷ [])
+    ≡ tile_of (codes "Targets") (number 5 ∷ [])
+    (tile_of (codes "Failed") (number 2 ∷ []) (tile_of (codes "Lines with warning:") (number 4 ∷ [])
     (tile_of (codes "Logs") (number 46 ∷ words (codes ".") ∷ number 0 ∷ words (codes " kB") ∷ []) []))))
 unfolding duration_words size_words tenths_words
 tiles_are = (refl, refl)
@@ -145,23 +163,28 @@ words_of part = []
 
 tile_words_are :
     (flat_map words_of (tiles known 3 1 0)
-    ≡ codes "Targets" ∷ codes "Failed" ∷ codes "Lines with warning:" ∷ codes "Logs" ∷ codes " byte" ∷ [] ∷ [] ∷ codes "Took" ∷ codes " min " ∷ codes " s"
+    ≡ codes "Targets" ∷ codes "Failed" ∷ codes "Lines with warning:" ∷ codes "Logs" ∷ codes " byte" ∷ [] ∷ [] ∷ codes "Took" ∷ codes " min "
+    ∷ codes " s"
     ∷ codes "Sum of times" ∷ codes " min " ∷ codes " s" ∷ codes "At once" ∷ codes "." ∷ codes ", at most " ∷ [])
-    × (flat_map words_of (tiles unknown 5 2 0) ≡ codes "Targets" ∷ codes "Failed" ∷ codes "Lines with warning:" ∷ codes "Logs" ∷ codes "." ∷ codes " kB" ∷ [])
+    × (flat_map words_of (tiles unknown 5 2 0)
+    ≡ codes "Targets" ∷ codes "Failed" ∷ codes "Lines with warning:" ∷ codes "Logs" ∷ codes "." ∷ codes " kB" ∷ [])
 unfolding duration_words size_words tenths_words
 tile_words_are = (refl, refl)
 
 -- ---- tables
 
 measures_are :
-    (measure_parts Count 12345 ≡ number 12345 ∷ []) × (measure_parts Milliseconds 12345 ≡ number 12 ∷ words (codes ".") ∷ number 3 ∷ words (codes " s") ∷ words [] ∷ [])
+    (measure_parts Count 12345 ≡ number 12345 ∷ [])
+    × (measure_parts Milliseconds 12345 ≡ number 12 ∷ words (codes ".") ∷ number 3 ∷ words (codes " s") ∷ words [] ∷ [])
 unfolding duration_words
 measures_are = (refl, refl)
 
 -- In hundredths of a percent, rounded down. Ten thousand times a value is at most 2^64 - 1.
 widths_are :
-    (meter_width 10 10 ≡ 10000) × (meter_width 5 10 ≡ 5000) × (meter_width 1 3 ≡ 3333) × (meter_width 0 0 ≡ 0) × (meter_width 2 0 ≡ 20000) × (meter_width 0 7 ≡ 0)
-    × (meter_width 1844674407370955 1 ≡ 18446744073709550000) × (meter_width 1844674407370956 1 ≡ 18446744073709551615) × (meter_width 18446744073709551615 18446744073709551615 ≡ 1)
+    (meter_width 10 10 ≡ 10000) × (meter_width 5 10 ≡ 5000) × (meter_width 1 3 ≡ 3333) × (meter_width 0 0 ≡ 0) × (meter_width 2 0 ≡ 20000)
+    × (meter_width 0 7 ≡ 0)
+    × (meter_width 1844674407370955 1 ≡ 18446744073709550000) × (meter_width 1844674407370956 1 ≡ 18446744073709551615)
+    × (meter_width 18446744073709551615 18446744073709551615 ≡ 1)
 widths_are = (refl, refl, refl, refl, refl, refl, refl, refl, refl)
 
 longest_are : (shown_longest unknown ≡ []) × (shown_longest few ≡ []) × (shown_longest known ≡ rank 60000 2 ∷ rank 5000 1 ∷ [])
@@ -173,24 +196,30 @@ largest_are = (refl, refl, refl)
 -- The second recipe took a twelfth of the time of the first one.
 abbrev short_row : List Part → List Part
 short_row rest =
-    tag markup.TableRow ∷ tag markup.RowHeading ∷ tag (markup.TargetLink 1) ∷ tag markup.Bdi ∷ words (codes "a") ∷ tag markup.EndBdi ∷ tag markup.EndLink ∷ tag markup.EndRowHeading
+    tag markup.TableRow ∷ tag markup.RowHeading ∷ tag (markup.TargetLink 1) ∷ tag markup.Bdi ∷ words (codes "a") ∷ tag markup.EndBdi
+    ∷ tag markup.EndLink ∷ tag markup.EndRowHeading
     ∷ tag markup.NumberCell ∷ number 5 ∷ words (codes ".") ∷ number 0 ∷ number 0 ∷ words (codes " s") ∷ tag markup.EndCell
     ∷ tag markup.MeterCell ∷ MeterPart 833 ∷ tag markup.EndCell ∷ tag markup.EndTableRow ∷ rest
 
 abbrev long_row : List Part → List Part
 long_row rest =
-    tag markup.TableRow ∷ tag markup.RowHeading ∷ tag (markup.TargetLink 2) ∷ tag markup.Bdi ∷ words (codes "b") ∷ tag markup.EndBdi ∷ tag markup.EndLink
-    ∷ words (codes " ") ∷ tag markup.ExitBadge ∷ words (codes "exit ") ∷ words [] ∷ number 2 ∷ tag markup.EndBadge ∷ tag markup.EndRowHeading
+    tag markup.TableRow ∷ tag markup.RowHeading ∷ tag (markup.TargetLink 2) ∷ tag markup.Bdi ∷ words (codes "b") ∷ tag markup.EndBdi
+    ∷ tag markup.EndLink
+    ∷ words (codes " ") ∷ tag markup.ExitBadge ∷ words (codes "exit ") ∷ words [] ∷ number 2 ∷ tag markup.EndBadge
+    ∷ tag markup.EndRowHeading
     ∷ tag markup.NumberCell ∷ number 1 ∷ words (codes " min ") ∷ number 0 ∷ number 0 ∷ words (codes " s") ∷ tag markup.EndCell
     ∷ tag markup.MeterCell ∷ MeterPart 10000 ∷ tag markup.EndCell ∷ tag markup.EndTableRow ∷ rest
 
 abbrev warned_row : List Part → List Part
 warned_row rest =
-    tag markup.TableRow ∷ tag markup.RowHeading ∷ tag (markup.TargetLink 1) ∷ tag markup.Bdi ∷ words (codes "a") ∷ tag markup.EndBdi ∷ tag markup.EndLink ∷ tag markup.EndRowHeading
-    ∷ tag markup.NumberCell ∷ number 8 ∷ tag markup.EndCell ∷ tag markup.MeterCell ∷ MeterPart 10000 ∷ tag markup.EndCell ∷ tag markup.EndTableRow ∷ rest
+    tag markup.TableRow ∷ tag markup.RowHeading ∷ tag (markup.TargetLink 1) ∷ tag markup.Bdi ∷ words (codes "a") ∷ tag markup.EndBdi
+    ∷ tag markup.EndLink ∷ tag markup.EndRowHeading
+    ∷ tag markup.NumberCell ∷ number 8 ∷ tag markup.EndCell ∷ tag markup.MeterCell ∷ MeterPart 10000 ∷ tag markup.EndCell
+    ∷ tag markup.EndTableRow ∷ rest
 
 rows_are :
-    (rank_parts logs nodes Milliseconds 60000 (rank 5000 1) ≡ short_row []) × (rank_parts logs nodes Milliseconds 60000 (rank 60000 2) ≡ long_row [])
+    (rank_parts logs nodes Milliseconds 60000 (rank 5000 1) ≡ short_row [])
+    × (rank_parts logs nodes Milliseconds 60000 (rank 60000 2) ≡ long_row [])
     × (rank_parts logs nodes Count 8 (rank 8 1) ≡ warned_row [])
 unfolding rank_parts duration_words
 rows_are = (refl, refl, refl)
@@ -208,26 +237,31 @@ table_starts_are = refl
 -- A meter shows a part of the value of the first row.
 table_is :
     (table_parts logs nodes Milliseconds (codes "h") [] ≡ [])
-    × (table_parts logs nodes Milliseconds (codes "h") (rank 60000 2 ∷ rank 5000 1 ∷ []) ≡ table (codes "h") (long_row (short_row (table_end []))))
+    × (table_parts logs nodes Milliseconds (codes "h") (rank 60000 2 ∷ rank 5000 1 ∷ [])
+    ≡ table (codes "h") (long_row (short_row (table_end []))))
     × (table_parts logs nodes Count (codes "h") (rank 8 1 ∷ []) ≡ table (codes "h") (warned_row (table_end [])))
 unfolding table_parts rank_parts duration_words
 table_is = (refl, refl, refl)
 
 abbrev both_tables : List Part → List Part
 both_tables rest =
-    tag markup.Columns ∷ table (codes "Longest") (long_row (short_row (table_end (table (codes "Most warnings") (warned_row (table_end (tag markup.EndDiv ∷ rest)))))))
+    tag markup.Columns ∷ table (codes "Longest")
+    (long_row (short_row (table_end (table (codes "Most warnings") (warned_row (table_end (tag markup.EndDiv ∷ rest)))))))
 
 tables_are :
     (tables_parts logs nodes [] [] ≡ [])
-    × (tables_parts logs nodes [] (rank 8 1 ∷ []) ≡ tag markup.Columns ∷ table (codes "Most warnings") (warned_row (table_end (tag markup.EndDiv ∷ []))))
-    × (tables_parts logs nodes (rank 60000 2 ∷ []) [] ≡ tag markup.Columns ∷ table (codes "Longest") (long_row (table_end (tag markup.EndDiv ∷ []))))
+    × (tables_parts logs nodes [] (rank 8 1 ∷ [])
+    ≡ tag markup.Columns ∷ table (codes "Most warnings") (warned_row (table_end (tag markup.EndDiv ∷ []))))
+    × (tables_parts logs nodes (rank 60000 2 ∷ []) []
+    ≡ tag markup.Columns ∷ table (codes "Longest") (long_row (table_end (tag markup.EndDiv ∷ []))))
     × (tables_parts logs nodes (rank 60000 2 ∷ rank 5000 1 ∷ []) (rank 8 1 ∷ []) ≡ both_tables [])
 unfolding tables_parts table_parts rank_parts duration_words
 tables_are = (refl, refl, refl, refl)
 
 -- ---- why there is no timeline
 
-counts_are : (known_count unknown ≡ 0) × (known_count known ≡ 3) × (known_count few ≡ 3) × (known_count (record known { marks = replicate 4 (span 0) }) ≡ 7)
+counts_are : (known_count unknown ≡ 0) × (known_count known ≡ 3) × (known_count few ≡ 3)
+    × (known_count (record known { marks = replicate 4 (span 0) }) ≡ 7)
 counts_are = (refl, refl, refl, refl)
 
 abbrev nothing_known : Part
@@ -251,14 +285,17 @@ reasons_are = (refl, refl, refl)
 
 abbrev section : List Part → List Part
 section rest =
-    tag markup.SummarySection ∷ tag markup.SummaryHeading ∷ words (codes "Summary") ∷ tag markup.EndHeading ∷ tag markup.DescriptionList ∷ rest
+    tag markup.SummarySection ∷ tag markup.SummaryHeading ∷ words (codes "Summary") ∷ tag markup.EndHeading
+    ∷ tag markup.DescriptionList ∷ rest
 
 summary_is :
     (summary_parts logs nodes known ≡ section (all_tiles (tag markup.EndDescriptionList ∷ both_tables (tag markup.EndSection ∷ []))))
     × (summary_parts logs nodes unknown
     ≡ section
-    (tile_of (codes "Targets") (number 3 ∷ []) (tile_of (codes "Failed") (number 1 ∷ words (codes ", and ") ∷ number 1 ∷ words (codes " above") ∷ [])
-    (tile_of (codes "Lines with warning:") (number 4 ∷ []) (tile_of (codes "Logs") (number 46 ∷ words (codes ".") ∷ number 0 ∷ words (codes " kB") ∷ [])
+    (tile_of (codes "Targets") (number 3 ∷ [])
+    (tile_of (codes "Failed") (number 1 ∷ words (codes ", and ") ∷ number 1 ∷ words (codes " above") ∷ [])
+    (tile_of (codes "Lines with warning:") (number 4 ∷ [])
+    (tile_of (codes "Logs") (number 46 ∷ words (codes ".") ∷ number 0 ∷ words (codes " kB") ∷ [])
     (tag markup.EndDescriptionList ∷ tag markup.QuietParagraph ∷ nothing_known ∷ tag markup.EndParagraph ∷ tag markup.EndSection ∷ [])))))
     )
 unfolding summary_parts tables_parts table_parts rank_parts duration_words size_words tenths_words
@@ -269,7 +306,8 @@ summary_begins :
     take 22 (summary_parts logs nodes unknown)
     ≡ section
     (tile_of (codes "Targets") (number 3 ∷ [])
-    (tag markup.Div ∷ tag markup.Term ∷ words (codes "Failed") ∷ tag markup.EndTerm ∷ tag markup.Description ∷ number 1 ∷ words (codes ", and ") ∷ number 1 ∷ words (codes " above") ∷ []))
+    (tag markup.Div ∷ tag markup.Term ∷ words (codes "Failed") ∷ tag markup.EndTerm ∷ tag markup.Description ∷ number 1
+    ∷ words (codes ", and ") ∷ number 1 ∷ words (codes " above") ∷ []))
 unfolding summary_parts tables_parts table_parts rank_parts duration_words size_words tenths_words
 summary_begins = refl
 
@@ -283,8 +321,10 @@ milestone (MarkupPart markup.EndSection) = markup.EndSection ∷ []
 milestone part = []
 
 milestones_are :
-    (flat_map milestone (summary_parts logs nodes known) ≡ markup.EndDescriptionList ∷ markup.Columns ∷ markup.Table ∷ markup.Table ∷ markup.EndSection ∷ [])
-    × (flat_map milestone (summary_parts logs nodes few) ≡ markup.EndDescriptionList ∷ markup.Columns ∷ markup.Table ∷ markup.QuietParagraph ∷ markup.EndSection ∷ [])
+    (flat_map milestone (summary_parts logs nodes known)
+    ≡ markup.EndDescriptionList ∷ markup.Columns ∷ markup.Table ∷ markup.Table ∷ markup.EndSection ∷ [])
+    × (flat_map milestone (summary_parts logs nodes few)
+    ≡ markup.EndDescriptionList ∷ markup.Columns ∷ markup.Table ∷ markup.QuietParagraph ∷ markup.EndSection ∷ [])
     × (flat_map milestone (summary_parts logs nodes unknown) ≡ markup.EndDescriptionList ∷ markup.QuietParagraph ∷ markup.EndSection ∷ [])
 unfolding summary_parts tables_parts table_parts rank_parts duration_words size_words tenths_words
 milestones_are = (refl, refl, refl)

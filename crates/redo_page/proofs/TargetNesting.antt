@@ -41,11 +41,13 @@ word_nests (NumberWord number) = record { leads = λ around tags. refl }
 word_nests (TextWord text) = record { leads = λ around tags. refl }
 
 -- Words between tags.
-pub words_nest : {inside : List (List ℕ)} (before after : List Part) (words : List WordValue) → Leads [] before inside → Leads inside after [] → Nest (before ++ (words_parts words ++ after))
+pub words_nest : {inside : List (List ℕ)} (before after : List Part) (words : List WordValue) → Leads [] before inside
+    → Leads inside after [] → Nest (before ++ (words_parts words ++ after))
 words_nest {inside} before after words first last = then_lead first (then_lead (lead_in inside (nest_each word_part word_nests words)) last)
 
 -- Words between tags, of which the last one ends an element that is open.
-pub lead_through : (inside : List (List ℕ)) (before after : List Part) (words : List WordValue) → Leads inside before inside → Leads inside after [] → Leads inside (before ++ (words_parts words ++ after)) []
+pub lead_through : (inside : List (List ℕ)) (before after : List Part) (words : List WordValue) → Leads inside before inside
+    → Leads inside after [] → Leads inside (before ++ (words_parts words ++ after)) []
 lead_through inside before after words first last = then_lead first (then_lead (lead_in inside (nest_each word_part word_nests words)) last)
 
 pub took_nests : (took : Option ℕ) → Nest (took_parts took)
@@ -56,7 +58,15 @@ took_nests (Some ms) =
 
 pub facts_nest : (node : Node) → Nest (facts_parts node)
 facts_nest node = record {
-  leads = λ around tags. simp (joined, (badge_nests node.status).leads, (took_nests node.took).leads, (lines_nest node.lines).leads, (warnings_nest node.warnings).leads, (below_nests node.below).leads, (warnings_below_nest node.warnings_below).leads);
+  leads = λ around tags. simp (
+    joined,
+    (badge_nests node.status).leads,
+    (took_nests node.took).leads,
+    (lines_nest node.lines).leads,
+    (warnings_nest node.warnings).leads,
+    (below_nests node.below).leads,
+    (warnings_below_nest node.warnings_below).leads,
+  );
 }
 
 pub how_nests : (shown : Bool) (how : How) → Nest (how_parts shown how)

@@ -30,21 +30,25 @@ name_is = refl
 
 links_are :
     (linked_parts None (codes "a") ≡ tag markup.Bdi ∷ words (codes "a") ∷ tag markup.EndBdi ∷ [])
-    × (linked_parts (Some 3) (codes "a") ≡ tag (markup.TargetLink 3) ∷ tag markup.Bdi ∷ words (codes "a") ∷ tag markup.EndBdi ∷ tag markup.EndLink ∷ [])
+    × (linked_parts (Some 3) (codes "a")
+    ≡ tag (markup.TargetLink 3) ∷ tag markup.Bdi ∷ words (codes "a") ∷ tag markup.EndBdi ∷ tag markup.EndLink ∷ [])
 links_are = (refl, refl)
 
 -- ---- statuses
 
 exits_are :
     (exit_parts (pos 2) ≡ words (codes " ") ∷ tag markup.ExitBadge ∷ words (codes "exit ") ∷ words [] ∷ number 2 ∷ tag markup.EndBadge ∷ [])
-    × (exit_parts (negsuc 0) ≡ words (codes " ") ∷ tag markup.ExitBadge ∷ words (codes "exit ") ∷ words (codes "-") ∷ number 1 ∷ tag markup.EndBadge ∷ [])
+    × (exit_parts (negsuc 0) ≡ words (codes " ") ∷ tag markup.ExitBadge ∷ words (codes "exit ") ∷ words (codes "-") ∷ number 1
+    ∷ tag markup.EndBadge ∷ [])
 exits_are = (refl, refl)
 
 badges_are :
     (badge_parts None ≡ words (codes " ") ∷ tag markup.OpenBadge ∷ words (codes "not closed") ∷ tag markup.EndBadge ∷ [])
     × (badge_parts (Some (pos 0)) ≡ [])
-    × (badge_parts (Some (pos 1)) ≡ words (codes " ") ∷ tag markup.ExitBadge ∷ words (codes "exit ") ∷ words [] ∷ number 1 ∷ tag markup.EndBadge ∷ [])
-    × (badge_parts (Some (negsuc 1)) ≡ words (codes " ") ∷ tag markup.ExitBadge ∷ words (codes "exit ") ∷ words (codes "-") ∷ number 2 ∷ tag markup.EndBadge ∷ [])
+    × (badge_parts (Some (pos 1)) ≡ words (codes " ") ∷ tag markup.ExitBadge ∷ words (codes "exit ") ∷ words [] ∷ number 1
+    ∷ tag markup.EndBadge ∷ [])
+    × (badge_parts (Some (negsuc 1)) ≡ words (codes " ") ∷ tag markup.ExitBadge ∷ words (codes "exit ") ∷ words (codes "-") ∷ number 2
+    ∷ tag markup.EndBadge ∷ [])
 badges_are = (refl, refl, refl, refl)
 
 -- ---- counts
@@ -57,39 +61,58 @@ lines_are = (refl, refl, refl)
 
 warnings_are :
     (warnings_parts 0 ≡ [])
-    × (warnings_parts 1 ≡ words (codes " ") ∷ tag markup.Small ∷ tag markup.Warnings ∷ number 1 ∷ words (codes " warning") ∷ tag markup.EndWarnings ∷ tag markup.EndSmall ∷ [])
-    × (warnings_parts 2 ≡ words (codes " ") ∷ tag markup.Small ∷ tag markup.Warnings ∷ number 2 ∷ words (codes " warnings") ∷ tag markup.EndWarnings ∷ tag markup.EndSmall ∷ [])
+    × (warnings_parts 1 ≡ words (codes " ") ∷ tag markup.Small ∷ tag markup.Warnings ∷ number 1 ∷ words (codes " warning")
+    ∷ tag markup.EndWarnings ∷ tag markup.EndSmall ∷ [])
+    × (warnings_parts 2 ≡ words (codes " ") ∷ tag markup.Small ∷ tag markup.Warnings ∷ number 2 ∷ words (codes " warnings")
+    ∷ tag markup.EndWarnings ∷ tag markup.EndSmall ∷ [])
 warnings_are = (refl, refl, refl)
 
 below_are :
-    (below_parts 0 ≡ []) × (below_parts 1 ≡ words (codes " ") ∷ tag markup.Small ∷ number 1 ∷ words (codes " below") ∷ tag markup.EndSmall ∷ [])
+    (below_parts 0 ≡ []) × (below_parts 1
+    ≡ words (codes " ") ∷ tag markup.Small ∷ number 1 ∷ words (codes " below") ∷ tag markup.EndSmall ∷ [])
 below_are = (refl, refl)
 
 warnings_below_are :
     (warnings_below_parts 0 ≡ [])
-    × (warnings_below_parts 1 ≡ words (codes " ") ∷ tag markup.Small ∷ words (codes "with ") ∷ tag markup.Warnings ∷ number 1 ∷ words (codes " warning") ∷ tag markup.EndWarnings ∷ tag markup.EndSmall ∷ [])
-    × (warnings_below_parts 2 ≡ words (codes " ") ∷ tag markup.Small ∷ words (codes "with ") ∷ tag markup.Warnings ∷ number 2 ∷ words (codes " warnings") ∷ tag markup.EndWarnings ∷ tag markup.EndSmall ∷ [])
+    × (warnings_below_parts 1 ≡ words (codes " ") ∷ tag markup.Small ∷ words (codes "with ") ∷ tag markup.Warnings ∷ number 1
+    ∷ words (codes " warning") ∷ tag markup.EndWarnings ∷ tag markup.EndSmall ∷ [])
+    × (warnings_below_parts 2 ≡ words (codes " ") ∷ tag markup.Small ∷ words (codes "with ") ∷ tag markup.Warnings ∷ number 2
+    ∷ words (codes " warnings") ∷ tag markup.EndWarnings ∷ tag markup.EndSmall ∷ [])
 warnings_below_are = (refl, refl, refl)
 
 took_are :
     (took_parts None ≡ [])
     × (took_parts (Some 1234)
-    ≡ words (codes " ") ∷ tag markup.Small ∷ number 1 ∷ words (codes ".") ∷ number 2 ∷ number 3 ∷ words (codes " s") ∷ tag markup.EndSmall ∷ [])
+    ≡ words (codes " ") ∷ tag markup.Small ∷ number 1 ∷ words (codes ".") ∷ number 2 ∷ number 3 ∷ words (codes " s")
+    ∷ tag markup.EndSmall ∷ [])
 unfolding duration_words
 took_are = (refl, refl)
 
 -- It took 61 seconds and printed three lines, two of which are warnings. Four targets are below it, with one warning.
 abbrev node : Node
-node = record no_node { status = Some (pos 5); lines = 3; bytes = 9; warnings = 2; below = 4; children = 1; others = true; warnings_below = 1; took = Some 61000 }
+node = record no_node {
+  status = Some (pos 5);
+  lines = 3;
+  bytes = 9;
+  warnings = 2;
+  below = 4;
+  children = 1;
+  others = true;
+  warnings_below = 1;
+  took = Some 61000;
+}
 
 facts_are :
     facts_parts node
     ≡ words (codes " ") ∷ tag markup.ExitBadge ∷ words (codes "exit ") ∷ words [] ∷ number 5 ∷ tag markup.EndBadge
-    ∷ words (codes " ") ∷ tag markup.Small ∷ number 1 ∷ words (codes " min ") ∷ number 0 ∷ number 1 ∷ words (codes " s") ∷ tag markup.EndSmall
+    ∷ words (codes " ") ∷ tag markup.Small ∷ number 1 ∷ words (codes " min ") ∷ number 0 ∷ number 1 ∷ words (codes " s")
+    ∷ tag markup.EndSmall
     ∷ words (codes " ") ∷ tag markup.Small ∷ number 3 ∷ words (codes " lines") ∷ tag markup.EndSmall
-    ∷ words (codes " ") ∷ tag markup.Small ∷ tag markup.Warnings ∷ number 2 ∷ words (codes " warnings") ∷ tag markup.EndWarnings ∷ tag markup.EndSmall
+    ∷ words (codes " ") ∷ tag markup.Small ∷ tag markup.Warnings ∷ number 2 ∷ words (codes " warnings") ∷ tag markup.EndWarnings
+    ∷ tag markup.EndSmall
     ∷ words (codes " ") ∷ tag markup.Small ∷ number 4 ∷ words (codes " below") ∷ tag markup.EndSmall
-    ∷ words (codes " ") ∷ tag markup.Small ∷ words (codes "with ") ∷ tag markup.Warnings ∷ number 1 ∷ words (codes " warning") ∷ tag markup.EndWarnings ∷ tag markup.EndSmall
+    ∷ words (codes " ") ∷ tag markup.Small ∷ words (codes "with ") ∷ tag markup.Warnings ∷ number 1 ∷ words (codes " warning")
+    ∷ tag markup.EndWarnings ∷ tag markup.EndSmall
     ∷ []
 unfolding duration_words
 facts_are = refl
@@ -101,5 +124,6 @@ done word = words (codes " ") ∷ tag markup.Small ∷ words word ∷ tag markup
 
 hows_are :
     (how_parts false Made ≡ []) × (how_parts true Made ≡ done (codes "made")) × (how_parts true Waiting ≡ done (codes "waiting"))
-    × (how_parts true Locked ≡ done (codes "locked")) × (how_parts true Unlocked ≡ done (codes "unlocked")) × (how_parts true Unchanged ≡ done (codes "unchanged"))
+    × (how_parts true Locked ≡ done (codes "locked")) × (how_parts true Unlocked ≡ done (codes "unlocked"))
+    × (how_parts true Unchanged ≡ done (codes "unchanged"))
 hows_are = (refl, refl, refl, refl, refl, refl)

@@ -33,8 +33,11 @@ marks_nest marks known = nest_if (not (marks == 0)) (record { leads = λ around 
 
 start_leads : (facts : Facts) → Leads [] (timeline_start facts) (codes "div" ∷ codes "section" ∷ [])
 start_leads facts =
-    then_lead {middle = codes "section" ∷ []} {parts = MarkupPart markup.TimelineSection ∷ MarkupPart markup.TimelineHeading ∷ TextPart TIMELINE.now ∷ MarkupPart markup.EndHeading ∷ []} (record { leads = λ around tags. refl })
-    (then_lead {others = MarkupPart markup.TimelineScroll ∷ []} (lead_in (codes "section" ∷ []) (marks_nest (length facts.marks) (known_count facts))) (record { leads = λ around tags. refl }))
+    then_lead {middle = codes "section" ∷ []}
+    {parts = MarkupPart markup.TimelineSection ∷ MarkupPart markup.TimelineHeading ∷ TextPart TIMELINE.now ∷ MarkupPart markup.EndHeading
+    ∷ []} (record { leads = λ around tags. refl })
+    (then_lead {others = MarkupPart markup.TimelineScroll ∷ []}
+    (lead_in (codes "section" ∷ []) (marks_nest (length facts.marks) (known_count facts))) (record { leads = λ around tags. refl }))
 
 pub timeline_nests : (logs : List Log) (nodes : List Node) (facts : Facts) → Nest (timeline_parts logs nodes facts)
 timeline_nests logs nodes facts = by facts.window
@@ -47,45 +50,55 @@ timeline_nests logs nodes facts = by facts.window
 
 below_test : (count : ℕ) (spans : List Span) → AreSpansBelow count spans → are_below count spans ≡ true
 below_test count [] below = refl
-below_test count (span ∷ spans) below = and_from (nat_lt span.position count) (are_below count spans) (lt-ltb span.position count below.0) (below_test count spans below.1)
+below_test count (span ∷ spans) below =
+    and_from (nat_lt span.position count) (are_below count spans) (lt-ltb span.position count below.0) (below_test count spans below.1)
 
 -- The bars of a chart lead to positions below a number if the positions of all spans are below it.
 abbrev pub BarsLead : Type 0
-BarsLead = (logs : List Log) (nodes : List Node) (window : Window) (callers recipes marks : List Span) (count : ℕ) → are_below count (callers ++ (recipes ++ marks)) ≡ true
+BarsLead = (logs : List Log) (nodes : List Node) (window : Window) (callers recipes marks : List Span) (count : ℕ)
+    → are_below count (callers ++ (recipes ++ marks)) ≡ true
     → list_all (λ link. nat_lt link count) (drawing_links (timeline_drawing logs nodes window callers recipes marks)) ≡ true
 
 -- The tag of the section, and the chart, if most times are known.
 abbrev pub timeline_found : List Log → List Node → Facts → Bool → Option Window → List Part
 timeline_found logs nodes facts timed None = []
-timeline_found logs nodes facts timed (Some window) = parts_if timed (MarkupPart TimelineSection ∷ ChartPart (facts_drawing logs nodes facts window) ∷ [])
+timeline_found logs nodes facts timed (Some window) =
+    parts_if timed (MarkupPart TimelineSection ∷ ChartPart (facts_drawing logs nodes facts window) ∷ [])
 
 start_same : (marks known : ℕ) → Bare (marks_parts marks known)
 start_same marks known = bare_if (not (marks == 0)) _ refl
 
 module _ (lead : BarsLead) (count : ℕ) (listed : List ℕ) (logs : List Log) (nodes : List Node) (facts : Facts) where
-  all_below : AreSpansBelow count facts.callers → AreSpansBelow count facts.recipes → AreSpansBelow count facts.marks → are_below count (facts.callers ++ (facts.recipes ++ facts.marks)) ≡ true
+  all_below : AreSpansBelow count facts.callers → AreSpansBelow count facts.recipes → AreSpansBelow count facts.marks
+      → are_below count (facts.callers ++ (facts.recipes ++ facts.marks)) ≡ true
   all_below callers recipes marks =
       let test = λ (span : Span). nat_lt span.position count in
       list_all-append test facts.callers (facts.recipes ++ facts.marks)
       ∙ and_from (are_below count facts.callers) (are_below count (facts.recipes ++ facts.marks)) (below_test count facts.callers callers)
-      (list_all-append test facts.recipes facts.marks ∙ and_from (are_below count facts.recipes) (are_below count facts.marks) (below_test count facts.recipes recipes) (below_test count facts.marks marks))
+      (list_all-append test facts.recipes facts.marks
+      ∙ and_from (are_below count facts.recipes) (are_below count facts.marks) (below_test count facts.recipes recipes)
+      (below_test count facts.marks marks))
 
   chart_refers : (window : Window) → are_below count (facts.callers ++ (facts.recipes ++ facts.marks)) ≡ true
       → Refers count listed (timeline_found logs nodes facts true (Some window)) [] [] (timeline_found logs nodes facts true (Some window))
   chart_refers window below = record {
     target_ids_are = refl;
     article_ids_are = refl;
-    target_links_lead = ap (list_all (λ number. nat_lt number count)) (append-nil (drawing_links (facts_drawing logs nodes facts window))) ∙ lead logs nodes window facts.callers facts.recipes facts.marks count below;
+    target_links_lead = ap (list_all (λ number. nat_lt number count)) (append-nil (drawing_links (facts_drawing logs nodes facts window)))
+        ∙ lead logs nodes window facts.callers facts.recipes facts.marks count below;
     article_links_lead = refl;
     sections_are = refl;
   }
 
-  section_refers : (window : Window) → are_below count (facts.callers ++ (facts.recipes ++ facts.marks)) ≡ true → Refers count listed (timeline_section logs nodes facts window) [] [] (timeline_found logs nodes facts true (Some window))
+  section_refers : (window : Window) → are_below count (facts.callers ++ (facts.recipes ++ facts.marks)) ≡ true
+      → Refers count listed (timeline_section logs nodes facts window) [] [] (timeline_found logs nodes facts true (Some window))
   section_refers window below =
-      same_refer {others = MarkupPart TimelineSection ∷ ChartPart (facts_drawing logs nodes facts window) ∷ []} (simp (flat_map-append, start_same (length facts.marks) (known_count facts))) (chart_refers window below)
+      same_refer {others = MarkupPart TimelineSection ∷ ChartPart (facts_drawing logs nodes facts window) ∷ []}
+      (simp (flat_map-append, start_same (length facts.marks) (known_count facts))) (chart_refers window below)
 
   refers_if : (timed : Bool) (window : Window) → are_below count (facts.callers ++ (facts.recipes ++ facts.marks)) ≡ true
-      → Refers count listed (parts_if timed (timeline_section logs nodes facts window)) [] [] (timeline_found logs nodes facts timed (Some window))
+      → Refers count listed (parts_if timed (timeline_section logs nodes facts window)) [] []
+      (timeline_found logs nodes facts timed (Some window))
   refers_if true window below = section_refers window below
   refers_if false window below = bare_refers [] refl
 
@@ -93,6 +106,7 @@ module _ (lead : BarsLead) (count : ℕ) (listed : List ℕ) (logs : List Log) (
       → Refers count listed (timeline_parts logs nodes facts) [] [] (timeline_found logs nodes facts (is_timed facts) facts.window)
   timeline_refers callers recipes marks = by facts.window
     where
-      by : (window : Option Window) → Refers count listed (timeline_if logs nodes facts window) [] [] (timeline_found logs nodes facts (is_timed facts) window)
+      by : (window : Option Window) → Refers count listed (timeline_if logs nodes facts window) [] []
+          (timeline_found logs nodes facts (is_timed facts) window)
       by None = bare_refers [] refl
       by (Some window) = refers_if (is_timed facts) window (all_below callers recipes marks)

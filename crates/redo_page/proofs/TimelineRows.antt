@@ -77,8 +77,10 @@ known = facts (Some window) (span 0 1000 11000 ∷ []) (span 1 1000 6000 ∷ spa
 
 -- One of ten targets may have a mark.
 timelines_are :
-    (has_timeline known ≡ true) × (has_timeline (facts None (some 1) (some 2) []) ≡ false) × (has_timeline (facts (Some window) [] [] []) ≡ false)
-    × (has_timeline (facts (Some window) (some 1) (some 8) (some 1)) ≡ true) × (has_timeline (facts (Some window) (some 1) (some 7) (some 1)) ≡ false)
+    (has_timeline known ≡ true) × (has_timeline (facts None (some 1) (some 2) []) ≡ false)
+    × (has_timeline (facts (Some window) [] [] []) ≡ false)
+    × (has_timeline (facts (Some window) (some 1) (some 8) (some 1)) ≡ true)
+    × (has_timeline (facts (Some window) (some 1) (some 7) (some 1)) ≡ false)
 timelines_are = (refl, refl, refl, refl, refl)
 
 -- ---- what precedes the chart
@@ -86,7 +88,8 @@ timelines_are = (refl, refl, refl, refl, refl)
 abbrev marks_text : ℕ → ℕ → List Part → List Part
 marks_text marks targets rest =
     tag markup.QuietParagraph ∷ words (codes "The logs of ") ∷ number marks ∷ words (codes " of ") ∷ number targets
-    ∷ words (codes " targets do not say when they began, or when they ended. These are marks in the last row.") ∷ tag markup.EndParagraph ∷ rest
+    ∷ words (codes " targets do not say when they began, or when they ended. These are marks in the last row.")
+    ∷ tag markup.EndParagraph ∷ rest
 
 marks_are : (marks_parts 0 7 ≡ []) × (marks_parts 1 9 ≡ marks_text 1 9 []) × (marks_parts 2 21 ≡ marks_text 2 21 [])
 marks_are = (refl, refl, refl)
@@ -109,7 +112,8 @@ pale_are = (refl, refl)
 
 abbrev after : List ℕ → List Part
 after text =
-    tag markup.EndDiv ∷ tag markup.QuietParagraph ∷ words (codes "A bar leads to its log.") ∷ words text ∷ tag markup.EndParagraph ∷ tag markup.EndSection ∷ []
+    tag markup.EndDiv ∷ tag markup.QuietParagraph ∷ words (codes "A bar leads to its log.") ∷ words text ∷ tag markup.EndParagraph
+    ∷ tag markup.EndSection ∷ []
 
 ends_are : (timeline_end known ≡ after pale) × (timeline_end (facts (Some window) [] (some 1) []) ≡ after [])
 ends_are = (refl, refl)
@@ -117,26 +121,31 @@ ends_are = (refl, refl)
 -- ---- the section
 
 abbrev drawn_at : ℕ → ℕ → ℕ → ℕ → ℕ → Bool → List ℕ → Option (List ℕ) → Shape
-drawn_at position x y width height failed title label = BarShape (record { target = position; x = x; y = y; width = width; height = height; failed = failed; title = title; label = label })
+drawn_at position x y width height failed title label =
+    BarShape (record { target = position; x = x; y = y; width = width; height = height; failed = failed; title = title; label = label })
 
 -- With a mark of the last target, which failed.
 abbrev chart : Drawing
 chart = facts_drawing logs nodes (record known { marks = record { began = 9000; position = 3; ended = 9000; failed = true } ∷ [] }) window
 
 chart_is :
-    (chart.height ≡ 102) × (chart.lanes ≡ 2) × (shapes_of Callers chart ≡ drawn_at 0 0 20 10000 12 false (codes "all, 10.0 s") (Some (codes "all")) ∷ [])
-    × (shapes_of Recipes chart ≡ drawn_at 1 0 40 5000 16 false (codes "b, 5.00 s") (Some (codes "b")) ∷ drawn_at 2 1000 58 9000 16 false (codes "a, 9.00 s") (Some (codes "a")) ∷ [])
+    (chart.height ≡ 102) × (chart.lanes ≡ 2)
+    × (shapes_of Callers chart ≡ drawn_at 0 0 20 10000 12 false (codes "all, 10.0 s") (Some (codes "all")) ∷ [])
+    × (shapes_of Recipes chart ≡ drawn_at 1 0 40 5000 16 false (codes "b, 5.00 s") (Some (codes "b"))
+    ∷ drawn_at 2 1000 58 9000 16 false (codes "a, 9.00 s") (Some (codes "a")) ∷ [])
     × (shapes_of Untimed chart ≡ drawn_at 3 8000 82 30 12 true (codes "c, exit 1") None ∷ [])
 unfolding duration_words tick_step_of tick_words decimal_text digits
 chart_is = (refl, refl, refl, refl, refl)
 
 section_is :
-    timeline_section logs nodes known window ≡ heading (tag markup.TimelineScroll ∷ ChartPart (facts_drawing logs nodes known window) ∷ after pale)
+    timeline_section logs nodes known window
+    ≡ heading (tag markup.TimelineScroll ∷ ChartPart (facts_drawing logs nodes known window) ∷ after pale)
 section_is = refl
 
 -- Without a window, or if too few times are known, there is no section.
 sections_are :
-    (length (timeline_if logs nodes known (Some window)) ≡ 12) × (timeline_if logs nodes known None ≡ []) × (length (timeline_if logs nodes (facts (Some window) [] [] (some 1)) (Some window)) ≡ 0)
+    (length (timeline_if logs nodes known (Some window)) ≡ 12) × (timeline_if logs nodes known None ≡ [])
+    × (length (timeline_if logs nodes (facts (Some window) [] [] (some 1)) (Some window)) ≡ 0)
 sections_are = (refl, refl, refl)
 
 timeline_is :

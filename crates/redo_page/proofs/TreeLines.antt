@@ -63,11 +63,13 @@ linked_quiet (Some position) name = refl
 
 module _ (build : Build) where
   done_quiet : (status : ℤ) (name : List ℕ) → Quiet (done_parts build status name)
-  done_quiet status name = same_text (done_parts build status name) (linked_parts (position_of_name build name) name) (simp (flat_map-append, append-nil)) ∙ linked_quiet (position_of_name build name) name
+  done_quiet status name = same_text (done_parts build status name) (linked_parts (position_of_name build name) name)
+      (simp (flat_map-append, append-nil)) ∙ linked_quiet (position_of_name build name) name
 
   mention_quiet : (how : How) (name : List ℕ) (opening : Opening) → Quiet (mention_parts build how name opening)
   mention_quiet how name opening =
-      same_text (mention_parts build how name opening) (linked_parts (opening_position build opening) name) (simp (flat_map-append, append-nil, how_bare build.options.debug_locks how)) ∙ linked_quiet (opening_position build opening) name
+      same_text (mention_parts build how name opening) (linked_parts (opening_position build opening) name)
+      (simp (flat_map-append, append-nil, how_bare build.options.debug_locks how)) ∙ linked_quiet (opening_position build opening) name
 
   item_quiet : (before : Pending) (seen : Bool) (parts : List Part) → Quiet parts → Quiet (item_parts before seen parts)
   item_quiet before true parts quiet = both_quiet (end_parts before) parts (bare_quiet (end_parts before) (end_bare before)) quiet
@@ -80,20 +82,27 @@ module _ (build : Build) where
   line_text : (before : Pending) (line : List ℕ) → log_bytes (line_parts before line) ≡ with_line_feed line ++ []
   line_text before line =
       flat_map-append log_text (line_start before (line_size line)) (line_part (block_for before (line_size line)).style line ∷ [])
-      ∙ ap (λ t. t ++ (with_line_feed line ++ [])) (bare_quiet (line_start before (line_size line)) (line_start_bare before (line_size line)))
+      ∙ ap (λ t. t ++ (with_line_feed line ++ []))
+      (bare_quiet (line_start before (line_size line)) (line_start_bare before (line_size line)))
 
-  shown_text : (level : Level) (before : Pending) (event : Event) → log_bytes (shown_parts build level before event) ≡ shown_lines level.position event
+  shown_text : (level : Level) (before : Pending) (event : Event)
+      → log_bytes (shown_parts build level before event) ≡ shown_lines level.position event
   shown_text level before (Requested name opening) = item_quiet before true (request_parts name) refl
-  shown_text level before (Mentioned depth pid how name opening) = item_quiet before true (mention_parts build how name opening) (mention_quiet how name opening)
+  shown_text level before (Mentioned depth pid how name opening) =
+      item_quiet before true (mention_parts build how name opening) (mention_quiet how name opening)
   shown_text level before (EntryShown depth (Text line)) = by (is_moved_if build level.position)
     where
-      by : (moved : Bool) → log_bytes (if moved then [] else line_parts before line) ≡ positioned_bytes (if not moved then record { position = level.position; line = line } ∷ [] else [])
+      by : (moved : Bool) → log_bytes (if moved then [] else line_parts before line)
+          ≡ positioned_bytes (if not moved then record { position = level.position; line = line } ∷ [] else [])
       by true = refl
       by false = line_text before line
   shown_text level before (EntryShown depth (Mention pid how name)) = refl
-  shown_text level before (EntryShown depth (Done pid status name)) = item_quiet before (is_seen build level (EntryShown depth (Done pid status name))) (done_parts build status name) (done_quiet status name)
+  shown_text level before (EntryShown depth (Done pid status name)) =
+      item_quiet before (is_seen build level (EntryShown depth (Done pid status name))) (done_parts build status name)
+      (done_quiet status name)
   shown_text level before (EntryShown depth (Closing pid status)) = refl
-  shown_text level before (EntryShown depth (Note pid kind text)) = item_quiet before true (note_parts kind text) (bare_quiet (note_parts kind text) (note_bare kind text))
+  shown_text level before (EntryShown depth (Note pid kind text)) =
+      item_quiet before true (note_parts kind text) (bare_quiet (note_parts kind text) (note_bare kind text))
   shown_text level before (LogEnds depth) = refl
 
   -- ---- logs
@@ -101,23 +110,32 @@ module _ (build : Build) where
   moved_quiet : (position : ℕ) → Quiet (moved_parts build position)
   moved_quiet position = quiet_if (is_moved build position) _ refl
 
-  details_quiet : (expanded : Bool) (position : ℕ) (others : List Part) → Quiet others → Quiet (MarkupPart (if expanded then markup.OpenDetails position else markup.Details position) ∷ others)
+  details_quiet : (expanded : Bool) (position : ℕ) (others : List Part) → Quiet others
+      → Quiet (MarkupPart (if expanded then markup.OpenDetails position else markup.Details position) ∷ others)
   details_quiet true position others quiet = quiet
   details_quiet false position others quiet = quiet
 
   opening_quiet : (level : Level) (position : ℕ) (heading : List Part) → Bare heading → Quiet (opening_parts build level position heading)
   opening_quiet level position heading bare = by (is_empty (node_at build.nodes position)) (nat_le max_depth level.depth)
     where
-      by : (empty deep : Bool) → Quiet (if empty then empty_start position heading else if deep then flat_start build position level.depth heading else nested_start build (is_expanded build level (node_at build.nodes position)) position heading)
+      by : (empty deep : Bool) → Quiet (if empty then empty_start position heading
+          else if deep then flat_start build position level.depth heading
+          else nested_start build (is_expanded build level (node_at build.nodes position)) position heading)
       by true deep = bare_quiet heading bare
-      by false true = same_text (flat_start build position level.depth heading) (MarkupPart (markup.TargetItem position) ∷ moved_parts build position) (simp (flat_map-append, bare)) ∙ moved_quiet position
+      by false true = same_text (flat_start build position level.depth heading)
+          (MarkupPart (markup.TargetItem position) ∷ moved_parts build position) (simp (flat_map-append, bare)) ∙ moved_quiet position
       by false false =
-          same_text (nested_start build (is_expanded build level (node_at build.nodes position)) position heading) (MarkupPart (if is_expanded build level (node_at build.nodes position) then markup.OpenDetails position else markup.Details position) ∷ moved_parts build position)
-          (nested_same build (is_expanded build level (node_at build.nodes position)) position heading bare) ∙ details_quiet (is_expanded build level (node_at build.nodes position)) position (moved_parts build position) (moved_quiet position)
+          same_text (nested_start build (is_expanded build level (node_at build.nodes position)) position heading)
+          (MarkupPart (if is_expanded build level (node_at build.nodes position) then markup.OpenDetails position
+          else markup.Details position) ∷ moved_parts build position)
+          (nested_same build (is_expanded build level (node_at build.nodes position)) position heading bare)
+          ∙ details_quiet (is_expanded build level (node_at build.nodes position)) position (moved_parts build position)
+          (moved_quiet position)
 
   log_start_quiet : (level : Level) (position : ℕ) (before : Pending) (event : Event) → Quiet (log_start build level position before event)
   log_start_quiet level position before event =
-      both_quiet (group_start build level position before) (opening_parts build level position (heading_parts build event position)) (bare_quiet (group_start build level position before) (group_start_bare build level position before))
+      both_quiet (group_start build level position before) (opening_parts build level position (heading_parts build event position))
+      (bare_quiet (group_start build level position before) (group_start_bare build level position before))
       (opening_quiet level position (heading_parts build event position) (heading_bare build event position))
 
   -- ---- contents
@@ -125,14 +143,23 @@ module _ (build : Build) where
   abbrev outside : PositionedLine → Bool
   outside positioned = not (is_moved_if build positioned.position)
 
-  bytes-append : (lines others : List PositionedLine) → positioned_bytes (unmoved_lines build (lines ++ others)) ≡ positioned_bytes (unmoved_lines build lines) ++ positioned_bytes (unmoved_lines build others)
-  bytes-append lines others = ap positioned_bytes (filter-append outside lines others) ∙ ap (flat_map with_line_feed) (map-append (λ (positioned : PositionedLine). positioned.line) (unmoved_lines build lines) (unmoved_lines build others)) ∙ flat_map-append with_line_feed (texts_of (unmoved_lines build lines)) (texts_of (unmoved_lines build others))
+  bytes-append : (lines others : List PositionedLine)
+      → positioned_bytes (unmoved_lines build (lines ++ others))
+      ≡ positioned_bytes (unmoved_lines build lines) ++ positioned_bytes (unmoved_lines build others)
+  bytes-append lines others = ap positioned_bytes (filter-append outside lines others)
+      ∙ ap (flat_map with_line_feed) (map-append (λ (positioned : PositionedLine). positioned.line) (unmoved_lines build lines)
+      (unmoved_lines build others)) ∙ flat_map-append with_line_feed (texts_of (unmoved_lines build lines))
+      (texts_of (unmoved_lines build others))
 
-  contents_text : (level : Level) (position : ℕ) (before : Pending) (contents : Contents) → log_bytes (contents_parts build level position before contents) ≡ positioned_bytes (unmoved_lines build (positioned_lines level.position position contents))
+  contents_text : (level : Level) (position : ℕ) (before : Pending) (contents : Contents)
+      → log_bytes (contents_parts build level position before contents)
+      ≡ positioned_bytes (unmoved_lines build (positioned_lines level.position position contents))
   contents_text level position before Nothing = bare_quiet (end_parts before) (end_bare before)
   contents_text level position before (Shown event rest) =
-      flat_map-append log_text (shown_parts build level before event) (contents_parts build level position (after_shown build level before event) rest)
-      ∙ ap (λ t. t ++ log_bytes (contents_parts build level position (after_shown build level before event) rest)) (shown_text level before event)
+      flat_map-append log_text (shown_parts build level before event)
+      (contents_parts build level position (after_shown build level before event) rest)
+      ∙ ap (λ t. t ++ log_bytes (contents_parts build level position (after_shown build level before event) rest))
+      (shown_text level before event)
       ∙ ap (λ t. shown_lines level.position event ++ t) (contents_text level position (after_shown build level before event) rest)
       ∙ sym (bytes-append (positioned_at level.position event) (positioned_lines level.position position rest))
   contents_text level position before (Opened event number inside rest) =
@@ -141,14 +168,23 @@ module _ (build : Build) where
       let in_log = contents_parts build (level_of build level position) (suc position) pending.Nothing inside in
       let end = log_end build level position left in
       let others = contents_parts build level (suc position + log_count inside) (after_log left) rest in
-      flat_map-append log_text start (in_log ++ (end ++ others)) ∙ ap (λ t. t ++ log_bytes (in_log ++ (end ++ others))) (log_start_quiet level position before event)
-      ∙ flat_map-append log_text in_log (end ++ others) ∙ ap (λ t. log_bytes in_log ++ t) (flat_map-append log_text end others ∙ ap (λ t. t ++ log_bytes others) (bare_quiet end (log_end_bare build level position left)))
+      flat_map-append log_text start (in_log ++ (end ++ others))
+      ∙ ap (λ t. t ++ log_bytes (in_log ++ (end ++ others))) (log_start_quiet level position before event)
+      ∙ flat_map-append log_text in_log (end ++ others)
+      ∙ ap (λ t. log_bytes in_log ++ t) (flat_map-append log_text end others
+      ∙ ap (λ t. t ++ log_bytes others) (bare_quiet end (log_end_bare build level position left)))
       ∙ ap (λ t. t ++ log_bytes others) (contents_text (level_of build level position) (suc position) pending.Nothing inside)
-      ∙ ap (λ t. positioned_bytes (unmoved_lines build (positioned_lines (Some position) (suc position) inside)) ++ t) (contents_text level (suc position + log_count inside) (after_log left) rest)
-      ∙ sym (bytes-append (positioned_lines (Some position) (suc position) inside) (positioned_lines level.position (suc position + log_count inside) rest))
+      ∙ ap (λ t. positioned_bytes (unmoved_lines build (positioned_lines (Some position) (suc position) inside)) ++ t)
+      (contents_text level (suc position + log_count inside) (after_log left) rest)
+      ∙ sym (bytes-append (positioned_lines (Some position) (suc position) inside)
+      (positioned_lines level.position (suc position + log_count inside) rest))
 
 pub tree_text : (logs : List Log) (options : Options) (nodes : List Node) (contents : Contents)
-    → log_bytes (tree_parts logs options nodes contents) ≡ positioned_bytes (unmoved_lines (record { logs = logs; options = options; nodes = nodes; articles = articles nodes }) (positioned_lines None 0 contents))
+    → log_bytes (tree_parts logs options nodes contents)
+    ≡ positioned_bytes (unmoved_lines (record { logs = logs; options = options; nodes = nodes; articles = articles nodes })
+    (positioned_lines None 0 contents))
 tree_text logs options nodes contents =
     let build : Build = record { logs = logs; options = options; nodes = nodes; articles = articles nodes } in
-    same_text (tree_parts logs options nodes contents) (MarkupPart markup.TreeSection ∷ contents_parts build top_level 0 pending.Nothing contents) (simp (flat_map-append, append-nil)) ∙ contents_text build top_level 0 pending.Nothing contents
+    same_text (tree_parts logs options nodes contents)
+    (MarkupPart markup.TreeSection ∷ contents_parts build top_level 0 pending.Nothing contents) (simp (flat_map-append, append-nil))
+    ∙ contents_text build top_level 0 pending.Nothing contents

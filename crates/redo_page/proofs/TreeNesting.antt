@@ -72,7 +72,8 @@ line_leads before line = then_lead (line_start_leads before (line_size line)) (r
 abbrev group_names : ℕ → List (List ℕ)
 group_names left = if left == 0 then [] else list_names
 
-lead_unless : (none : Bool) {parts : List Part} {names : List (List ℕ)} → Leads [] parts names → Leads [] (parts_if (not none) parts) (if none then [] else names)
+lead_unless : (none : Bool) {parts : List Part} {names : List (List ℕ)} → Leads [] parts names
+    → Leads [] (parts_if (not none) parts) (if none then [] else names)
 lead_unless true leads = record { leads = λ around tags. refl }
 lead_unless false leads = leads
 
@@ -83,9 +84,12 @@ group_leads size = lead_unless (size == 0) (record { leads = λ around tags. ref
 group_end_leads : (left : ℕ) → Leads (group_names left) (group_end left) (open_names (after_log left))
 group_end_leads zero = record { leads = λ around tags. refl }
 group_end_leads (suc zero) = record { leads = λ around tags. refl }
-group_end_leads (suc (suc left)) = by (suc (suc left) == 0) (suc (suc left) == 1) (nat_lt 1 (suc (suc left))) (ne_eqb (suc (suc left)) 0 (omega arith)) (ne_eqb (suc (suc left)) 1 (omega arith)) (lt-ltb 1 (suc (suc left)) (omega arith))
+group_end_leads (suc (suc left)) = by (suc (suc left) == 0) (suc (suc left) == 1) (nat_lt 1 (suc (suc left)))
+    (ne_eqb (suc (suc left)) 0 (omega arith)) (ne_eqb (suc (suc left)) 1 (omega arith)) (lt-ltb 1 (suc (suc left)) (omega arith))
   where
-    by : (none one more : Bool) → none ≡ false → one ≡ false → more ≡ true → Leads (if none then [] else list_names) (parts_if one nested_end) (open_names (if more then pending.Group (suc (suc left) - 1) else pending.Nothing))
+    by : (none one more : Bool) → none ≡ false → one ≡ false → more ≡ true
+        → Leads (if none then [] else list_names) (parts_if one nested_end)
+        (open_names (if more then pending.Group (suc (suc left) - 1) else pending.Nothing))
     by none one more isn't_none isn't_one is_more = rw (isn't_none, isn't_one, is_more) (record { leads = λ around tags. refl })
 
 after_log_open : (left : ℕ) → IsOpen (after_log left)
@@ -98,7 +102,8 @@ after_log_open (suc (suc left)) = by (nat_lt 1 (suc (suc left))) (lt-ltb 1 (suc 
 
 -- ---- what is seen of an event
 
-item_leads : (before : Pending) (seen : Bool) {parts : List Part} → Nest parts → Leads (open_names before) (item_parts before seen parts) (open_names (after_item before seen))
+item_leads : (before : Pending) (seen : Bool) {parts : List Part} → Nest parts
+    → Leads (open_names before) (item_parts before seen parts) (open_names (after_item before seen))
 item_leads before true nest = then_lead (end_leads before) nest
 item_leads before false nest = record { leads = λ around tags. refl }
 
@@ -112,16 +117,23 @@ request_nests name = record { leads = λ around tags. refl }
 note_nests : (kind text : List ℕ) → Nest (note_parts kind text)
 note_nests kind text = by (bytes_eq kind (codes "check"))
   where
-    by : (check : Bool) → Nest (if check then note_parts (codes "check") text else MarkupPart markup.NoteItem ∷ TextPart (note_prefix kind) ∷ TextPart text ∷ MarkupPart markup.EndItem ∷ [])
+    by : (check : Bool) → Nest (if check then note_parts (codes "check") text
+        else MarkupPart markup.NoteItem ∷ TextPart (note_prefix kind) ∷ TextPart text ∷ MarkupPart markup.EndItem ∷ [])
     by true = record { leads = λ around tags. refl }
     by false = record { leads = λ around tags. refl }
 
 module _ (build : Build) where
   done_nests : (status : ℤ) (name : List ℕ) → Nest (done_parts build status name)
-  done_nests status name = record { leads = λ around tags. simp (joined, (linked_nests (position_of_name build name) name).leads, (exit_nests status).leads) }
+  done_nests status name = record {
+    leads = λ around tags.
+        simp (joined, (linked_nests (position_of_name build name) name).leads, (exit_nests status).leads);
+  }
 
   mention_nests : (how : How) (name : List ℕ) (opening : Opening) → Nest (mention_parts build how name opening)
-  mention_nests how name opening = record { leads = λ around tags. simp (joined, (linked_nests (opening_position build opening) name).leads, (how_nests build.options.debug_locks how).leads) }
+  mention_nests how name opening = record {
+    leads = λ around tags.
+        simp (joined, (linked_nests (opening_position build opening) name).leads, (how_nests build.options.debug_locks how).leads);
+  }
 
   entry_nests : (entry : Entry) → Nest (entry_parts build entry)
   entry_nests (Text line) = record { leads = λ around tags. refl }
@@ -140,7 +152,8 @@ module _ (build : Build) where
 
   heading_nests : (event : Event) (position : ℕ) → Nest (heading_parts build event position)
   heading_nests (Requested name opening) position = then_lead (name_nests name) (facts_nest (node_at build.nodes position))
-  heading_nests (Mentioned depth pid how name opening) position = then_lead (name_nests name) (then_lead (how_nests build.options.debug_locks how) (facts_nest (node_at build.nodes position)))
+  heading_nests (Mentioned depth pid how name opening) position =
+      then_lead (name_nests name) (then_lead (how_nests build.options.debug_locks how) (facts_nest (node_at build.nodes position)))
   heading_nests (EntryShown depth entry) position = record { leads = λ around tags. refl }
   heading_nests (LogEnds depth) position = record { leads = λ around tags. refl }
 
@@ -149,19 +162,24 @@ module _ (build : Build) where
 
   -- The elements around what a log contains.
   abbrev inside_names : Level → ℕ → List (List ℕ)
-  inside_names level position = if is_empty (node_at build.nodes position) then codes "li" ∷ [] else if nat_le max_depth level.depth then [] else list_names
+  inside_names level position = if is_empty (node_at build.nodes position) then codes "li" ∷ [] else if nat_le max_depth level.depth then []
+      else list_names
 
   flat_nests : (position depth : ℕ) {heading : List Part} → Nest heading → Nest (flat_start build position depth heading)
   flat_nests position depth nest = record { leads = λ around tags. simp (joined, nest.leads, (moved_nests position).leads) }
 
-  nested_leads : (expanded : Bool) (position : ℕ) {heading : List Part} → Nest heading → Leads [] (nested_start build expanded position heading) list_names
+  nested_leads : (expanded : Bool) (position : ℕ) {heading : List Part} → Nest heading
+      → Leads [] (nested_start build expanded position heading) list_names
   nested_leads true position nest = record { leads = λ around tags. simp (joined, nest.leads, (moved_nests position).leads) }
   nested_leads false position nest = record { leads = λ around tags. simp (joined, nest.leads, (moved_nests position).leads) }
 
-  opening_leads : (level : Level) (position : ℕ) {heading : List Part} → Nest heading → Leads [] (opening_parts build level position heading) (inside_names level position)
+  opening_leads : (level : Level) (position : ℕ) {heading : List Part} → Nest heading
+      → Leads [] (opening_parts build level position heading) (inside_names level position)
   opening_leads level position {heading} nest = by (is_empty (node_at build.nodes position)) (nat_le max_depth level.depth)
     where
-      by : (empty deep : Bool) → Leads [] (if empty then empty_start position heading else if deep then flat_start build position level.depth heading else nested_start build (is_expanded build level (node_at build.nodes position)) position heading)
+      by : (empty deep : Bool) → Leads []
+          (if empty then empty_start position heading else if deep then flat_start build position level.depth heading
+          else nested_start build (is_expanded build level (node_at build.nodes position)) position heading)
           (if empty then codes "li" ∷ [] else if deep then [] else list_names)
       by true deep = record { leads = λ around tags. nest.leads (codes "li" ∷ around) tags }
       by false true = flat_nests position level.depth nest
@@ -170,35 +188,45 @@ module _ (build : Build) where
   closing_leads : (level : Level) (position : ℕ) → Leads (inside_names level position) (closing_parts build level position) []
   closing_leads level position = by (is_empty (node_at build.nodes position)) (nat_le max_depth level.depth)
     where
-      by : (empty deep : Bool) → Leads (if empty then codes "li" ∷ [] else if deep then [] else list_names) (if empty then MarkupPart EndItem ∷ [] else if deep then flat_end build position else nested_end) []
+      by : (empty deep : Bool) → Leads (if empty then codes "li" ∷ [] else if deep then [] else list_names)
+          (if empty then MarkupPart EndItem ∷ [] else if deep then flat_end build position else nested_end) []
       by true deep = record { leads = λ around tags. refl }
       by false true = record { leads = λ around tags. refl }
       by false false = record { leads = λ around tags. refl }
 
-  group_start_leads : (level : Level) (position : ℕ) (before : Pending) → IsOpen before → Leads (open_names before) (group_start build level position before) (group_names (group_left build level position before))
+  group_start_leads : (level : Level) (position : ℕ) (before : Pending) → IsOpen before
+      → Leads (open_names before) (group_start build level position before) (group_names (group_left build level position before))
   group_start_leads level position pending.Nothing is = group_leads (group_size build level position)
   group_start_leads level position (pending.Group left) is = rw is (record { leads = λ around tags. refl })
-  group_start_leads level position (pending.Text block) is = then_lead (end_leads (pending.Text block)) (group_leads (group_size build level position))
+  group_start_leads level position (pending.Text block) is =
+      then_lead (end_leads (pending.Text block)) (group_leads (group_size build level position))
 
   log_start_leads : (level : Level) (position : ℕ) (before : Pending) (event : Event) → IsOpen before
-      → Leads (open_names before) (log_start build level position before event) (inside_names level position ++ group_names (group_left build level position before))
-  log_start_leads level position before event is = then_lead (group_start_leads level position before is) (lead_around (group_names (group_left build level position before)) (opening_leads level position (heading_nests event position)))
+      → Leads (open_names before) (log_start build level position before event)
+      (inside_names level position ++ group_names (group_left build level position before))
+  log_start_leads level position before event is =
+      then_lead (group_start_leads level position before is)
+      (lead_around (group_names (group_left build level position before)) (opening_leads level position (heading_nests event position)))
 
-  log_end_leads : (level : Level) (position left : ℕ) → Leads (inside_names level position ++ group_names left) (log_end build level position left) (open_names (after_log left))
+  log_end_leads : (level : Level) (position left : ℕ)
+      → Leads (inside_names level position ++ group_names left) (log_end build level position left) (open_names (after_log left))
   log_end_leads level position left = then_lead (lead_around (group_names left) (closing_leads level position)) (group_end_leads left)
 
   -- ---- contents
 
-  shown_leads : (level : Level) (before : Pending) (event : Event) → Leads (open_names before) (shown_parts build level before event) (open_names (after_shown build level before event))
+  shown_leads : (level : Level) (before : Pending) (event : Event)
+      → Leads (open_names before) (shown_parts build level before event) (open_names (after_shown build level before event))
   shown_leads level before (Requested name opening) = item_leads before true (request_nests name)
   shown_leads level before (Mentioned depth pid how name opening) = item_leads before true (mention_nests how name opening)
   shown_leads level before (EntryShown depth (Text line)) = by (is_moved_if build level.position)
     where
-      by : (moved : Bool) → Leads (open_names before) (if moved then [] else line_parts before line) (open_names (if moved then before else after_line before line))
+      by : (moved : Bool) → Leads (open_names before) (if moved then [] else line_parts before line)
+          (open_names (if moved then before else after_line before line))
       by true = record { leads = λ around tags. refl }
       by false = line_leads before line
   shown_leads level before (EntryShown depth (Mention pid how name)) = record { leads = λ around tags. refl }
-  shown_leads level before (EntryShown depth (Done pid status name)) = item_leads before (is_seen build level (EntryShown depth (Done pid status name))) (done_nests status name)
+  shown_leads level before (EntryShown depth (Done pid status name)) =
+      item_leads before (is_seen build level (EntryShown depth (Done pid status name))) (done_nests status name)
   shown_leads level before (EntryShown depth (Closing pid status)) = record { leads = λ around tags. refl }
   shown_leads level before (EntryShown depth (Note pid kind text)) = item_leads before true (note_nests kind text)
   shown_leads level before (LogEnds depth) = record { leads = λ around tags. refl }
@@ -212,22 +240,28 @@ module _ (build : Build) where
       by true = is
       by false = tt
   shown_open level before (EntryShown depth (Mention pid how name)) is = is
-  shown_open level before (EntryShown depth (Done pid status name)) is = item_open before (is_seen build level (EntryShown depth (Done pid status name))) is
+  shown_open level before (EntryShown depth (Done pid status name)) is =
+      item_open before (is_seen build level (EntryShown depth (Done pid status name))) is
   shown_open level before (EntryShown depth (Closing pid status)) is = is
   shown_open level before (EntryShown depth (Note pid kind text)) is = tt
   shown_open level before (LogEnds depth) is = is
 
-  contents_lead : (level : Level) (position : ℕ) (before : Pending) (contents : Contents) → IsOpen before → Leads (open_names before) (contents_parts build level position before contents) []
+  contents_lead : (level : Level) (position : ℕ) (before : Pending) (contents : Contents) → IsOpen before
+      → Leads (open_names before) (contents_parts build level position before contents) []
   contents_lead level position before Nothing is = end_leads before
-  contents_lead level position before (Shown event rest) is = then_lead (shown_leads level before event) (contents_lead level position (after_shown build level before event) rest (shown_open level before event is))
+  contents_lead level position before (Shown event rest) is =
+      then_lead (shown_leads level before event)
+      (contents_lead level position (after_shown build level before event) rest (shown_open level before event is))
   contents_lead level position before (Opened event number inside rest) is =
       let left = group_left build level position before in
       then_lead (log_start_leads level position before event is)
-      (then_lead (lead_in (inside_names level position ++ group_names left) (contents_lead (level_of build level position) (suc position) pending.Nothing inside tt))
+      (then_lead (lead_in (inside_names level position ++ group_names left)
+      (contents_lead (level_of build level position) (suc position) pending.Nothing inside tt))
       (then_lead (log_end_leads level position left)
       (contents_lead level (suc position + log_count inside) (after_log left) rest (after_log_open left))))
 
-pub tree_nests : (logs : List Log) (options : Options) (nodes : List Node) (contents : Contents) → Nest (tree_parts logs options nodes contents)
+pub tree_nests : (logs : List Log) (options : Options) (nodes : List Node) (contents : Contents)
+    → Nest (tree_parts logs options nodes contents)
 tree_nests logs options nodes contents =
     let build : Build = record { logs = logs; options = options; nodes = nodes; articles = articles nodes } in
     record { leads = λ around tags. simp (joined, (contents_lead build top_level 0 pending.Nothing contents tt).leads) }

@@ -44,7 +44,8 @@ abbrev logs : List Log
 logs = log (codes "a") ∷ log (codes "b") ∷ log (codes "c") ∷ []
 
 abbrev node : ℕ → Option ℕ → Option ℤ → ℕ → ℕ → Bool → Node
-node number parent status lines children others = record no_node { number = number; parent = parent; status = status; lines = lines; bytes = lines; children = children; others = others }
+node number parent status lines children others =
+    record no_node { number = number; parent = parent; status = status; lines = lines; bytes = lines; children = children; others = others }
 
 -- `c` is requested, and has two logs in it and something else. Of these `a` failed, and printed one line, and `b` has nothing in it.
 abbrev c : Node
@@ -80,8 +81,10 @@ mention = Mentioned 1 9 Made (codes "a") (OpensHere 0)
 -- ---- what a target is
 
 failed_are :
-    (has_failed a ≡ true) × (has_failed b ≡ false) × (has_failed (node 0 None None 0 0 false) ≡ false) × (is_root_failure a ≡ true) × (is_root_failure b ≡ false)
-    × (has_failed (record b { fails_below = true }) ≡ false) × (is_root_failure (record a { fails_below = true }) ≡ false) × (root_failures (a ∷ b ∷ a ∷ []) ≡ 0 ∷ 2 ∷ [])
+    (has_failed a ≡ true) × (has_failed b ≡ false) × (has_failed (node 0 None None 0 0 false) ≡ false) × (is_root_failure a ≡ true)
+    × (is_root_failure b ≡ false)
+    × (has_failed (record b { fails_below = true }) ≡ false) × (is_root_failure (record a { fails_below = true }) ≡ false)
+    × (root_failures (a ∷ b ∷ a ∷ []) ≡ 0 ∷ 2 ∷ [])
 failed_are = (refl, refl, refl, refl, refl, refl, refl, refl)
 
 -- A target that failed, and one that didn't.
@@ -93,18 +96,21 @@ made_at time = record b { ended = time }
 
 -- Targets that ended first are first, and targets with an unknown end are last. Others are in the order of the tree.
 order_is :
-    (root_failures (failed_at (Some 30) ∷ failed_at (Some 10) ∷ failed_at None ∷ made_at (Some 5) ∷ failed_at (Some 20) ∷ failed_at None ∷ failed_at (Some 10) ∷ []) ≡ 1 ∷ 6 ∷ 4 ∷ 0 ∷ 2 ∷ 5 ∷ [])
+    (root_failures (failed_at (Some 30) ∷ failed_at (Some 10) ∷ failed_at None ∷ made_at (Some 5) ∷ failed_at (Some 20) ∷ failed_at None
+    ∷ failed_at (Some 10) ∷ []) ≡ 1 ∷ 6 ∷ 4 ∷ 0 ∷ 2 ∷ 5 ∷ [])
     × (root_failures (failed_at None ∷ made_at None ∷ failed_at (Some 0) ∷ []) ≡ 2 ∷ 0 ∷ [])
 order_is = (refl, refl)
 
 ends_compared :
-    (end_cmp (Some 1) (Some 2) ≡ Less) × (end_cmp (Some 2) (Some 2) ≡ Equal) × (end_cmp (Some 2) (Some 1) ≡ Greater) × (end_cmp (Some 2) None ≡ Less)
+    (end_cmp (Some 1) (Some 2) ≡ Less) × (end_cmp (Some 2) (Some 2) ≡ Equal) × (end_cmp (Some 2) (Some 1) ≡ Greater)
+    × (end_cmp (Some 2) None ≡ Less)
     × (end_cmp None (Some 2) ≡ Greater) × (end_cmp None None ≡ Equal)
 ends_compared = (refl, refl, refl, refl, refl, refl)
 
 -- Equal ends, and unknown ones, are compared by their positions.
 failures_compared :
-    (failure_cmp (failed_at (Some 8) ∷ failed_at (Some 8) ∷ []) 0 1 ≡ Less) × (failure_cmp (failed_at None ∷ failed_at None ∷ []) 1 0 ≡ Greater)
+    (failure_cmp (failed_at (Some 8) ∷ failed_at (Some 8) ∷ []) 0 1 ≡ Less)
+    × (failure_cmp (failed_at None ∷ failed_at None ∷ []) 1 0 ≡ Greater)
     × (failure_cmp (failed_at None ∷ failed_at (Some 8) ∷ []) 1 0 ≡ Less)
 failures_compared = (refl, refl, refl)
 
@@ -112,7 +118,8 @@ empty_are : (is_empty b ≡ true) × (is_empty a ≡ false) × (is_empty (node 0
 empty_are = (refl, refl, refl)
 
 one_child_are :
-    (has_one_child None ≡ true) × (has_one_child (Some (node 0 None None 0 1 false)) ≡ true) × (has_one_child (Some (node 0 None None 0 1 true)) ≡ false)
+    (has_one_child None ≡ true) × (has_one_child (Some (node 0 None None 0 1 false)) ≡ true)
+    × (has_one_child (Some (node 0 None None 0 1 true)) ≡ false)
     × (has_one_child (Some (node 0 None None 0 2 false)) ≡ false) × (has_one_child (Some b) ≡ false)
 one_child_are = (refl, refl, refl, refl, refl)
 
@@ -121,48 +128,58 @@ silent_are = (refl, refl, refl)
 
 -- ---- positions
 
-positions_are : (position_of nodes 1 ≡ Some 2) × (position_of nodes 7 ≡ None) × (node_at nodes 1 ≡ a) × (node_if nodes None ≡ None) × (node_if nodes (Some 1) ≡ Some a)
+positions_are : (position_of nodes 1 ≡ Some 2) × (position_of nodes 7 ≡ None) × (node_at nodes 1 ≡ a) × (node_if nodes None ≡ None)
+    × (node_if nodes (Some 1) ≡ Some a)
 positions_are = (refl, refl, refl, refl, refl)
 
 same_are :
-    (is_same_position None None ≡ true) × (is_same_position None (Some 0) ≡ false) × (is_same_position (Some 0) None ≡ false) × (is_same_position (Some 1) (Some 1) ≡ true)
+    (is_same_position None None ≡ true) × (is_same_position None (Some 0) ≡ false) × (is_same_position (Some 0) None ≡ false)
+    × (is_same_position (Some 1) (Some 1) ≡ true)
     × (is_same_position (Some 1) (Some 2) ≡ false)
 same_are = (refl, refl, refl, refl, refl)
 
 openings_are :
-    (opening_position build NotOpened ≡ None) × (opening_position build (OpenedBefore 1) ≡ Some 2) × (opening_position build (OpensHere 2) ≡ Some 0)
-    × (position_of_name build (codes "b") ≡ Some 2) × (position_of_name build (codes "x") ≡ None) × (position_of_name (build_of false (c ∷ []) []) (codes "b") ≡ None)
+    (opening_position build NotOpened ≡ None) × (opening_position build (OpenedBefore 1) ≡ Some 2)
+    × (opening_position build (OpensHere 2) ≡ Some 0)
+    × (position_of_name build (codes "b") ≡ Some 2) × (position_of_name build (codes "x") ≡ None)
+    × (position_of_name (build_of false (c ∷ []) []) (codes "b") ≡ None)
 openings_are = (refl, refl, refl, refl, refl, refl)
 
 positions_in_level_are :
-    (is_in_level build top_level None ≡ false) × (is_in_level build top_level (Some 0) ≡ true) × (is_in_level build (level (Some 0) true 1) (Some 2) ≡ true)
+    (is_in_level build top_level None ≡ false) × (is_in_level build top_level (Some 0) ≡ true)
+    × (is_in_level build (level (Some 0) true 1) (Some 2) ≡ true)
     × (is_in_level build (level (Some 2) true 1) (Some 2) ≡ false)
 positions_in_level_are = (refl, refl, refl, refl)
 
 -- ---- articles and levels
 
 moved_are :
-    (has_article build 1 ≡ true) × (has_article build 2 ≡ false) × (is_moved build 1 ≡ true) × (is_moved (build_of false nodes []) 1 ≡ false)
-    × (is_moved (build_of false nodes (2 ∷ [])) 2 ≡ false) × (is_moved_if build None ≡ false) × (is_moved_if build (Some 1) ≡ true) × (is_moved_if build (Some 0) ≡ false)
+    (has_article build 1 ≡ true) × (has_article build 2 ≡ false) × (is_moved build 1 ≡ true)
+    × (is_moved (build_of false nodes []) 1 ≡ false)
+    × (is_moved (build_of false nodes (2 ∷ [])) 2 ≡ false) × (is_moved_if build None ≡ false) × (is_moved_if build (Some 1) ≡ true)
+    × (is_moved_if build (Some 0) ≡ false)
 moved_are = (refl, refl, refl, refl, refl, refl, refl, refl)
 
 -- Requested targets are expanded, and so are targets that failed, those around them, and the only log in an expanded one.
 expanded_are :
-    (is_expanded build top_level b ≡ true) × (is_expanded build (level (Some 0) true 1) b ≡ false) × (is_expanded build (level (Some 0) false 1) a ≡ true)
+    (is_expanded build top_level b ≡ true) × (is_expanded build (level (Some 0) true 1) b ≡ false)
+    × (is_expanded build (level (Some 0) false 1) a ≡ true)
     × (is_expanded build (level (Some 0) false 1) (record b { fails_below = true }) ≡ true)
     × (is_expanded (build_of false (node 2 None (Some (pos 0)) 0 1 false ∷ []) []) (level (Some 0) true 1) b ≡ true)
     × (is_expanded (build_of false (node 2 None (Some (pos 0)) 0 1 false ∷ []) []) (level (Some 0) false 1) b ≡ false)
 expanded_are = (refl, refl, refl, refl, refl, refl)
 
 levels_are :
-    (top_level ≡ level None true 0) × (level_of build top_level 0 ≡ level (Some 0) true 1) × (level_of build (level (Some 0) true 4) 2 ≡ level (Some 2) false 5)
+    (top_level ≡ level None true 0) × (level_of build top_level 0 ≡ level (Some 0) true 1)
+    × (level_of build (level (Some 0) true 4) 2 ≡ level (Some 2) false 5)
 levels_are = (refl, refl, refl)
 
 -- ---- groups
 
 groups_are :
     (group_parts 0 ≡ [])
-    × (group_parts 5 ≡ tag markup.Item ∷ tag markup.QuietDetails ∷ tag markup.Summary ∷ number 5 ∷ words (codes " targets that printed nothing") ∷ tag markup.EndSummary ∷ tag markup.Unordered ∷ [])
+    × (group_parts 5 ≡ tag markup.Item ∷ tag markup.QuietDetails ∷ tag markup.Summary ∷ number 5
+    ∷ words (codes " targets that printed nothing") ∷ tag markup.EndSummary ∷ tag markup.Unordered ∷ [])
     × (group_end 0 ≡ []) × (group_end 1 ≡ tag markup.EndUnordered ∷ tag markup.EndDetails ∷ tag markup.EndItem ∷ []) × (group_end 2 ≡ [])
     × (after_log 0 ≡ pending.Nothing) × (after_log 1 ≡ pending.Nothing) × (after_log 2 ≡ pending.Group 1) × (after_log 5 ≡ pending.Group 4)
 groups_are = (refl, refl, refl, refl, refl, refl, refl, refl, refl)
@@ -172,15 +189,18 @@ silent count = record b { silent = count }
 
 -- The second log is in a log with something else, and in a silent one.
 sizes_are :
-    (group_size (build_of false (c ∷ silent 5 ∷ []) []) (level (Some 0) true 1) 1 ≡ 5) × (group_size (build_of false (c ∷ silent 4 ∷ []) []) (level (Some 0) true 1) 1 ≡ 0)
-    × (group_size (build_of false (silent 9 ∷ silent 6 ∷ []) []) (level (Some 0) true 1) 1 ≡ 0) × (group_size (build_of false (silent 9 ∷ []) []) top_level 0 ≡ 9)
+    (group_size (build_of false (c ∷ silent 5 ∷ []) []) (level (Some 0) true 1) 1 ≡ 5)
+    × (group_size (build_of false (c ∷ silent 4 ∷ []) []) (level (Some 0) true 1) 1 ≡ 0)
+    × (group_size (build_of false (silent 9 ∷ silent 6 ∷ []) []) (level (Some 0) true 1) 1 ≡ 0)
+    × (group_size (build_of false (silent 9 ∷ []) []) top_level 0 ≡ 9)
 sizes_are = (refl, refl, refl, refl)
 
 abbrev grouped : Build
 grouped = build_of false (c ∷ silent 5 ∷ []) []
 
 left_are :
-    (group_left grouped (level (Some 0) true 1) 1 pending.Nothing ≡ 5) × (group_left grouped (level (Some 0) true 1) 1 block ≡ 5) × (group_left grouped (level (Some 0) true 1) 1 (pending.Group 3) ≡ 3)
+    (group_left grouped (level (Some 0) true 1) 1 pending.Nothing ≡ 5) × (group_left grouped (level (Some 0) true 1) 1 block ≡ 5)
+    × (group_left grouped (level (Some 0) true 1) 1 (pending.Group 3) ≡ 3)
     × (group_left build (level (Some 0) true 1) 1 pending.Nothing ≡ 0)
 left_are = (refl, refl, refl, refl)
 
@@ -211,7 +231,8 @@ headings_are :
 headings_are = (refl, refl, refl, refl, refl, refl)
 
 abbrev moved : List Part → List Part
-moved rest = tag markup.NoteItem ∷ tag (markup.OutputLink 1) ∷ words (codes "What it printed is shown above") ∷ tag markup.EndLink ∷ tag markup.EndItem ∷ rest
+moved rest = tag markup.NoteItem ∷ tag (markup.OutputLink 1) ∷ words (codes "What it printed is shown above") ∷ tag markup.EndLink
+    ∷ tag markup.EndItem ∷ rest
 
 links_are : (moved_parts build 1 ≡ moved []) × (moved_parts build 0 ≡ []) × (moved_parts (build_of false nodes (2 ∷ [])) 2 ≡ [])
 links_are = (refl, refl, refl)
@@ -227,7 +248,8 @@ details_are = (refl, refl)
 
 -- How deep a log is, and the end of its item.
 abbrev depth : ℕ → List Part → List Part
-depth value rest = words (codes " ") ∷ tag markup.Small ∷ words (codes "level ") ∷ number value ∷ tag markup.EndSmall ∷ tag markup.EndItem ∷ rest
+depth value rest = words (codes " ") ∷ tag markup.Small ∷ words (codes "level ") ∷ number value ∷ tag markup.EndSmall
+    ∷ tag markup.EndItem ∷ rest
 
 flat_are :
     (depth_parts 61 ≡ depth 61 [])
@@ -237,46 +259,58 @@ flat_are :
 flat_are = (refl, refl, refl, refl)
 
 nested_are :
-    (nested_start build true 1 x ≡ tag markup.Item ∷ tag (markup.OpenDetails 1) ∷ tag markup.Summary ∷ words (codes "x") ∷ tag markup.EndSummary ∷ tag markup.Unordered ∷ moved [])
-    × (nested_start build false 0 x ≡ tag markup.Item ∷ tag (markup.Details 0) ∷ tag markup.Summary ∷ words (codes "x") ∷ tag markup.EndSummary ∷ tag markup.Unordered ∷ [])
+    (nested_start build true 1 x ≡ tag markup.Item ∷ tag (markup.OpenDetails 1) ∷ tag markup.Summary ∷ words (codes "x")
+    ∷ tag markup.EndSummary ∷ tag markup.Unordered ∷ moved [])
+    × (nested_start build false 0 x ≡ tag markup.Item ∷ tag (markup.Details 0) ∷ tag markup.Summary ∷ words (codes "x")
+    ∷ tag markup.EndSummary ∷ tag markup.Unordered ∷ [])
 nested_are = (refl, refl)
 
 -- A log that contains nothing, one that is too deep to be nested, and nested ones.
 opened_are :
-    (opening_parts build (level (Some 0) true 1) 2 x ≡ empty_start 2 x) × (opening_parts build (level (Some 0) true 60) 2 x ≡ empty_start 2 x)
-    × (opening_parts build (level (Some 0) true 60) 1 x ≡ flat_start build 1 60 x) × (opening_parts build (level (Some 0) true 61) 1 x ≡ flat_start build 1 61 x)
-    × (opening_parts build (level (Some 0) false 59) 1 x ≡ nested_start build true 1 x) × (opening_parts build (level (Some 1) false 0) 0 x ≡ nested_start build false 0 x)
+    (opening_parts build (level (Some 0) true 1) 2 x ≡ empty_start 2 x)
+    × (opening_parts build (level (Some 0) true 60) 2 x ≡ empty_start 2 x)
+    × (opening_parts build (level (Some 0) true 60) 1 x ≡ flat_start build 1 60 x)
+    × (opening_parts build (level (Some 0) true 61) 1 x ≡ flat_start build 1 61 x)
+    × (opening_parts build (level (Some 0) false 59) 1 x ≡ nested_start build true 1 x)
+    × (opening_parts build (level (Some 1) false 0) 0 x ≡ nested_start build false 0 x)
 opened_are = (refl, refl, refl, refl, refl, refl)
 
 abbrev end : List Part
 end = tag markup.EndUnordered ∷ tag markup.EndDetails ∷ tag markup.EndItem ∷ []
 
 closed_are :
-    (closing_parts build (level (Some 0) true 1) 2 ≡ tag markup.EndItem ∷ []) × (closing_parts build (level (Some 0) true 60) 2 ≡ tag markup.EndItem ∷ [])
-    × (closing_parts build (level (Some 0) true 60) 0 ≡ tag markup.NoteItem ∷ words (codes "end of ") ∷ name (codes "c") (tag markup.EndItem ∷ []))
+    (closing_parts build (level (Some 0) true 1) 2 ≡ tag markup.EndItem ∷ [])
+    × (closing_parts build (level (Some 0) true 60) 2 ≡ tag markup.EndItem ∷ [])
+    × (closing_parts build (level (Some 0) true 60) 0
+    ≡ tag markup.NoteItem ∷ words (codes "end of ") ∷ name (codes "c") (tag markup.EndItem ∷ []))
     × (closing_parts build (level (Some 0) true 59) 0 ≡ end)
 closed_are = (refl, refl, refl, refl)
 
 ends_are :
-    (log_end build (level (Some 0) true 1) 2 0 ≡ tag markup.EndItem ∷ []) × (log_end build (level (Some 0) true 1) 2 1 ≡ tag markup.EndItem ∷ end)
+    (log_end build (level (Some 0) true 1) 2 0 ≡ tag markup.EndItem ∷ [])
+    × (log_end build (level (Some 0) true 1) 2 1 ≡ tag markup.EndItem ∷ end)
     × (log_end build (level (Some 0) true 1) 0 1 ≡ tag markup.EndUnordered ∷ tag markup.EndDetails ∷ tag markup.EndItem ∷ end)
 ends_are = (refl, refl, refl)
 
 log_starts_are :
-    (log_start build (level (Some 0) true 1) 2 block (Mentioned 1 9 Made (codes "b") (OpensHere 1)) ≡ tag markup.EndPre ∷ tag markup.EndItem ∷ tag (markup.TargetItem 2) ∷ name (codes "b") [])
-    × (log_start grouped (level (Some 0) true 1) 1 pending.Nothing (Mentioned 1 9 Made (codes "b") (OpensHere 1)) ≡ group_parts 5 ++ tag (markup.TargetItem 1) ∷ name (codes "b") [])
+    (log_start build (level (Some 0) true 1) 2 block (Mentioned 1 9 Made (codes "b") (OpensHere 1))
+    ≡ tag markup.EndPre ∷ tag markup.EndItem ∷ tag (markup.TargetItem 2) ∷ name (codes "b") [])
+    × (log_start grouped (level (Some 0) true 1) 1 pending.Nothing (Mentioned 1 9 Made (codes "b") (OpensHere 1))
+    ≡ group_parts 5 ++ tag (markup.TargetItem 1) ∷ name (codes "b") [])
 log_starts_are = (refl, refl)
 
 -- ---- events that open no log
 
-items_are : (item_parts block true x ≡ tag markup.EndPre ∷ tag markup.EndItem ∷ x) × (item_parts block false x ≡ []) × (after_item block true ≡ pending.Nothing) × (after_item block false ≡ block)
+items_are : (item_parts block true x ≡ tag markup.EndPre ∷ tag markup.EndItem ∷ x) × (item_parts block false x ≡ [])
+    × (after_item block true ≡ pending.Nothing) × (after_item block false ≡ block)
 items_are = (refl, refl, refl, refl)
 
 request_is : request_parts (codes "q") ≡ tag markup.Item ∷ name (codes "q") (tag markup.EndItem ∷ [])
 request_is = refl
 
 notes_are :
-    (note_parts (codes "check") (codes "x") ≡ tag markup.NoteItem ∷ words (codes "(") ∷ words (codes "x") ∷ words (codes ")") ∷ tag markup.EndItem ∷ [])
+    (note_parts (codes "check") (codes "x")
+    ≡ tag markup.NoteItem ∷ words (codes "(") ∷ words (codes "x") ∷ words (codes ")") ∷ tag markup.EndItem ∷ [])
     × (note_parts (codes "checks") (codes "x") ≡ tag markup.NoteItem ∷ words (codes "redo: ") ∷ words (codes "x") ∷ tag markup.EndItem ∷ [])
     × (note_parts [] (codes "x") ≡ tag markup.NoteItem ∷ words [] ∷ words (codes "x") ∷ tag markup.EndItem ∷ [])
 notes_are = (refl, refl, refl)
@@ -285,14 +319,22 @@ abbrev link : ℕ → List ℕ → List Part → List Part
 link position target rest = tag (markup.TargetLink position) ∷ name target (tag markup.EndLink ∷ rest)
 
 done_are :
-    (done_parts build (negsuc 0) (codes "b") ≡ tag markup.NoteItem ∷ words (codes "needs ") ∷ link 2 (codes "b") (words (codes " ") ∷ tag markup.ExitBadge ∷ words (codes "exit ") ∷ words (codes "-") ∷ number 1 ∷ tag markup.EndBadge ∷ tag markup.EndItem ∷ []))
-    × (done_parts build (pos 3) (codes "x") ≡ tag markup.NoteItem ∷ words (codes "needs ") ∷ name (codes "x") (words (codes " ") ∷ tag markup.ExitBadge ∷ words (codes "exit ") ∷ words [] ∷ number 3 ∷ tag markup.EndBadge ∷ tag markup.EndItem ∷ []))
+    (done_parts build (negsuc 0) (codes "b")
+    ≡ tag markup.NoteItem ∷ words (codes "needs ")
+    ∷ link 2 (codes "b") (words (codes " ") ∷ tag markup.ExitBadge ∷ words (codes "exit ") ∷ words (codes "-") ∷ number 1
+    ∷ tag markup.EndBadge ∷ tag markup.EndItem ∷ []))
+    × (done_parts build (pos 3) (codes "x")
+    ≡ tag markup.NoteItem ∷ words (codes "needs ")
+    ∷ name (codes "x") (words (codes " ") ∷ tag markup.ExitBadge ∷ words (codes "exit ") ∷ words [] ∷ number 3 ∷ tag markup.EndBadge
+    ∷ tag markup.EndItem ∷ []))
 done_are = (refl, refl)
 
 mentions_are :
     (mention_parts build Locked (codes "b") (OpenedBefore 1) ≡ tag markup.Item ∷ link 2 (codes "b") (tag markup.EndItem ∷ []))
     × (mention_parts build Locked (codes "x") NotOpened ≡ tag markup.Item ∷ name (codes "x") (tag markup.EndItem ∷ []))
-    × (mention_parts (build_of true nodes []) Locked (codes "b") (OpenedBefore 1) ≡ tag markup.Item ∷ link 2 (codes "b") (words (codes " ") ∷ tag markup.Small ∷ words (codes "locked") ∷ tag markup.EndSmall ∷ tag markup.EndItem ∷ []))
+    × (mention_parts (build_of true nodes []) Locked (codes "b") (OpenedBefore 1)
+    ≡ tag markup.Item ∷ link 2 (codes "b")
+    (words (codes " ") ∷ tag markup.Small ∷ words (codes "locked") ∷ tag markup.EndSmall ∷ tag markup.EndItem ∷ []))
 mentions_are = (refl, refl, refl)
 
 abbrev in_c : Level
@@ -303,16 +345,23 @@ in_a = level (Some 1) true 2
 
 -- Whether another target that is done is seen: the log of `a` is directly in the log of `c`.
 seen_are :
-    (is_seen build top_level (Requested (codes "q") NotOpened) ≡ true) × (is_seen build in_c (Mentioned 1 9 Made (codes "q") NotOpened) ≡ true)
-    × (is_seen build in_c (EntryShown 1 (Done 9 (pos 2) (codes "a"))) ≡ false) × (is_seen build in_a (EntryShown 1 (Done 9 (pos 2) (codes "a"))) ≡ true)
-    × (is_seen build in_a (EntryShown 1 (Done 9 (pos 0) (codes "a"))) ≡ false) × (is_seen build in_c (EntryShown 1 (Done 9 (pos 2) (codes "x"))) ≡ true)
-    × (is_seen build in_c (EntryShown 1 (Note 9 (codes "n") (codes "t"))) ≡ true) × (is_seen build in_c (EntryShown 1 (Closing 9 (pos 2))) ≡ false) × (is_seen build in_c (LogEnds 1) ≡ false)
+    (is_seen build top_level (Requested (codes "q") NotOpened) ≡ true)
+    × (is_seen build in_c (Mentioned 1 9 Made (codes "q") NotOpened) ≡ true)
+    × (is_seen build in_c (EntryShown 1 (Done 9 (pos 2) (codes "a"))) ≡ false)
+    × (is_seen build in_a (EntryShown 1 (Done 9 (pos 2) (codes "a"))) ≡ true)
+    × (is_seen build in_a (EntryShown 1 (Done 9 (pos 0) (codes "a"))) ≡ false)
+    × (is_seen build in_c (EntryShown 1 (Done 9 (pos 2) (codes "x"))) ≡ true)
+    × (is_seen build in_c (EntryShown 1 (Note 9 (codes "n") (codes "t"))) ≡ true)
+    × (is_seen build in_c (EntryShown 1 (Closing 9 (pos 2))) ≡ false) × (is_seen build in_c (LogEnds 1) ≡ false)
 seen_are = (refl, refl, refl, refl, refl, refl, refl, refl, refl)
 
 what_is_seen_are :
-    (seen_parts build (Requested (codes "q") NotOpened) ≡ request_parts (codes "q")) × (seen_parts build (Mentioned 1 9 Locked (codes "b") (OpenedBefore 1)) ≡ mention_parts build Locked (codes "b") (OpenedBefore 1))
-    × (seen_parts build (EntryShown 1 (Note 9 (codes "n") (codes "t"))) ≡ note_parts (codes "n") (codes "t")) × (seen_parts build (LogEnds 1) ≡ [])
-    × (entry_parts build (Done 9 (pos 3) (codes "x")) ≡ done_parts build (pos 3) (codes "x")) × (entry_parts build (Note 9 (codes "n") (codes "t")) ≡ note_parts (codes "n") (codes "t"))
+    (seen_parts build (Requested (codes "q") NotOpened) ≡ request_parts (codes "q"))
+    × (seen_parts build (Mentioned 1 9 Locked (codes "b") (OpenedBefore 1)) ≡ mention_parts build Locked (codes "b") (OpenedBefore 1))
+    × (seen_parts build (EntryShown 1 (Note 9 (codes "n") (codes "t"))) ≡ note_parts (codes "n") (codes "t"))
+    × (seen_parts build (LogEnds 1) ≡ [])
+    × (entry_parts build (Done 9 (pos 3) (codes "x")) ≡ done_parts build (pos 3) (codes "x"))
+    × (entry_parts build (Note 9 (codes "n") (codes "t")) ≡ note_parts (codes "n") (codes "t"))
     × (entry_parts build (Closing 9 (pos 2)) ≡ [])
 what_is_seen_are = (refl, refl, refl, refl, refl, refl, refl)
 
@@ -321,16 +370,19 @@ line text = LogPart plain_style text
 
 -- The text of `a` is in its article, and the text of `c` isn't.
 texts_are :
-    (text_parts build in_a pending.Nothing (codes "x") ≡ []) × (text_parts build in_c pending.Nothing (codes "x") ≡ tag markup.Item ∷ tag markup.Pre ∷ line (codes "x\n") ∷ [])
+    (text_parts build in_a pending.Nothing (codes "x") ≡ [])
+    × (text_parts build in_c pending.Nothing (codes "x") ≡ tag markup.Item ∷ tag markup.Pre ∷ line (codes "x\n") ∷ [])
     × (after_text build in_a pending.Nothing (codes "x") ≡ pending.Nothing) × (after_text build in_c pending.Nothing (codes "x") ≡ block)
 unfolding symbols_after first_symbol symbol_len is_sequence sequence_len sequence_numbers first_code_point code_point_len
 texts_are = (refl, refl, refl, refl)
 
 shown_are :
     (shown_parts build in_c block (EntryShown 1 (Text (codes "y"))) ≡ line (codes "y\n") ∷ [])
-    × (shown_parts build in_c block (EntryShown 1 (Note 9 (codes "n") (codes "t"))) ≡ tag markup.EndPre ∷ tag markup.EndItem ∷ note_parts (codes "n") (codes "t"))
+    × (shown_parts build in_c block (EntryShown 1 (Note 9 (codes "n") (codes "t")))
+    ≡ tag markup.EndPre ∷ tag markup.EndItem ∷ note_parts (codes "n") (codes "t"))
     × (shown_parts build in_c block (EntryShown 1 (Closing 9 (pos 2))) ≡ [])
-    × (after_shown build in_c pending.Nothing (EntryShown 1 (Text (codes "x"))) ≡ block) × (after_shown build in_c block (EntryShown 1 (Note 9 (codes "n") (codes "t"))) ≡ pending.Nothing)
+    × (after_shown build in_c pending.Nothing (EntryShown 1 (Text (codes "x"))) ≡ block)
+    × (after_shown build in_c block (EntryShown 1 (Note 9 (codes "n") (codes "t"))) ≡ pending.Nothing)
     × (after_shown build in_c block (EntryShown 1 (Closing 9 (pos 2))) ≡ block)
 unfolding symbols_after first_symbol symbol_len is_sequence sequence_len sequence_numbers first_code_point code_point_len
 shown_are = (refl, refl, refl, refl, refl, refl)
@@ -341,12 +393,16 @@ shown_are = (refl, refl, refl, refl, refl, refl)
 contents_are :
     contents_parts build in_c 1 pending.Nothing
     (Shown (EntryShown 1 (Text (codes "x"))) (Opened mention 0 (Shown (EntryShown 2 (Note 9 (codes "n") (codes "t"))) Nothing)
-    (Shown (EntryShown 1 (Text (codes "y"))) (Opened (Mentioned 1 9 Made (codes "b") (OpensHere 1)) 1 Nothing (Shown (EntryShown 1 (Text (codes "z"))) Nothing)))))
+    (Shown (EntryShown 1 (Text (codes "y")))
+    (Opened (Mentioned 1 9 Made (codes "b") (OpensHere 1)) 1 Nothing (Shown (EntryShown 1 (Text (codes "z"))) Nothing)))))
     ≡ tag markup.Item ∷ tag markup.Pre ∷ line (codes "x\n") ∷ tag markup.EndPre ∷ tag markup.EndItem
-    ∷ tag markup.Item ∷ tag (markup.OpenDetails 1) ∷ tag markup.Summary ∷ name (codes "a") (facts (tag markup.EndSummary ∷ tag markup.Unordered ∷ moved
-    (tag markup.NoteItem ∷ words (codes "redo: ") ∷ words (codes "t") ∷ tag markup.EndItem ∷ tag markup.EndUnordered ∷ tag markup.EndDetails ∷ tag markup.EndItem
+    ∷ tag markup.Item ∷ tag (markup.OpenDetails 1) ∷ tag markup.Summary
+    ∷ name (codes "a") (facts (tag markup.EndSummary ∷ tag markup.Unordered ∷ moved
+    (tag markup.NoteItem ∷ words (codes "redo: ") ∷ words (codes "t") ∷ tag markup.EndItem ∷ tag markup.EndUnordered ∷ tag markup.EndDetails
+    ∷ tag markup.EndItem
     ∷ tag markup.Item ∷ tag markup.Pre ∷ line (codes "y\n") ∷ tag markup.EndPre ∷ tag markup.EndItem
-    ∷ tag (markup.TargetItem 2) ∷ name (codes "b") (tag markup.EndItem ∷ tag markup.Item ∷ tag markup.Pre ∷ line (codes "z\n") ∷ tag markup.EndPre ∷ tag markup.EndItem ∷ []))))
+    ∷ tag (markup.TargetItem 2) ∷ name (codes "b")
+    (tag markup.EndItem ∷ tag markup.Item ∷ tag markup.Pre ∷ line (codes "z\n") ∷ tag markup.EndPre ∷ tag markup.EndItem ∷ []))))
 contents_are = refl
 
 -- A note in a log, and a text line in a log whose output is moved.
@@ -356,21 +412,26 @@ inside_are :
     ≡ tag markup.Item ∷ tag (markup.Details 0) ∷ tag markup.Summary ∷ name (codes "b") (tag markup.EndSummary ∷ tag markup.Unordered
     ∷ tag markup.NoteItem ∷ words (codes "redo: ") ∷ words (codes "t") ∷ tag markup.EndItem ∷ end))
     × (contents_parts build in_c 1 pending.Nothing (Opened mention 0 (Shown (EntryShown 2 (Text (codes "x"))) Nothing) Nothing)
-    ≡ tag markup.Item ∷ tag (markup.OpenDetails 1) ∷ tag markup.Summary ∷ name (codes "a") (facts (tag markup.EndSummary ∷ tag markup.Unordered ∷ moved end)))
+    ≡ tag markup.Item ∷ tag (markup.OpenDetails 1) ∷ tag markup.Summary
+    ∷ name (codes "a") (facts (tag markup.EndSummary ∷ tag markup.Unordered ∷ moved end)))
 inside_are = (refl, refl)
 
 -- The logs after a log with another one in it.
 next_are :
     contents_parts (build_of false (node 2 None (Some (pos 0)) 0 1 false ∷ b ∷ b ∷ []) []) (level None false 0) 0 pending.Nothing
-    (Opened (Requested (codes "c") (OpensHere 2)) 2 (Opened (Mentioned 1 9 Made (codes "b") (OpensHere 1)) 1 Nothing Nothing) (Opened (Requested (codes "a") (OpensHere 0)) 0 Nothing Nothing))
+    (Opened (Requested (codes "c") (OpensHere 2)) 2 (Opened (Mentioned 1 9 Made (codes "b") (OpensHere 1)) 1 Nothing Nothing)
+    (Opened (Requested (codes "a") (OpensHere 0)) 0 Nothing Nothing))
     ≡ tag markup.Item ∷ tag (markup.Details 0) ∷ tag markup.Summary ∷ name (codes "c") (tag markup.EndSummary ∷ tag markup.Unordered
-    ∷ tag (markup.TargetItem 1) ∷ name (codes "b") (tag markup.EndItem ∷ tag markup.EndUnordered ∷ tag markup.EndDetails ∷ tag markup.EndItem
+    ∷ tag (markup.TargetItem 1) ∷ name (codes "b")
+    (tag markup.EndItem ∷ tag markup.EndUnordered ∷ tag markup.EndDetails ∷ tag markup.EndItem
     ∷ tag (markup.TargetItem 2) ∷ name (codes "a") (tag markup.EndItem ∷ [])))
 next_are = refl
 
 -- The second log of a group of two ends it.
 group_is :
-    contents_parts build in_c 2 (pending.Group 2) (Opened (Mentioned 1 9 Made (codes "b") (OpensHere 1)) 1 Nothing (Opened (Mentioned 1 9 Made (codes "d") (OpensHere 3)) 3 Nothing Nothing))
+    contents_parts build in_c 2 (pending.Group 2)
+    (Opened (Mentioned 1 9 Made (codes "b") (OpensHere 1)) 1 Nothing
+    (Opened (Mentioned 1 9 Made (codes "d") (OpensHere 3)) 3 Nothing Nothing))
     ≡ tag (markup.TargetItem 2) ∷ name (codes "b") (tag markup.EndItem ∷ tag (markup.TargetItem 3) ∷ name (codes "d")
     (words (codes " ") ∷ tag markup.OpenBadge ∷ words (codes "not closed") ∷ tag markup.EndBadge ∷ tag markup.EndItem ∷ end))
 group_is = refl
@@ -380,21 +441,27 @@ group_is = refl
 abbrev start : List Part → List Part
 start rest =
     tag markup.TreeSection ∷ tag markup.TreeHeading ∷ words (codes "All logs") ∷ tag markup.EndHeading ∷ tag markup.QuietParagraph
-    ∷ words (codes "Each log is shown where its target is first mentioned. Logs of targets that failed are open.") ∷ tag markup.EndParagraph ∷ tag markup.Tree ∷ rest
+    ∷ words (codes "Each log is shown where its target is first mentioned. Logs of targets that failed are open.") ∷ tag markup.EndParagraph
+    ∷ tag markup.Tree ∷ rest
 
 section_is : (section_start ≡ start []) × (section_end ≡ tag markup.EndUnordered ∷ tag markup.EndSection ∷ [])
 section_is = (refl, refl)
 
 -- The output of the only target that failed is moved.
 moved_in_tree :
-    drop 31 (tree_parts logs (options true) (a ∷ []) (Opened (Mentioned 1 9 Made (codes "a") (OpensHere 0)) 0 (Shown (EntryShown 1 (Text (codes "x"))) Nothing) Nothing))
-    ≡ tag markup.NoteItem ∷ tag (markup.OutputLink 0) ∷ words (codes "What it printed is shown above") ∷ tag markup.EndLink ∷ tag markup.EndItem
+    drop 31 (tree_parts logs (options true) (a ∷ [])
+    (Opened (Mentioned 1 9 Made (codes "a") (OpensHere 0)) 0 (Shown (EntryShown 1 (Text (codes "x"))) Nothing) Nothing))
+    ≡ tag markup.NoteItem ∷ tag (markup.OutputLink 0) ∷ words (codes "What it printed is shown above") ∷ tag markup.EndLink
+    ∷ tag markup.EndItem
     ∷ tag markup.EndUnordered ∷ tag markup.EndDetails ∷ tag markup.EndItem ∷ tag markup.EndUnordered ∷ tag markup.EndSection ∷ []
 moved_in_tree = refl
 
 tree_is :
-    tree_parts logs (options true) (a ∷ []) (Opened (Mentioned 1 9 Made (codes "a") (OpensHere 0)) 0 (Shown (EntryShown 1 (Text (codes "x"))) Nothing) Nothing)
-    ≡ start (tag markup.Item ∷ tag (markup.OpenDetails 0) ∷ tag markup.Summary ∷ name (codes "a") (made (facts (tag markup.EndSummary ∷ tag markup.Unordered
-    ∷ tag markup.NoteItem ∷ tag (markup.OutputLink 0) ∷ words (codes "What it printed is shown above") ∷ tag markup.EndLink ∷ tag markup.EndItem
+    tree_parts logs (options true) (a ∷ [])
+    (Opened (Mentioned 1 9 Made (codes "a") (OpensHere 0)) 0 (Shown (EntryShown 1 (Text (codes "x"))) Nothing) Nothing)
+    ≡ start (tag markup.Item ∷ tag (markup.OpenDetails 0) ∷ tag markup.Summary
+    ∷ name (codes "a") (made (facts (tag markup.EndSummary ∷ tag markup.Unordered
+    ∷ tag markup.NoteItem ∷ tag (markup.OutputLink 0) ∷ words (codes "What it printed is shown above") ∷ tag markup.EndLink
+    ∷ tag markup.EndItem
     ∷ tag markup.EndUnordered ∷ tag markup.EndDetails ∷ tag markup.EndItem ∷ tag markup.EndUnordered ∷ tag markup.EndSection ∷ []))))
 tree_is = refl

@@ -73,13 +73,16 @@ unfolding symbols_after first_symbol symbol_len is_sequence sequence_len sequenc
 text = refl
 
 seven : IsRow (row
-    (log (codes "all") (Mention 9 Made (codes "a") ∷ Mention 9 Made (codes "s") ∷ Mention 9 Made (codes "t") ∷ Mention 9 Made (codes "u") ∷ Done 9 (pos 0) (codes "s") ∷ Mention 9 Made (codes "b") ∷ Done 9 (pos 2) (codes "b") ∷ Closing 9 (pos 1) ∷ [])
-    ∷ log (codes "a") (Text (codes "cc a.c") ∷ Text (codes "a.c: warning: x") ∷ Mention 9 Made (codes "c") ∷ Done 9 (negsuc 0) (codes "c") ∷ Closing 9 (pos 0) ∷ [])
+    (log (codes "all") (Mention 9 Made (codes "a") ∷ Mention 9 Made (codes "s") ∷ Mention 9 Made (codes "t") ∷ Mention 9 Made (codes "u")
+    ∷ Done 9 (pos 0) (codes "s") ∷ Mention 9 Made (codes "b") ∷ Done 9 (pos 2) (codes "b") ∷ Closing 9 (pos 1) ∷ [])
+    ∷ log (codes "a") (Text (codes "cc a.c") ∷ Text (codes "a.c: warning: x") ∷ Mention 9 Made (codes "c") ∷ Done 9 (negsuc 0) (codes "c")
+    ∷ Closing 9 (pos 0) ∷ [])
     ∷ log (codes "s") ([])
     ∷ log (codes "t") (Closing 9 (pos 0) ∷ [])
     ∷ log (codes "u") (Closing 9 (pos 0) ∷ [])
     ∷ log (codes "b") (Text (codes "error") ∷ Done 9 (negsuc 0) (codes "c") ∷ Done 9 (pos 3) (codes "x") ∷ [])
-    ∷ log (codes "c") (Text (codes "warning") ∷ Text (codes "warning:warning:") ∷ Note 9 (codes "note") (codes "warning:") ∷ Closing 9 (negsuc 0) ∷ [])
+    ∷ log (codes "c") (Text (codes "warning") ∷ Text (codes "warning:warning:") ∷ Note 9 (codes "note") (codes "warning:")
+    ∷ Closing 9 (negsuc 0) ∷ [])
     ∷ [])
     (codes "all" ∷ []) plain
     (codes "<li><details open id=\"t0\"><summary><bdi>all</bdi> <strong class=\"x\">exit 1</strong> <small>6 below</small> <small>with <em>2 warnings</em></small></summary><ul><li><details open id=\"t1\"><summary><bdi>a</bdi> <small>2 lines</small> <small><em>1 warning</em></small> <small>1 below</small> <small>with <em>1 warning</em></small></summary><ul><li><pre>\ncc a.c\na.c: warning: x\n</pre></li><li><details open id=\"t2\"><summary><bdi>c</bdi> <strong class=\"x\">exit -1</strong> <small>2 lines</small> <small><em>1 warning</em></small></summary><ul><li class=\"note\"><a href=\"#f2\">What it printed is shown above</a></li><li class=\"note\">redo: warning:</li></ul></details></li></ul></details></li><li id=\"t3\"><bdi>s</bdi></li><li id=\"t4\"><bdi>t</bdi></li><li id=\"t5\"><bdi>u</bdi></li><li><details open id=\"t6\"><summary><bdi>b</bdi> <strong class=\"x\">exit 2</strong> <small>1 line</small></summary><ul><li class=\"note\"><a href=\"#f6\">What it printed is shown above</a></li><li class=\"note\">needs <a href=\"#t2\"><bdi>c</bdi></a> <strong class=\"x\">exit -1</strong></li><li class=\"note\">needs <bdi>x</bdi> <strong class=\"x\">exit 3</strong></li></ul></details></li></ul></details></li></ul></section>"))
@@ -87,9 +90,11 @@ unfolding symbols_after first_symbol symbol_len is_sequence sequence_len sequenc
 seven = refl
 
 group : IsRow (row
-    (log (codes "all") (Mention 9 Made (codes "a") ∷ Mention 9 Made (codes "b") ∷ Mention 9 Made (codes "c") ∷ Mention 9 Made (codes "d") ∷ Mention 9 Made (codes "e") ∷ Mention 9 Made (codes "f") ∷ Text (codes "x") ∷ Mention 9 Made (codes "g") ∷ Closing 9 (pos 0) ∷ [])
+    (log (codes "all") (Mention 9 Made (codes "a") ∷ Mention 9 Made (codes "b") ∷ Mention 9 Made (codes "c") ∷ Mention 9 Made (codes "d")
+    ∷ Mention 9 Made (codes "e") ∷ Mention 9 Made (codes "f") ∷ Text (codes "x") ∷ Mention 9 Made (codes "g") ∷ Closing 9 (pos 0) ∷ [])
     ∷ log (codes "a") (Closing 9 (pos 0) ∷ [])
-    ∷ log (codes "b") (Mention 9 Made (codes "h") ∷ Mention 9 Made (codes "i") ∷ Mention 9 Made (codes "j") ∷ Mention 9 Made (codes "k") ∷ Mention 9 Made (codes "l") ∷ Closing 9 (pos 0) ∷ [])
+    ∷ log (codes "b") (Mention 9 Made (codes "h") ∷ Mention 9 Made (codes "i") ∷ Mention 9 Made (codes "j") ∷ Mention 9 Made (codes "k")
+    ∷ Mention 9 Made (codes "l") ∷ Closing 9 (pos 0) ∷ [])
     ∷ log (codes "c") (Closing 9 (pos 0) ∷ [])
     ∷ log (codes "d") (Closing 9 (pos 0) ∷ [])
     ∷ log (codes "e") (Closing 9 (pos 0) ∷ [])
@@ -107,7 +112,8 @@ unfolding symbols_after first_symbol symbol_len is_sequence sequence_len sequenc
 group = refl
 
 four : IsRow (row
-    (log (codes "all") (Mention 9 Made (codes "a") ∷ Mention 9 Made (codes "b") ∷ Mention 9 Made (codes "c") ∷ Mention 9 Made (codes "d") ∷ Text (codes "x") ∷ Closing 9 (pos 0) ∷ [])
+    (log (codes "all") (Mention 9 Made (codes "a") ∷ Mention 9 Made (codes "b") ∷ Mention 9 Made (codes "c") ∷ Mention 9 Made (codes "d")
+    ∷ Text (codes "x") ∷ Closing 9 (pos 0) ∷ [])
     ∷ log (codes "a") (Closing 9 (pos 0) ∷ [])
     ∷ log (codes "b") (Closing 9 (pos 0) ∷ [])
     ∷ log (codes "c") (Closing 9 (pos 0) ∷ [])
@@ -131,7 +137,9 @@ unfolding symbols_after first_symbol symbol_len is_sequence sequence_len sequenc
 only_child = refl
 
 locked : IsRow (row
-    (log (codes "x") (Mention 9 Waiting (codes "y") ∷ Mention 9 Locked (codes "y") ∷ Mention 9 Unlocked (codes "q") ∷ Mention 9 Unchanged (codes "y") ∷ Note 9 (codes "check") (codes "a < b") ∷ Text (codes "1") ∷ Note 9 (codes "note") (codes "2") ∷ Text (codes "3") ∷ Closing 9 (pos 0) ∷ [])
+    (log (codes "x") (Mention 9 Waiting (codes "y") ∷ Mention 9 Locked (codes "y") ∷ Mention 9 Unlocked (codes "q")
+    ∷ Mention 9 Unchanged (codes "y") ∷ Note 9 (codes "check") (codes "a < b") ∷ Text (codes "1") ∷ Note 9 (codes "note") (codes "2")
+    ∷ Text (codes "3") ∷ Closing 9 (pos 0) ∷ [])
     ∷ log (codes "y") (Closing 9 (pos 0) ∷ [])
     ∷ [])
     (codes "x" ∷ []) locks
@@ -140,7 +148,8 @@ unfolding symbols_after first_symbol symbol_len is_sequence sequence_len sequenc
 locked = refl
 
 six : IsRow (row
-    (log (codes "all") (Mention 9 Made (codes "a") ∷ Mention 9 Made (codes "b") ∷ Mention 9 Made (codes "c") ∷ Mention 9 Made (codes "d") ∷ Mention 9 Made (codes "e") ∷ Mention 9 Made (codes "f") ∷ Closing 9 (pos 0) ∷ [])
+    (log (codes "all") (Mention 9 Made (codes "a") ∷ Mention 9 Made (codes "b") ∷ Mention 9 Made (codes "c") ∷ Mention 9 Made (codes "d")
+    ∷ Mention 9 Made (codes "e") ∷ Mention 9 Made (codes "f") ∷ Closing 9 (pos 0) ∷ [])
     ∷ log (codes "a") (Closing 9 (pos 0) ∷ [])
     ∷ log (codes "b") (Closing 9 (pos 0) ∷ [])
     ∷ log (codes "c") (Closing 9 (pos 0) ∷ [])
@@ -156,7 +165,8 @@ six = refl
 unseen : IsRow (row
     (log (codes "x") (Mention 9 Made (codes "a") ∷ Mention 9 Made (codes "b") ∷ Text (codes "x") ∷ Closing 9 (pos 0) ∷ [])
     ∷ log (codes "a") (Closing 9 (pos 0) ∷ [])
-    ∷ log (codes "b") (Text (codes "1") ∷ Done 9 (pos 0) (codes "a") ∷ Text (codes "2") ∷ Mention 9 Made (codes "a") ∷ Text (codes "3") ∷ Closing 9 (pos 0) ∷ Text (codes "4") ∷ [])
+    ∷ log (codes "b") (Text (codes "1") ∷ Done 9 (pos 0) (codes "a") ∷ Text (codes "2") ∷ Mention 9 Made (codes "a") ∷ Text (codes "3")
+    ∷ Closing 9 (pos 0) ∷ Text (codes "4") ∷ [])
     ∷ [])
     (codes "x" ∷ []) plain
     (codes "<li><details open id=\"t0\"><summary><bdi>x</bdi> <small>1 line</small> <small>2 below</small></summary><ul><li id=\"t1\"><bdi>a</bdi></li><li><details id=\"t2\"><summary><bdi>b</bdi> <small>4 lines</small></summary><ul><li><pre>\n1\n2\n3\n4\n</pre></li></ul></details></li><li><pre>\nx\n</pre></li></ul></details></li></ul></section>"))
@@ -174,7 +184,9 @@ unfolding symbols_after first_symbol symbol_len is_sequence sequence_len sequenc
 nested_children = refl
 
 groups : IsRow (row
-    (log (codes "all") (Mention 9 Made (codes "a") ∷ Mention 9 Made (codes "b") ∷ Mention 9 Made (codes "c") ∷ Mention 9 Made (codes "d") ∷ Mention 9 Made (codes "e") ∷ Note 9 (codes "note") (codes "-") ∷ Mention 9 Made (codes "f") ∷ Mention 9 Made (codes "g") ∷ Mention 9 Made (codes "h") ∷ Mention 9 Made (codes "i") ∷ Mention 9 Made (codes "j") ∷ [])
+    (log (codes "all") (Mention 9 Made (codes "a") ∷ Mention 9 Made (codes "b") ∷ Mention 9 Made (codes "c") ∷ Mention 9 Made (codes "d")
+    ∷ Mention 9 Made (codes "e") ∷ Note 9 (codes "note") (codes "-") ∷ Mention 9 Made (codes "f") ∷ Mention 9 Made (codes "g")
+    ∷ Mention 9 Made (codes "h") ∷ Mention 9 Made (codes "i") ∷ Mention 9 Made (codes "j") ∷ [])
     ∷ log (codes "a") (Closing 9 (pos 0) ∷ [])
     ∷ log (codes "b") (Closing 9 (pos 0) ∷ [])
     ∷ log (codes "c") (Closing 9 (pos 0) ∷ [])
@@ -194,20 +206,24 @@ groups = refl
 -- ---- limits
 
 abbrev node : Option ℤ → ℕ → ℕ → Bool → Node
-node status lines bytes fails_below = record no_node { status = status; lines = lines; bytes = bytes; others = true; fails_below = fails_below }
+node status lines bytes fails_below =
+    record no_node { status = status; lines = lines; bytes = bytes; others = true; fails_below = fails_below }
 
 -- Which targets have an article: those that failed, and none below them.
 abbrev failed : Node
 failed = node (Some (pos 2)) 1 2 false
 
 articles_are :
-    (articles (node (Some (pos 0)) 0 0 false ∷ node (Some (pos 1)) 0 0 true ∷ failed ∷ node None 0 0 false ∷ node (Some (negsuc 0)) 0 0 false ∷ []) ≡ 2 ∷ 4 ∷ [])
-    × (articles (failed ∷ failed ∷ failed ∷ failed ∷ failed ∷ failed ∷ failed ∷ failed ∷ failed ∷ failed ∷ failed ∷ []) ≡ 0 ∷ 1 ∷ 2 ∷ 3 ∷ 4 ∷ 5 ∷ 6 ∷ 7 ∷ 8 ∷ 9 ∷ [])
+    (articles (node (Some (pos 0)) 0 0 false ∷ node (Some (pos 1)) 0 0 true ∷ failed ∷ node None 0 0 false
+    ∷ node (Some (negsuc 0)) 0 0 false ∷ []) ≡ 2 ∷ 4 ∷ [])
+    × (articles (failed ∷ failed ∷ failed ∷ failed ∷ failed ∷ failed ∷ failed ∷ failed ∷ failed ∷ failed ∷ failed ∷ [])
+    ≡ 0 ∷ 1 ∷ 2 ∷ 3 ∷ 4 ∷ 5 ∷ 6 ∷ 7 ∷ 8 ∷ 9 ∷ [])
 articles_are = (refl, refl)
 
 -- The last one of eleven ended first.
 articles_in_order :
-    articles (failed ∷ failed ∷ failed ∷ failed ∷ failed ∷ failed ∷ failed ∷ failed ∷ failed ∷ failed ∷ record failed { ended = Some 5 } ∷ [])
+    articles (failed ∷ failed ∷ failed ∷ failed ∷ failed ∷ failed ∷ failed ∷ failed ∷ failed ∷ failed
+    ∷ record failed { ended = Some 5 } ∷ [])
     ≡ 10 ∷ 0 ∷ 1 ∷ 2 ∷ 3 ∷ 4 ∷ 5 ∷ 6 ∷ 7 ∷ 8 ∷ []
 articles_in_order = refl
 
@@ -220,14 +236,32 @@ short_are = (refl, refl, refl, refl, refl)
 -- What is known of a log that isn't there.
 none_there :
     node_at (failed ∷ []) 1
-    ≡ record { number = 0; parent = None; status = None; lines = 0; bytes = 0; warnings = 0; below = 0; children = 0; others = false; warnings_below = 0; fails_below = false; silent = 0; took = None; ended = None }
+    ≡ record {
+      number = 0;
+      parent = None;
+      status = None;
+      lines = 0;
+      bytes = 0;
+      warnings = 0;
+      below = 0;
+      children = 0;
+      others = false;
+      warnings_below = 0;
+      fails_below = false;
+      silent = 0;
+      took = None;
+      ended = None;
+    }
 none_there = refl
 
 -- A log at depth 59 is nested, and one at depth 60 isn't. The output of the second one is in an article.
 abbrev one_log : List Node → ℕ → List ℕ
 one_log nodes depth =
-    flat_map part_html (contents_parts (record { logs = log (codes "a") [] ∷ []; options = plain; nodes = nodes; articles = articles nodes }) (record { position = Some 7; expanded = true; depth = depth }) 0 pending.Nothing
-    (Opened (Mentioned 1 9 Made (codes "a") (OpensHere 0)) 0 (Shown (EntryShown 2 (Text (codes "x"))) (Shown (EntryShown 2 (Note 9 (codes "n") (codes "y"))) Nothing)) Nothing))
+    flat_map part_html (contents_parts (record
+    { logs = log (codes "a") [] ∷ []; options = plain; nodes = nodes; articles = articles nodes })
+    (record { position = Some 7; expanded = true; depth = depth }) 0 pending.Nothing
+    (Opened (Mentioned 1 9 Made (codes "a") (OpensHere 0)) 0
+    (Shown (EntryShown 2 (Text (codes "x"))) (Shown (EntryShown 2 (Note 9 (codes "n") (codes "y"))) Nothing)) Nothing))
 
 abbrev shown : Node
 shown = node None 1 2 false
@@ -235,7 +269,8 @@ shown = node None 1 2 false
 depths_are :
     (one_log (shown ∷ []) 59 ≡ codes "<li><details id=\"t0\"><summary><bdi>a</bdi> <strong class=\"o\">not closed</strong> <small>1 line</small></summary><ul><li><pre>\nx\n</pre></li><li class=\"note\">redo: y</li></ul></details></li>")
     × (one_log (shown ∷ []) 60 ≡ codes "<li id=\"t0\"><bdi>a</bdi> <strong class=\"o\">not closed</strong> <small>1 line</small> <small>level 60</small></li><li><pre>\nx\n</pre></li><li class=\"note\">redo: y</li><li class=\"note\">end of <bdi>a</bdi></li>")
-    × (one_log (failed ∷ []) 60 ≡ codes "<li id=\"t0\"><bdi>a</bdi> <strong class=\"x\">exit 2</strong> <small>1 line</small> <small>level 60</small></li><li class=\"note\"><a href=\"#f0\">What it printed is shown above</a></li><li class=\"note\">redo: y</li><li class=\"note\">end of <bdi>a</bdi></li>")
+    × (one_log (failed ∷ []) 60 ≡ codes
+    "<li id=\"t0\"><bdi>a</bdi> <strong class=\"x\">exit 2</strong> <small>1 line</small> <small>level 60</small></li><li class=\"note\"><a href=\"#f0\">What it printed is shown above</a></li><li class=\"note\">redo: y</li><li class=\"note\">end of <bdi>a</bdi></li>")
 unfolding symbols_after first_symbol symbol_len is_sequence sequence_len sequence_numbers first_code_point code_point_len is_unprintable notation unprintable_text number_text encode_utf8 digits html_from
 depths_are = (refl, refl, refl)
 
@@ -248,15 +283,22 @@ long_is = refl
 
 -- A log in the deepest log that is nested is not nested.
 levels_are :
-    flat_map part_html (contents_parts (record { logs = log (codes "a") [] ∷ log (codes "b") [] ∷ []; options = plain; nodes = shown ∷ record shown { number = 1 } ∷ []; articles = [] }) (record { position = Some 7; expanded = false; depth = 59 }) 0 pending.Nothing
-    (Opened (Mentioned 1 9 Made (codes "a") (OpensHere 0)) 0 (Opened (Mentioned 1 9 Made (codes "b") (OpensHere 1)) 1 (Shown (EntryShown 2 (Text (codes "x"))) Nothing) Nothing) Nothing))
+    flat_map part_html (contents_parts (record {
+      logs = log (codes "a") [] ∷ log (codes "b") [] ∷ [];
+      options = plain;
+      nodes = shown ∷ record shown { number = 1 } ∷ [];
+      articles = [];
+    }) (record { position = Some 7; expanded = false; depth = 59 }) 0 pending.Nothing
+    (Opened (Mentioned 1 9 Made (codes "a") (OpensHere 0)) 0
+    (Opened (Mentioned 1 9 Made (codes "b") (OpensHere 1)) 1 (Shown (EntryShown 2 (Text (codes "x"))) Nothing) Nothing) Nothing))
     ≡ codes "<li><details id=\"t0\"><summary><bdi>a</bdi> <strong class=\"o\">not closed</strong> <small>1 line</small></summary><ul><li id=\"t1\"><bdi>b</bdi> <strong class=\"o\">not closed</strong> <small>1 line</small> <small>level 60</small></li><li><pre>\nx\n</pre></li><li class=\"note\">end of <bdi>b</bdi></li></ul></details></li>"
 unfolding symbols_after first_symbol symbol_len is_sequence sequence_len sequence_numbers first_code_point code_point_len is_unprintable notation unprintable_text number_text encode_utf8 digits html_from
 levels_are = refl
 
 -- A requested target whose log isn't opened.
 requested_are :
-    flat_map part_html (contents_parts (record { logs = []; options = plain; nodes = []; articles = [] }) top_level 0 pending.Nothing (Shown (Requested (codes "a") NotOpened) Nothing))
+    flat_map part_html (contents_parts (record { logs = []; options = plain; nodes = []; articles = [] }) top_level 0 pending.Nothing
+    (Shown (Requested (codes "a") NotOpened) Nothing))
     ≡ codes "<li><bdi>a</bdi></li>"
 unfolding symbols_after first_symbol symbol_len is_sequence sequence_len sequence_numbers first_code_point code_point_len is_unprintable notation unprintable_text number_text encode_utf8 digits html_from
 requested_are = refl
@@ -268,7 +310,8 @@ block lines bytes = record { lines = lines; bytes = bytes; style = record { bold
 
 -- A line with its line feed fits up to 500 lines and 65,536 bytes.
 fits_are :
-    (fits (block 499 0) 65536 ≡ true) × (fits (block 500 0) 1 ≡ false) × (fits (block 1 65530) 6 ≡ true) × (fits (block 1 65530) 7 ≡ false) × (fits (block 0 0) 65537 ≡ false)
+    (fits (block 499 0) 65536 ≡ true) × (fits (block 500 0) 1 ≡ false) × (fits (block 1 65530) 6 ≡ true) × (fits (block 1 65530) 7 ≡ false)
+    × (fits (block 0 0) 65537 ≡ false)
 fits_are = (refl, refl, refl, refl, refl)
 
 abbrev line_html : Pending → List ℕ → List ℕ
@@ -281,8 +324,10 @@ lines_are :
     × (line_html (pending.Group 3) [] ≡ codes "</ul></details></li><li><pre>\n\n")
     × (after_line (pending.Group 3) [] ≡ pending.Text (record { lines = 1; bytes = 1; style = plain_style }))
     × (line_html (pending.Text (block 3 65533)) (codes "xy") ≡ codes "<b class=\"r\">xy\n</b>")
-    × (after_line (pending.Text (block 3 65533)) (codes "xy" ++ 27 ∷ codes "[m") ≡ pending.Text (record { lines = 1; bytes = 6; style = plain_style }))
-    × (after_line (pending.Text (block 3 5)) (codes "xy" ++ 27 ∷ codes "[m") ≡ pending.Text (record { lines = 4; bytes = 11; style = plain_style }))
+    × (after_line (pending.Text (block 3 65533)) (codes "xy" ++ 27 ∷ codes "[m")
+    ≡ pending.Text (record { lines = 1; bytes = 6; style = plain_style }))
+    × (after_line (pending.Text (block 3 5)) (codes "xy" ++ 27 ∷ codes "[m")
+    ≡ pending.Text (record { lines = 4; bytes = 11; style = plain_style }))
     × (after_line (pending.Text (block 3 5)) (codes "xy") ≡ pending.Text (block 4 8))
     × (line_html (pending.Text (block 3 65534)) (codes "xy") ≡ codes "</pre><pre>\nxy\n")
     × (after_line (pending.Text (block 500 5)) (codes "xy") ≡ pending.Text (record { lines = 1; bytes = 3; style = plain_style }))

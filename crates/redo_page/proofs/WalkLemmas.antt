@@ -34,16 +34,20 @@ walked_parts walk (event ∷ events) = walk_parts walk event ++ walked_parts (af
 abbrev pub walked : Walk → List Event → Walk
 walked walk events = state_after after_event walk events
 
-pub walked_html : (walk : Walk) (events : List Event) → bytes_of tree_bytes after_event walk events ≡ flat_map part_html (walked_parts walk events)
+pub walked_html : (walk : Walk) (events : List Event)
+    → bytes_of tree_bytes after_event walk events ≡ flat_map part_html (walked_parts walk events)
 walked_html walk [] = refl
 walked_html walk (event ∷ events) =
-    ap (λ (t : List ℕ). tree_bytes walk event ++ t) (walked_html (after_event walk event) events) ∙ sym (flat_map-append part_html (walk_parts walk event) (walked_parts (after_event walk event) events))
+    ap (λ (t : List ℕ). tree_bytes walk event ++ t) (walked_html (after_event walk event) events)
+    ∙ sym (flat_map-append part_html (walk_parts walk event) (walked_parts (after_event walk event) events))
 
-walked_parts-append : (walk : Walk) (events more : List Event) → walked_parts walk (events ++ more) ≡ walked_parts walk events ++ walked_parts (walked walk events) more
+walked_parts-append : (walk : Walk) (events more : List Event)
+    → walked_parts walk (events ++ more) ≡ walked_parts walk events ++ walked_parts (walked walk events) more
 walked_parts-append walk [] more = refl
 walked_parts-append walk (event ∷ events) more =
     ap (λ (ps : List Part). walk_parts walk event ++ ps) (walked_parts-append (after_event walk event) events more)
-    ∙ sym (append_assoc (walk_parts walk event) (walked_parts (after_event walk event) events) (walked_parts (walked (after_event walk event) events) more))
+    ∙ sym (append_assoc (walk_parts walk event) (walked_parts (after_event walk event) events)
+    (walked_parts (walked (after_event walk event) events) more))
 
 walked-append : (walk : Walk) (events more : List Event) → walked walk (events ++ more) ≡ walked (walked walk events) more
 walked-append walk [] more = refl
@@ -61,11 +65,13 @@ abbrev AreProper : List Contents → Type 0
 AreProper [] = ⊤
 AreProper (inner ∷ outer) = IsProper inner × AreProper outer
 
-proper_shown : (event : Event) (contents : List Contents) → step_of event ≡ Shows → AreProper contents → AreProper (with_shown event contents)
+proper_shown : (event : Event) (contents : List Contents) → step_of event ≡ Shows → AreProper contents
+    → AreProper (with_shown event contents)
 proper_shown event [] is are = tt
 proper_shown event (inner ∷ outer) is are = ((is, are.0), are.1)
 
-proper_opened : (event : Event) (number : ℕ) (contents : List Contents) → step_of event ≡ Opens → AreProper contents → AreProper (with_opened event number contents)
+proper_opened : (event : Event) (number : ℕ) (contents : List Contents) → step_of event ≡ Opens → AreProper contents
+    → AreProper (with_opened event number contents)
 proper_opened event number [] is are = tt
 proper_opened event number (inner ∷ []) is are = ((is, (are.0, tt)), tt)
 proper_opened event number (inner ∷ next ∷ outer) is are = ((is, (are.0, are.1.0)), are.1.1)
@@ -77,8 +83,10 @@ proper_with (Requested name NotOpened) contents are = proper_shown (Requested na
 proper_with (Requested name (OpenedBefore number)) contents are = proper_shown (Requested name (OpenedBefore number)) contents refl are
 proper_with (Requested name (OpensHere number)) contents are = proper_opened (Requested name (OpensHere number)) number contents refl are
 proper_with (Mentioned depth pid how name NotOpened) contents are = proper_shown (Mentioned depth pid how name NotOpened) contents refl are
-proper_with (Mentioned depth pid how name (OpenedBefore number)) contents are = proper_shown (Mentioned depth pid how name (OpenedBefore number)) contents refl are
-proper_with (Mentioned depth pid how name (OpensHere number)) contents are = proper_opened (Mentioned depth pid how name (OpensHere number)) number contents refl are
+proper_with (Mentioned depth pid how name (OpenedBefore number)) contents are =
+    proper_shown (Mentioned depth pid how name (OpenedBefore number)) contents refl are
+proper_with (Mentioned depth pid how name (OpensHere number)) contents are =
+    proper_opened (Mentioned depth pid how name (OpensHere number)) number contents refl are
 
 proper_from : (events : List Event) → AreProper (contents_from events)
 proper_from [] = (tt, tt)
@@ -92,12 +100,15 @@ pub proper : (events : List Event) → IsProper (contents_of events)
 proper events = first_proper (contents_from events) (proper_from events)
 
 -- An outline has a node for each log.
-pub node_count : (logs : List Log) (status : ℕ → Option ℤ) (parent : Option ℕ) (position : ℕ) (contents : Contents) → length (nodes_of logs status parent position contents) ≡ log_count contents
+pub node_count : (logs : List Log) (status : ℕ → Option ℤ) (parent : Option ℕ) (position : ℕ) (contents : Contents)
+    → length (nodes_of logs status parent position contents) ≡ log_count contents
 node_count logs status parent position Nothing = refl
 node_count logs status parent position (Shown event rest) = node_count logs status parent position rest
 node_count logs status parent position (Opened event number inside rest) =
-    ap suc (length-append (nodes_of logs status (Some position) (suc position) inside) (nodes_of logs status parent (suc position + log_count inside) rest)
-    ∙ ap (λ (n : ℕ). n + length (nodes_of logs status parent (suc position + log_count inside) rest)) (node_count logs status (Some position) (suc position) inside)
+    ap suc (length-append (nodes_of logs status (Some position) (suc position) inside)
+    (nodes_of logs status parent (suc position + log_count inside) rest)
+    ∙ ap (λ (n : ℕ). n + length (nodes_of logs status parent (suc position + log_count inside) rest))
+    (node_count logs status (Some position) (suc position) inside)
     ∙ ap (λ (n : ℕ). log_count inside + n) (node_count logs status parent (suc position + log_count inside) rest))
 
 -- ---- walking over some contents
@@ -114,22 +125,31 @@ module _ (build : Build) where
   abbrev pub pending_after : Level → ℕ → Pending → Contents → Pending
   pending_after level position before Nothing = before
   pending_after level position before (Shown event rest) = pending_after level position (after_shown build level before event) rest
-  pending_after level position before (Opened event number inside rest) = pending_after level (suc position + log_count inside) (after_log (group_left build level position before)) rest
+  pending_after level position before (Opened event number inside rest) =
+      pending_after level (suc position + log_count inside) (after_log (group_left build level position before)) rest
 
   next_is : (next count : ℕ) → next + suc count ≤ length build.nodes → next_position build.nodes next ≡ suc next
-  next_is next count within = cond-true (nat_lt next (length build.nodes)) (suc next) next (lt-ltb next (length build.nodes) (omega (arith, within)))
+  next_is next count within = cond-true (nat_lt next (length build.nodes)) (suc next) next
+      (lt-ltb next (length build.nodes) (omega (arith, within)))
 
-  level_is : (logs : List OpenLog) (next : ℕ) (before : Pending) → level_in (opened_log build (level_in logs) next before ∷ logs) ≡ level_of build (level_in logs) next
-  level_is logs next before = ap (λ (n : ℕ). record { position = Some next; expanded = (opened_log build (level_in logs) next before).expanded; depth = suc n }) (sym (level_depth logs))
+  level_is : (logs : List OpenLog) (next : ℕ) (before : Pending)
+      → level_in (opened_log build (level_in logs) next before ∷ logs) ≡ level_of build (level_in logs) next
+  level_is logs next before = ap (λ (n : ℕ).
+      record { position = Some next; expanded = (opened_log build (level_in logs) next before).expanded; depth = suc n })
+      (sym (level_depth logs))
 
-  opened_walk : (event : Event) (logs : List OpenLog) (next : ℕ) (before : Pending) (count : ℕ) → step_of event ≡ Opens → next + suc count ≤ length build.nodes
-      → after_event (walk_at logs next before) event ≡ walk_at (opened_log build (level_in logs) next before ∷ logs) (suc next) pending.Nothing
+  opened_walk : (event : Event) (logs : List OpenLog) (next : ℕ) (before : Pending) (count : ℕ) → step_of event ≡ Opens
+      → next + suc count ≤ length build.nodes
+      → after_event (walk_at logs next before) event
+      ≡ walk_at (opened_log build (level_in logs) next before ∷ logs) (suc next) pending.Nothing
   opened_walk event logs next before count is within =
       ap (λ (step : Step). after_step step (walk_at logs next before) event) is
       ∙ ap (λ (n : ℕ). walk_at (opened_log build (level_in logs) next before ∷ logs) n pending.Nothing) (next_is next count within)
 
-  pub state_contents : (contents : Contents) → IsProper contents → (depth : ℕ) (logs : List OpenLog) (next : ℕ) (before : Pending) → next + log_count contents ≤ length build.nodes
-      → walked (walk_at logs next before) (events_of depth contents) ≡ walk_at logs (next + log_count contents) (pending_after (level_in logs) next before contents)
+  pub state_contents : (contents : Contents) → IsProper contents → (depth : ℕ) (logs : List OpenLog) (next : ℕ) (before : Pending)
+      → next + log_count contents ≤ length build.nodes
+      → walked (walk_at logs next before) (events_of depth contents)
+      ≡ walk_at logs (next + log_count contents) (pending_after (level_in logs) next before contents)
   state_contents Nothing are depth logs next before within = ap (λ (n : ℕ). walk_at logs n before) (omega arith)
   state_contents (Shown event rest) are depth logs next before within =
       ap (λ (step : Step). walked (after_step step (walk_at logs next before) event) (events_of depth rest)) are.0
@@ -137,17 +157,23 @@ module _ (build : Build) where
   state_contents (Opened event number inside rest) are depth logs next before within =
       let log = opened_log build (level_in logs) next before in
       let after = suc next + log_count inside in
-      ap (λ (w : Walk). walked w (events_of (depth + 1) inside ++ LogEnds (depth + 1) ∷ events_of depth rest)) (opened_walk event logs next before (log_count inside + log_count rest) are.0 within)
-      ∙ walked-append (walk_at (log ∷ logs) (suc next) pending.Nothing) (events_of (depth + 1) inside) (LogEnds (depth + 1) ∷ events_of depth rest)
-      ∙ ap (λ (w : Walk). walked w (LogEnds (depth + 1) ∷ events_of depth rest)) (state_contents inside are.1.0 (depth + 1) (log ∷ logs) (suc next) pending.Nothing (omega (arith, within)))
+      ap (λ (w : Walk). walked w (events_of (depth + 1) inside ++ LogEnds (depth + 1) ∷ events_of depth rest))
+      (opened_walk event logs next before (log_count inside + log_count rest) are.0 within)
+      ∙ walked-append (walk_at (log ∷ logs) (suc next) pending.Nothing) (events_of (depth + 1) inside)
+      (LogEnds (depth + 1) ∷ events_of depth rest)
+      ∙ ap (λ (w : Walk). walked w (LogEnds (depth + 1) ∷ events_of depth rest))
+      (state_contents inside are.1.0 (depth + 1) (log ∷ logs) (suc next) pending.Nothing (omega (arith, within)))
       ∙ state_contents rest are.1.1 depth logs after (after_log log.left) (omega (arith, within))
       ∙ ap (λ (n : ℕ). walk_at logs n (pending_after (level_in logs) after (after_log log.left) rest)) (omega arith)
 
-  regroup : (start first end log others last : List Part) → (start ++ (first ++ ((end ++ log) ++ others))) ++ last ≡ start ++ ((first ++ end) ++ (log ++ (others ++ last)))
+  regroup : (start first end log others last : List Part)
+      → (start ++ (first ++ ((end ++ log) ++ others))) ++ last ≡ start ++ ((first ++ end) ++ (log ++ (others ++ last)))
   regroup start first end log others last = simp append_assoc
 
-  pub parts_contents : (contents : Contents) → IsProper contents → (depth : ℕ) (logs : List OpenLog) (next : ℕ) (before : Pending) → next + log_count contents ≤ length build.nodes
-      → walked_parts (walk_at logs next before) (events_of depth contents) ++ end_parts (pending_after (level_in logs) next before contents) ≡ contents_parts build (level_in logs) next before contents
+  pub parts_contents : (contents : Contents) → IsProper contents → (depth : ℕ) (logs : List OpenLog) (next : ℕ) (before : Pending)
+      → next + log_count contents ≤ length build.nodes
+      → walked_parts (walk_at logs next before) (events_of depth contents) ++ end_parts (pending_after (level_in logs) next before contents)
+      ≡ contents_parts build (level_in logs) next before contents
   parts_contents Nothing are depth logs next before within = refl
   parts_contents (Shown event rest) are depth logs next before within =
       let w = walk_at logs next before in
@@ -155,7 +181,8 @@ module _ (build : Build) where
       let last = end_parts (pending_after (level_in logs) next (after_shown build (level_in logs) before event) rest) in
       ap (λ (step : Step). (step_parts step w event ++ walked_parts (after_step step w event) (events_of depth rest)) ++ last) are.0
       ∙ append_assoc shown (walked_parts (walk_at logs next (after_shown build (level_in logs) before event)) (events_of depth rest)) last
-      ∙ ap (λ (ps : List Part). shown ++ ps) (parts_contents rest are.1 depth logs next (after_shown build (level_in logs) before event) within)
+      ∙ ap (λ (ps : List Part). shown ++ ps)
+      (parts_contents rest are.1 depth logs next (after_shown build (level_in logs) before event) within)
   parts_contents (Opened event number inside rest) are depth logs next before within =
       let level = level_in logs in
       let log = opened_log build level next before in
@@ -172,11 +199,18 @@ module _ (build : Build) where
       let others = walked_parts w3 (events_of depth rest) in
       let last = end_parts (pending_after level after (after_log log.left) rest) in
       let inner : next + suc (log_count inside + log_count rest) ≤ length build.nodes = within in
-      ap (λ (step : Step). (step_parts step w event ++ walked_parts (after_event w event) (events_of (depth + 1) inside ++ behind)) ++ last) are.0
-      ∙ ap (λ (v : Walk). (start ++ walked_parts v (events_of (depth + 1) inside ++ behind)) ++ last) (opened_walk event logs next before (log_count inside + log_count rest) are.0 within)
+      ap (λ (step : Step). (step_parts step w event ++ walked_parts (after_event w event) (events_of (depth + 1) inside ++ behind))
+      ++ last) are.0
+      ∙ ap (λ (v : Walk). (start ++ walked_parts v (events_of (depth + 1) inside ++ behind)) ++ last)
+      (opened_walk event logs next before (log_count inside + log_count rest) are.0 within)
       ∙ ap (λ (ps : List Part). (start ++ ps) ++ last) (walked_parts-append w1 (events_of (depth + 1) inside) behind)
-      ∙ ap (λ (v : Walk). (start ++ (first ++ walked_parts v behind)) ++ last) (state_contents inside are.1.0 (depth + 1) (log ∷ logs) (suc next) pending.Nothing (omega (arith, within)))
+      ∙ ap (λ (v : Walk). (start ++ (first ++ walked_parts v behind)) ++ last)
+      (state_contents inside are.1.0 (depth + 1) (log ∷ logs) (suc next) pending.Nothing (omega (arith, within)))
       ∙ regroup start first end closing others last
-      ∙ ap (λ (ps : List Part). start ++ (ps ++ (closing ++ (others ++ last)))) (parts_contents inside are.1.0 (depth + 1) (log ∷ logs) (suc next) pending.Nothing (omega (arith, within)))
-      ∙ ap (λ (l : Level). start ++ (contents_parts build l (suc next) pending.Nothing inside ++ (closing ++ (others ++ last)))) (level_is logs next before)
-      ∙ ap (λ (ps : List Part). start ++ (contents_parts build (level_of build level next) (suc next) pending.Nothing inside ++ (closing ++ ps))) (parts_contents rest are.1.1 depth logs after (after_log log.left) (omega (arith, within)))
+      ∙ ap (λ (ps : List Part). start ++ (ps ++ (closing ++ (others ++ last))))
+      (parts_contents inside are.1.0 (depth + 1) (log ∷ logs) (suc next) pending.Nothing (omega (arith, within)))
+      ∙ ap (λ (l : Level). start ++ (contents_parts build l (suc next) pending.Nothing inside ++ (closing ++ (others ++ last))))
+      (level_is logs next before)
+      ∙ ap (λ (ps : List Part). start ++
+      (contents_parts build (level_of build level next) (suc next) pending.Nothing inside ++ (closing ++ ps)))
+      (parts_contents rest are.1.1 depth logs after (after_log log.left) (omega (arith, within)))

@@ -17,8 +17,10 @@ module _ (targets : List (List ℕ)) where
   listed name = cond (is_among name targets) (Some name) None
 
   -- Looking a name up gives the target that the argument names.
-  pub looked_up : (argument name : List ℕ) → normal None argument ≡ Some name → then_some (is_some (position (pointwise nat_eq name) targets)) name ≡ find_target targets argument
-  looked_up argument name is = ap (λ b. then_some b name) (some_place (pointwise nat_eq name) targets) ∙ kept (is_among name targets) ∙ ap (option_and_then listed) (sym is)
+  pub looked_up : (argument name : List ℕ) → normal None argument ≡ Some name
+      → then_some (is_some (position (pointwise nat_eq name) targets)) name ≡ find_target targets argument
+  looked_up argument name is = ap (λ b. then_some b name) (some_place (pointwise nat_eq name) targets) ∙ kept (is_among name targets)
+      ∙ ap (option_and_then listed) (sym is)
     where
       kept : (b : Bool) → then_some b name ≡ cond b (Some name) None
       kept true = refl
@@ -33,7 +35,8 @@ module _ (targets : List (List ℕ)) where
     pub known : unknown_argument targets (argument_bytes (take k arguments)) ≡ None
     pub targets_are : found ≡ find_targets targets (argument_bytes (take k arguments))
 
-  module _ (arguments : List (Vec ℕ)) (k : ℕ) (found : List (List ℕ)) (default argument : Vec ℕ) (below : k < length arguments) (word_is : get_or arguments k default ≡ argument) (so_far : Found arguments k found) where
+  module _ (arguments : List (Vec ℕ)) (k : ℕ) (found : List (List ℕ)) (default argument : Vec ℕ) (below : k < length arguments)
+      (word_is : get_or arguments k default ≡ argument) (so_far : Found arguments k found) where
     abbrev before : List (List ℕ)
     before = argument_bytes (take k arguments)
 
@@ -46,7 +49,8 @@ module _ (targets : List (List ℕ)) where
     -- The next argument names a target.
     pub found_more : (name : List ℕ) → find_target targets argument.items ≡ Some name → Found arguments (k + 1) (found ++ name ∷ [])
     found_more name is = record {
-      known = ap (unknown_argument targets) bytes_more ∙ none_passes (λ w. is_none (find_target targets w)) before argument.items so_far.known (ap is_none is);
+      known = ap (unknown_argument targets) bytes_more
+          ∙ none_passes (λ w. is_none (find_target targets w)) before argument.items so_far.known (ap is_none is);
       targets_are =
           (λ i. so_far.targets_are i ++ cons_option (sym is i) [])
           ∙ sym (ap (find_targets targets) bytes_more ∙ filter_map-append (find_target targets) before (argument.items ∷ []));
@@ -55,7 +59,10 @@ module _ (targets : List (List ℕ)) where
     -- The next argument names none.
     pub not_found : find_target targets argument.items ≡ None → unknown_argument targets (argument_bytes arguments) ≡ Some k
     not_found is =
-        ap (λ ws. unknown_argument targets (argument_bytes ws)) (sym (take-append-drop (k + 1) arguments) ∙ ap (λ ws. ws ++ drop (k + 1) arguments) one_more ∙ append_assoc (take k arguments) (argument ∷ []) (drop (k + 1) arguments))
+        ap (λ ws. unknown_argument targets (argument_bytes ws))
+        (sym (take-append-drop (k + 1) arguments) ∙ ap (λ ws. ws ++ drop (k + 1) arguments) one_more
+        ∙ append_assoc (take k arguments) (argument ∷ []) (drop (k + 1) arguments))
         ∙ ap (unknown_argument targets) (map-append (λ w. w.items) (take k arguments) (argument ∷ drop (k + 1) arguments))
-        ∙ first_passes (λ w. is_none (find_target targets w)) before argument.items (argument_bytes (drop (k + 1) arguments)) so_far.known (ap is_none is)
+        ∙ first_passes (λ w. is_none (find_target targets w)) before argument.items (argument_bytes (drop (k + 1) arguments)) so_far.known
+        (ap is_none is)
         ∙ ap Some (length-map (take k arguments) (λ w. w.items) ∙ length-take-le k arguments (omega (arith, below)))

@@ -41,7 +41,8 @@ if_stream = (refl, refl)
 not_if_stream : IfStreamFault of_stream (λ number fault. ⊥) → ⊥
 not_if_stream is = is
 
-if_no_stream : IfStreamFault done (λ number fault. ⊥) × IfStreamFault unknown (λ number fault. ⊥) × IfStreamFault no_memory (λ number fault. ⊥) × IfStreamFault unwritten (λ number fault. ⊥)
+if_no_stream : IfStreamFault done (λ number fault. ⊥) × IfStreamFault unknown (λ number fault. ⊥)
+    × IfStreamFault no_memory (λ number fault. ⊥) × IfStreamFault unwritten (λ number fault. ⊥)
 if_no_stream = (tt, tt, tt, tt)
 
 if_unknown : IfUnknown unknown (λ place. place ≡ 2)
@@ -50,7 +51,8 @@ if_unknown = refl
 not_if_unknown : IfUnknown unknown (λ place. ⊥) → ⊥
 not_if_unknown is = is
 
-if_none_unknown : IfUnknown done (λ place. ⊥) × IfUnknown of_stream (λ place. ⊥) × IfUnknown no_memory (λ place. ⊥) × IfUnknown unwritten (λ place. ⊥)
+if_none_unknown : IfUnknown done (λ place. ⊥) × IfUnknown of_stream (λ place. ⊥) × IfUnknown no_memory (λ place. ⊥)
+    × IfUnknown unwritten (λ place. ⊥)
 if_none_unknown = (tt, tt, tt, tt)
 
 if_rejected : IfNoText unknown (λ fault. fault ≡ Unknown 2) × IfNoText of_stream (λ fault. fault ≡ OfStream 3 TooLong)
@@ -67,26 +69,52 @@ if_none_rejected = (tt, tt, tt)
 
 -- A run without targets, with these arguments.
 abbrev request_for : List (List ℕ) → Request
-request_for arguments = record { targets = []; max_bytes = 9; options = record { recursive = false; unchanged = false; details = true; debug_locks = false; debug_pids = false }; arguments = arguments }
+request_for arguments = record {
+  targets = [];
+  max_bytes = 9;
+  options = record { recursive = false; unchanged = false; details = true; debug_locks = false; debug_pids = false };
+  arguments = arguments;
+}
 
 -- An argument of one byte. The pointer and the allocator of another argument don't matter.
 abbrev of_byte : Vec ℕ → ℕ → Vec ℕ
-of_byte other byte = record { ptr = other.ptr; len = 1; cap = 1; alloc = other.alloc; items = byte ∷ []; ok = (refl, omega arith); small = omega arith }
+of_byte other byte = record {
+  ptr = other.ptr;
+  len = 1;
+  cap = 1;
+  alloc = other.alloc;
+  items = byte ∷ [];
+  ok = (refl, omega arith);
+  small = omega arith;
+}
 
 -- What a run is asked, computed from an index, a plan, options and arguments. Targets and arguments keep their order.
 request_of_run : (other : Vec ℕ)
-    → request (record { number = 5; target = codes "x"; must_close = true } ∷ record { number = 3; target = codes "w"; must_close = false } ∷ [])
+    → request (record { number = 5; target = codes "x"; must_close = true }
+    ∷ record { number = 3; target = codes "w"; must_close = false } ∷ [])
     9 (request_for []).options (of_byte other 98 ∷ of_byte other 97 ∷ [])
-    ≡ record { targets = codes "x" ∷ codes "w" ∷ []; max_bytes = 9; options = (request_for []).options; arguments = codes "b" ∷ codes "a" ∷ [] }
+    ≡ record {
+      targets = codes "x" ∷ codes "w" ∷ [];
+      max_bytes = 9;
+      options = (request_for []).options;
+      arguments = codes "b" ∷ codes "a" ∷ [];
+    }
 request_of_run other = refl
 
 -- Each reader is paired with the must-close flag at the same index.
 call_of_run : (other : Vec ℕ)
-    → call (λ (known : Option Stream). known) (record { number = 5; target = codes "x"; must_close = true } ∷ record { number = 3; target = codes "w"; must_close = false } ∷ [])
+    → call (λ (known : Option Stream). known)
+    (record { number = 5; target = codes "x"; must_close = true } ∷ record { number = 3; target = codes "w"; must_close = false } ∷ [])
     (Some (record { bytes = codes "s"; fails = false }) ∷ None ∷ []) 9 (request_for []).options (of_byte other 98 ∷ [])
     ≡ record {
-      request = record { targets = codes "x" ∷ codes "w" ∷ []; max_bytes = 9; options = (request_for []).options; arguments = codes "b" ∷ [] };
-      inputs = record { must_close = true; stream = Some (record { bytes = codes "s"; fails = false }) } ∷ record { must_close = false; stream = None } ∷ [];
+      request = record {
+        targets = codes "x" ∷ codes "w" ∷ [];
+        max_bytes = 9;
+        options = (request_for []).options;
+        arguments = codes "b" ∷ [];
+      };
+      inputs = record { must_close = true; stream = Some (record { bytes = codes "s"; fails = false }) }
+          ∷ record { must_close = false; stream = None } ∷ [];
     }
 call_of_run other = refl
 

@@ -36,11 +36,13 @@ given bytes = record { must_close = false; stream = stream_of bytes false }
 
 -- A call with these targets, maximum number of bytes, arguments and inputs.
 abbrev calls : List (List ℕ) → ℕ → List (List ℕ) → List KnownInput → RenderCall
-calls targets max_bytes arguments inputs = record { text = listing; targets = targets; max_bytes = max_bytes; arguments = arguments; inputs = inputs }
+calls targets max_bytes arguments inputs =
+    record { text = listing; targets = targets; max_bytes = max_bytes; arguments = arguments; inputs = inputs }
 
 -- A call with the streams of `a` and `b`.
 abbrev asks : List ℕ → List ℕ → ℕ → List (List ℕ) → RunResult → Row
-asks a b max_bytes arguments result = record { call = calls (codes "a" ∷ codes "b" ∷ []) max_bytes arguments []; streams = given a ∷ given b ∷ []; result = result }
+asks a b max_bytes arguments result =
+    record { call = calls (codes "a" ∷ codes "b" ∷ []) max_bytes arguments []; streams = given a ∷ given b ∷ []; result = result }
 
 abbrev rows : List Row
 rows =
@@ -58,18 +60,28 @@ these_results = (refl, (refl, (refl, (refl, (refl, (refl, tt))))))
 
 -- An argument of one byte. The pointer and the allocator of another argument don't matter.
 abbrev of_byte : Vec ℕ → ℕ → Vec ℕ
-of_byte other byte = record { ptr = other.ptr; len = 1; cap = 1; alloc = other.alloc; items = byte ∷ []; ok = (refl, omega arith); small = omega arith }
+of_byte other byte = record {
+  ptr = other.ptr;
+  len = 1;
+  cap = 1;
+  alloc = other.alloc;
+  items = byte ∷ [];
+  ok = (refl, omega arith);
+  small = omega arith;
+}
 
 -- What a run is asked, computed from an index, readers, a plan and arguments. All keep their order.
 call_of_run : (other : Vec ℕ)
-    → render_call listing (λ (known : Option Stream). known) (record { number = 5; target = codes "x"; must_close = true } ∷ record { number = 3; target = codes "w"; must_close = false } ∷ [])
+    → render_call listing (λ (known : Option Stream). known)
+    (record { number = 5; target = codes "x"; must_close = true } ∷ record { number = 3; target = codes "w"; must_close = false } ∷ [])
     (Some (record { bytes = codes "s"; fails = false }) ∷ None ∷ []) 9 (of_byte other 98 ∷ of_byte other 97 ∷ [])
     ≡ record {
       text = listing;
       targets = codes "x" ∷ codes "w" ∷ [];
       max_bytes = 9;
       arguments = codes "b" ∷ codes "a" ∷ [];
-      inputs = record { must_close = true; stream = Some (record { bytes = codes "s"; fails = false }) } ∷ record { must_close = false; stream = None } ∷ [];
+      inputs = record { must_close = true; stream = Some (record { bytes = codes "s"; fails = false }) }
+          ∷ record { must_close = false; stream = None } ∷ [];
     }
 call_of_run other = refl
 
@@ -88,7 +100,8 @@ not_another_text has =
 
 -- The fault is the result of the call, for streams that the readers give.
 is_rendered_fault :
-    IsSomeRenderedFault (calls (codes "a" ∷ []) 1 (codes "a" ∷ []) (record { must_close = false; stream = Some (record { bytes = codes "xy"; fails = false }) } ∷ [])) (OfStream 0 TooLong)
+    IsSomeRenderedFault (calls (codes "a" ∷ []) 1 (codes "a" ∷ [])
+    (record { must_close = false; stream = Some (record { bytes = codes "xy"; fails = false }) } ∷ [])) (OfStream 0 TooLong)
 unfolding split_lines ended rest first_fault entry_of reduce_suffix normal after_prefix
 is_rendered_fault = (given (codes "xy") ∷ [], ((refl, refl), tt), refl)
 

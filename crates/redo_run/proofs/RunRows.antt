@@ -46,7 +46,12 @@ closed bytes = record { must_close = true; stream = stream_of bytes false }
 abbrev asks : List (List ℕ) → List (List ℕ) → Bool → ℕ → List (List ℕ) → RunResult → Row
 asks targets streams recursive max_bytes arguments result =
     record {
-      request = record { targets = targets; max_bytes = max_bytes; options = record { recursive = recursive; unchanged = false; details = true; debug_locks = false; debug_pids = false }; arguments = arguments };
+      request = record {
+        targets = targets;
+        max_bytes = max_bytes;
+        options = record { recursive = recursive; unchanged = false; details = true; debug_locks = false; debug_pids = false };
+        arguments = arguments;
+      };
       streams = map whole streams;
       result = result;
     }
@@ -62,7 +67,12 @@ a_asks stream max_bytes result = asks (codes "a" ∷ []) (stream ∷ []) false m
 abbrev flagged_asks : StreamInput Stream → StreamInput Stream → RunResult → Row
 flagged_asks a b result =
     record {
-      request = record { targets = codes "a" ∷ codes "b" ∷ []; max_bytes = 1000; options = record { recursive = false; unchanged = false; details = true; debug_locks = false; debug_pids = false }; arguments = codes "a" ∷ [] };
+      request = record {
+        targets = codes "a" ∷ codes "b" ∷ [];
+        max_bytes = 1000;
+        options = record { recursive = false; unchanged = false; details = true; debug_locks = false; debug_pids = false };
+        arguments = codes "a" ∷ [];
+      };
       streams = a ∷ b ∷ [];
       result = result;
     }
@@ -76,7 +86,8 @@ rows =
     all_asks [] 1000 all (Ok (line (codes "redo  all"))) ∷
     all_asks (codes "x") 1000 all (Ok (line (codes "redo  all") ++ line (codes "x"))) ∷
     all_asks (codes "@@REDO:do:7") 1000 all (Ok (line (codes "redo  all") ++ bad)) ∷
-    asks (codes "d/a" ∷ codes "e/x" ∷ []) (line (codes "@@REDO:do:7:1.0000@@ ../e//x") ∷ line (codes "q") ∷ []) true 1000 (codes "d/./a" ∷ []) (
+    asks (codes "d/a" ∷ codes "e/x" ∷ []) (line (codes "@@REDO:do:7:1.0000@@ ../e//x") ∷ line (codes "q") ∷ []) true 1000
+    (codes "d/./a" ∷ []) (
     Ok (line (codes "redo  d/a") ++ line (codes "redo    e/x") ++ line (codes "q"))
     ) ∷
     -- a stream with a fault
@@ -107,17 +118,47 @@ rows =
 
 these_results : AllByRecursion (λ row. result_of row.request row.streams ≡ Some row.result) rows
 unfolding split_lines ended rest first_fault entry_of record_entry fields_of status_of split_once after_prefix number normal reduce_suffix show_log_within show_log digits
-these_results = (refl, (refl, (refl, (refl, (refl, (refl, (refl, (refl, (refl, (refl, (refl, (refl, (refl, (refl, (refl, (refl, (refl, (refl, (refl, (refl, (refl, tt)))))))))))))))))))))
+these_results = (
+  refl,
+  (
+    refl,
+    (
+      refl,
+      (
+        refl,
+        (
+          refl,
+          (
+            refl,
+            (
+              refl,
+              (
+                refl,
+                (refl, (refl, (refl, (refl, (refl, (refl, (refl, (refl, (refl, (refl, (refl, (refl, (refl, tt))))))))))))),
+              ),
+            ),
+          ),
+        ),
+      ),
+    ),
+  ),
+)
 
 -- The targets that arguments name are in the order of the arguments, and each is there as often as an argument names it.
 names_of_arguments :
-    find_targets (codes "a" ∷ codes "b" ∷ codes "c" ∷ []) (codes "./b" ∷ codes "a" ∷ codes "b" ∷ codes "c" ∷ []) ≡ codes "b" ∷ codes "a" ∷ codes "b" ∷ codes "c" ∷ []
+    find_targets (codes "a" ∷ codes "b" ∷ codes "c" ∷ []) (codes "./b" ∷ codes "a" ∷ codes "b" ∷ codes "c" ∷ [])
+    ≡ codes "b" ∷ codes "a" ∷ codes "b" ∷ codes "c" ∷ []
 unfolding reduce_suffix normal
 names_of_arguments = refl
 
 -- A failed read is the fault if the bytes before it have none, although a later stream has a fault.
 failed_reads :
-    (result_of (record { targets = codes "a" ∷ codes "b" ∷ []; max_bytes = 1000; options = record { recursive = false; unchanged = false; details = true; debug_locks = false; debug_pids = false }; arguments = codes "a" ∷ [] }) (
+    (result_of (record {
+      targets = codes "a" ∷ codes "b" ∷ [];
+      max_bytes = 1000;
+      options = record { recursive = false; unchanged = false; details = true; debug_locks = false; debug_pids = false };
+      arguments = codes "a" ∷ [];
+    }) (
     record { must_close = false; stream = stream_of (line (codes "x")) true } ∷ whole bad ∷ []
     ) ≡ Some (Err (OfStream 0 Read)))
 unfolding split_lines ended rest first_fault entry_of record_entry fields_of status_of split_once after_prefix number normal reduce_suffix

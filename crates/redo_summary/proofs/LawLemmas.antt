@@ -46,22 +46,27 @@ module _ {X : Type 0} (P : X → Type 0) where
     all_sorted [] all = tt
     all_sorted (x ∷ xs) all = all_inserted x (sort cmp xs) all.0 (all_sorted xs all.1)
 
-all_chosen : {X Y : Type 0} (P : X → Type 0) (Q : Y → Type 0) (choose : X → Option Y) → ((x : X) → P x → IfSome (choose x) Q) → (xs : List X) → AllByRecursion P xs → AllByRecursion Q (filter_map choose xs)
+all_chosen : {X Y : Type 0} (P : X → Type 0) (Q : Y → Type 0) (choose : X → Option Y) → ((x : X) → P x → IfSome (choose x) Q)
+    → (xs : List X) → AllByRecursion P xs → AllByRecursion Q (filter_map choose xs)
 all_chosen {X = X} {Y = Y} P Q choose kept [] all = tt
 all_chosen {X = X} {Y = Y} P Q choose kept (x ∷ xs) all = by (choose x) (kept x all.0) (all_chosen P Q choose kept xs all.1)
   where
-    by : (chosen : Option Y) → IfSome chosen Q → AllByRecursion Q (filter_map choose xs) → AllByRecursion Q (cons_option chosen (filter_map choose xs))
+    by : (chosen : Option Y) → IfSome chosen Q → AllByRecursion Q (filter_map choose xs)
+        → AllByRecursion Q (cons_option chosen (filter_map choose xs))
     by None here more = more
     by (Some y) here more = (here, more)
 
 -- ---- positions
 
 module _ (count : ℕ) where
-  targets_below : (times : List Times) (position : ℕ) (nodes : List Node) → position + length nodes ≤ count → AllByRecursion (λ (target : Target). target.position < count) (targets_from times position nodes)
+  targets_below : (times : List Times) (position : ℕ) (nodes : List Node) → position + length nodes ≤ count
+      → AllByRecursion (λ (target : Target). target.position < count) (targets_from times position nodes)
   targets_below times position [] within = tt
-  targets_below times position (node ∷ nodes) within = (omega (arith, within), targets_below times (position + 1) nodes (omega (arith, within)))
+  targets_below times position (node ∷ nodes) within =
+      (omega (arith, within), targets_below times (position + 1) nodes (omega (arith, within)))
 
-  warnings_below : (position : ℕ) (nodes : List Node) → position + length nodes ≤ count → AllByRecursion (λ (rank : Rank). rank.position < count) (warnings_from position nodes)
+  warnings_below : (position : ℕ) (nodes : List Node) → position + length nodes ≤ count
+      → AllByRecursion (λ (rank : Rank). rank.position < count) (warnings_from position nodes)
   warnings_below position [] within = tt
   warnings_below position (node ∷ nodes) within = (omega (arith, within), warnings_below (position + 1) nodes (omega (arith, within)))
 
@@ -77,31 +82,39 @@ module _ (count : ℕ) where
   mark_below : (target : Target) → target.position < count → IfSome (mark_of target) (λ (span : Span). span.position < count)
   mark_below target below = by (only_time target.parent target.times.began target.times.ended)
     where
-      by : (time : Option ℕ) → IfSome (option_map (λ (time : ℕ). span_between target time time) time) (λ (span : Span). span.position < count)
+      by : (time : Option ℕ) → IfSome (option_map (λ (time : ℕ). span_between target time time) time)
+          (λ (span : Span). span.position < count)
       by None = tt
       by (Some time) = below
 
-  ranks_below : (spans : List Span) → AllByRecursion (λ (span : Span). span.position < count) spans → AllByRecursion (λ (rank : Rank). rank.position < count) (map rank_of spans)
+  ranks_below : (spans : List Span) → AllByRecursion (λ (span : Span). span.position < count) spans
+      → AllByRecursion (λ (rank : Rank). rank.position < count) (map rank_of spans)
   ranks_below [] all = tt
   ranks_below (span ∷ spans) all = (all.0, ranks_below spans all.1)
 
-  first_below : (ranks : List Rank) → AllByRecursion (λ (rank : Rank). rank.position < count) ranks → AllByRecursion (λ (rank : Rank). rank.position < count) (first_ranks ranks)
+  first_below : (ranks : List Rank) → AllByRecursion (λ (rank : Rank). rank.position < count) ranks
+      → AllByRecursion (λ (rank : Rank). rank.position < count) (first_ranks ranks)
   first_below ranks all =
-      all_taken (λ (rank : Rank). rank.position < count) 10 (sort rank_cmp ranks) (all_sorted (λ (rank : Rank). rank.position < count) rank_cmp ranks all)
+      all_taken (λ (rank : Rank). rank.position < count) 10 (sort rank_cmp ranks)
+      (all_sorted (λ (rank : Rank). rank.position < count) rank_cmp ranks all)
 
 pub are_of_nodes : (nodes : List Node) (times : List Times) → AreOfNodes nodes (summary_of nodes times)
 are_of_nodes nodes times =
     let count = length nodes in
     let targets = targets_of nodes times in
     let below = targets_below count times 0 nodes (omega arith) in
-    let spans = all_chosen (λ (target : Target). target.position < count) (λ (span : Span). span.position < count) span_of (span_below count) targets below in
-    let recipes = all_passed (λ (span : Span). span.position < count) (λ (span : Span). not (ran_others targets span)) (spans_of targets) spans in
+    let spans = all_chosen (λ (target : Target). target.position < count) (λ (span : Span). span.position < count) span_of
+    (span_below count) targets below in
+    let recipes = all_passed (λ (span : Span). span.position < count) (λ (span : Span). not (ran_others targets span))
+    (spans_of targets) spans in
     record {
       callers = all_passed (λ (span : Span). span.position < count) (ran_others targets) (spans_of targets) spans;
       recipes = recipes;
-      marks = all_chosen (λ (target : Target). target.position < count) (λ (span : Span). span.position < count) mark_of (mark_below count) targets below;
+      marks = all_chosen (λ (target : Target). target.position < count) (λ (span : Span). span.position < count) mark_of
+          (mark_below count) targets below;
       longest = first_below count _ (ranks_below count _ recipes);
-      warned = first_below count _ (all_passed (λ (rank : Rank). rank.position < count) (λ (rank : Rank). ltb 0 rank.value) (warnings_from 0 nodes) (warnings_below count 0 nodes (omega arith)));
+      warned = first_below count _ (all_passed (λ (rank : Rank). rank.position < count) (λ (rank : Rank). ltb 0 rank.value)
+          (warnings_from 0 nodes) (warnings_below count 0 nodes (omega arith)));
     }
 
 -- ---- the order of positions
@@ -114,19 +127,29 @@ rising_passed : (test : Span → Bool) (least : ℕ) (spans : List Span) → Are
 rising_passed test least [] rising = tt
 rising_passed test least (span ∷ spans) rising = by (test span) (rising_passed test (span.position + 1) spans rising.1)
   where
-    by : (b : Bool) → AreRisingFrom (span.position + 1) (filter test spans) → AreRisingFrom least (cond b (span ∷ filter test spans) (filter test spans))
+    by : (b : Bool) → AreRisingFrom (span.position + 1) (filter test spans)
+        → AreRisingFrom least (cond b (span ∷ filter test spans) (filter test spans))
     by true more = (rising.0, more)
     by false more = rising_less (span.position + 1) least (filter test spans) (let le = rising.0 in omega (arith, le)) more
 
-rising_chosen : (choose : Target → Option Span) → ((target : Target) → IfSome (choose target) (λ (span : Span). span.position ≡ target.position)) → (times : List Times) (position : ℕ) (nodes : List Node)
+rising_chosen : (choose : Target → Option Span)
+    → ((target : Target) → IfSome (choose target) (λ (span : Span). span.position ≡ target.position))
+    → (times : List Times) (position : ℕ) (nodes : List Node)
     → AreRisingFrom position (filter_map choose (targets_from times position nodes))
 rising_chosen choose kept times position [] = tt
-rising_chosen choose kept times position (node ∷ nodes) = by (choose (target_of times position node)) (kept (target_of times position node)) (rising_chosen choose kept times (position + 1) nodes)
+rising_chosen choose kept times position (node ∷ nodes) =
+    by (choose (target_of times position node)) (kept (target_of times position node))
+    (rising_chosen choose kept times (position + 1) nodes)
   where
-    by : (chosen : Option Span) → IfSome chosen (λ (span : Span). span.position ≡ position) → AreRisingFrom (position + 1) (filter_map choose (targets_from times (position + 1) nodes))
+    by : (chosen : Option Span) → IfSome chosen (λ (span : Span). span.position ≡ position)
+        → AreRisingFrom (position + 1) (filter_map choose (targets_from times (position + 1) nodes))
         → AreRisingFrom position (cons_option chosen (filter_map choose (targets_from times (position + 1) nodes)))
     by None here more = rising_less (position + 1) position (filter_map choose (targets_from times (position + 1) nodes)) (omega arith) more
-    by (Some span) here more = (omega (arith, here), rising_less (position + 1) (span.position + 1) (filter_map choose (targets_from times (position + 1) nodes)) (omega (arith, here)) more)
+    by (Some span) here more = (
+      omega (arith, here),
+      rising_less (position + 1) (span.position + 1)
+          (filter_map choose (targets_from times (position + 1) nodes)) (omega (arith, here)) more,
+    )
 
 span_position : (target : Target) → IfSome (span_of target) (λ (span : Span). span.position ≡ target.position)
 span_position target = by target.times.began target.times.ended
@@ -140,7 +163,8 @@ span_position target = by target.times.began target.times.ended
 mark_position : (target : Target) → IfSome (mark_of target) (λ (span : Span). span.position ≡ target.position)
 mark_position target = by (only_time target.parent target.times.began target.times.ended)
   where
-    by : (time : Option ℕ) → IfSome (option_map (λ (time : ℕ). span_between target time time) time) (λ (span : Span). span.position ≡ target.position)
+    by : (time : Option ℕ) → IfSome (option_map (λ (time : ℕ). span_between target time time) time)
+        (λ (span : Span). span.position ≡ target.position)
     by None = tt
     by (Some time) = refl
 

@@ -16,7 +16,8 @@ use Rattle.redo_summary.proofs.SummaryRows.{node, ran, rank, span}
 -- A larger value comes later; then a lower position with an equal value; then eleven ranks.
 rejected_tables :
     ¬ AreInOrder (rank 5 0 ∷ rank 6 1 ∷ []) × ¬ AreInOrder (rank 9 0 ∷ rank 5 2 ∷ rank 5 1 ∷ [])
-    × ¬ IsTable (rank 0 0 ∷ rank 0 1 ∷ rank 0 2 ∷ rank 0 3 ∷ rank 0 4 ∷ rank 0 5 ∷ rank 0 6 ∷ rank 0 7 ∷ rank 0 8 ∷ rank 0 9 ∷ rank 0 10 ∷ []) × ¬ IsTable (rank 5 0 ∷ rank 6 1 ∷ [])
+    × ¬ IsTable (rank 0 0 ∷ rank 0 1 ∷ rank 0 2 ∷ rank 0 3 ∷ rank 0 4 ∷ rank 0 5 ∷ rank 0 6 ∷ rank 0 7 ∷ rank 0 8 ∷ rank 0 9 ∷ rank 0 10
+    ∷ []) × ¬ IsTable (rank 5 0 ∷ rank 6 1 ∷ [])
 rejected_tables = (
   λ ordered. elim ordered.0 [ inl less ↦ omega (arith, less) | inr same ↦ let equal = same.0 in omega (arith, equal) ],
   λ ordered. elim ordered.1.0 [ inl less ↦ omega (arith, less) | inr same ↦ let le = same.1 in omega (arith, le) ],
@@ -33,17 +34,21 @@ value rank = rank.value
 
 -- A table lacks a rank, though it has less than ten; then it has a rank that is not one of these; then it lacks the largest of eleven.
 rejected_firsts :
-    ¬ HasFirstTen (rank 5 0 ∷ []) [] × ¬ HasFirstTen (rank 5 0 ∷ []) (rank 7 0 ∷ []) × ¬ HasFirstTen (rank 9 0 ∷ replicate 10 (rank 1 1)) (replicate 10 (rank 1 1))
+    ¬ HasFirstTen (rank 5 0 ∷ []) [] × ¬ HasFirstTen (rank 5 0 ∷ []) (rank 7 0 ∷ [])
+    × ¬ HasFirstTen (rank 9 0 ∷ replicate 10 (rank 1 1)) (replicate 10 (rank 1 1))
 rejected_firsts = (
   λ has. let count : 0 ≡ 1 = has.count in omega (arith, count),
-  λ has. let sum : 7 + added value has.others ≡ 5 = sum_of-permutation value (rank 5 0 ∷ []) (rank 7 0 ∷ has.others) has.once in omega (arith, sum),
+  λ has. let sum : 7 + added value has.others ≡ 5 = sum_of-permutation value (rank 5 0 ∷ []) (rank 7 0 ∷ has.others) has.once in
+      omega (arith, sum),
   λ has. by has.others (length_permutation (rank 9 0 ∷ replicate 10 (rank 1 1)) (replicate 10 (rank 1 1) ++ has.others) has.once)
       (sum_of-permutation value (rank 9 0 ∷ replicate 10 (rank 1 1)) (replicate 10 (rank 1 1) ++ has.others) has.once) has.first.0,
 )
   where
-    by : (others : List Rank) → length (replicate 10 (rank 1 1) ++ others) ≡ 11 → added value (replicate 10 (rank 1 1) ++ others) ≡ 19 → AllByRecursion (IsBefore (rank 1 1)) others → ⊥
+    by : (others : List Rank) → length (replicate 10 (rank 1 1) ++ others) ≡ 11 → added value (replicate 10 (rank 1 1) ++ others) ≡ 19
+        → AllByRecursion (IsBefore (rank 1 1)) others → ⊥
     by [] count sum before = omega (arith, count)
-    by (other ∷ []) count sum before = elim before.0 [ inl less ↦ omega (arith, sum, less) | inr same ↦ let equal = same.0 in omega (arith, sum, equal) ]
+    by (other ∷ []) count sum before = elim before.0
+        [ inl less ↦ omega (arith, sum, less) | inr same ↦ let equal = same.0 in omega (arith, sum, equal) ]
     by (other ∷ next ∷ rest) count sum before = omega (arith, count)
 
 -- ---- positions
@@ -69,8 +74,10 @@ one_node = node 0 None None 0 0 ∷ []
 
 -- A position in each list is not below the number of nodes.
 rejected_positions :
-    ¬ AreOfNodes one_node (record no_facts { callers = span 1 3 4 ∷ [] }) × ¬ AreOfNodes one_node (record no_facts { recipes = span 1 3 4 ∷ [] })
-    × ¬ AreOfNodes one_node (record no_facts { marks = span 1 3 3 ∷ [] }) × ¬ AreOfNodes one_node (record no_facts { longest = rank 7 1 ∷ [] })
+    ¬ AreOfNodes one_node (record no_facts { callers = span 1 3 4 ∷ [] })
+    × ¬ AreOfNodes one_node (record no_facts { recipes = span 1 3 4 ∷ [] })
+    × ¬ AreOfNodes one_node (record no_facts { marks = span 1 3 3 ∷ [] })
+    × ¬ AreOfNodes one_node (record no_facts { longest = rank 7 1 ∷ [] })
     × ¬ AreOfNodes one_node (record no_facts { warned = rank 7 1 ∷ [] })
 rejected_positions = (
   λ of_nodes. let below : 1 < 1 = of_nodes.callers.0 in omega (arith, below),
@@ -82,8 +89,10 @@ rejected_positions = (
 
 -- The positions fall in each list; then a position occurs twice.
 rejected_orders :
-    ¬ AreInOrderOfPosition (record no_facts { callers = span 2 1 9 ∷ span 1 3 4 ∷ [] }) × ¬ AreInOrderOfPosition (record no_facts { recipes = span 2 1 9 ∷ span 1 3 4 ∷ [] })
-    × ¬ AreInOrderOfPosition (record no_facts { marks = span 2 5 5 ∷ span 1 7 7 ∷ [] }) × ¬ AreInOrderOfPosition (record no_facts { marks = span 3 5 5 ∷ span 3 7 7 ∷ [] })
+    ¬ AreInOrderOfPosition (record no_facts { callers = span 2 1 9 ∷ span 1 3 4 ∷ [] })
+    × ¬ AreInOrderOfPosition (record no_facts { recipes = span 2 1 9 ∷ span 1 3 4 ∷ [] })
+    × ¬ AreInOrderOfPosition (record no_facts { marks = span 2 5 5 ∷ span 1 7 7 ∷ [] })
+    × ¬ AreInOrderOfPosition (record no_facts { marks = span 3 5 5 ∷ span 3 7 7 ∷ [] })
 rejected_orders = (
   λ order. let above : 3 ≤ 1 = order.callers.1.0 in omega (arith, above),
   λ order. let above : 3 ≤ 1 = order.recipes.1.0 in omega (arith, above),
@@ -95,7 +104,8 @@ rejected_orders = (
 
 -- A span is in no list, or in both.
 rejected_split :
-    ¬ AreSplit one_node (ran 1 9 ∷ []) no_facts × ¬ AreSplit one_node (ran 1 9 ∷ []) (record no_facts { callers = span 0 1 9 ∷ []; recipes = span 0 1 9 ∷ [] })
+    ¬ AreSplit one_node (ran 1 9 ∷ []) no_facts
+    × ¬ AreSplit one_node (ran 1 9 ∷ []) (record no_facts { callers = span 0 1 9 ∷ []; recipes = span 0 1 9 ∷ [] })
 rejected_split = (
   λ split. let same : 0 ≡ 1 = length_permutation (span 0 1 9 ∷ []) [] split in omega (arith, same),
   λ split. let same : 2 ≡ 1 = length_permutation (span 0 1 9 ∷ []) (span 0 1 9 ∷ span 0 1 9 ∷ []) split in omega (arith, same),
@@ -103,7 +113,8 @@ rejected_split = (
 
 -- A target began before the span, ended after it, or ended when the span began. Then its beginning or its end is unknown.
 rejected_times :
-    ¬ AreDuring (span 0 10 20) (Some 9) (Some 15) × ¬ AreDuring (span 0 10 20) (Some 12) (Some 21) × ¬ AreDuring (span 0 10 20) (Some 10) (Some 10)
+    ¬ AreDuring (span 0 10 20) (Some 9) (Some 15) × ¬ AreDuring (span 0 10 20) (Some 12) (Some 21)
+    × ¬ AreDuring (span 0 10 20) (Some 10) (Some 10)
     × ¬ AreDuring (span 0 10 20) None (Some 15) × ¬ AreDuring (span 0 10 20) (Some 12) None × ¬ AreDuring (span 0 10 20) None None
 rejected_times = (
   λ are. let low : 10 ≤ 9 = are.0 in omega (arith, low),
@@ -122,7 +133,8 @@ two_times = ran 10 90 ∷ ran 20 80 ∷ []
 
 -- The log of the target is in no log, or in another one. Then the target began too early.
 rejected_runs :
-    ¬ Ran two_times (span 0 10 90) (node 1 None None 0 0) × ¬ Ran two_times (span 0 10 90) (node 1 (Some 1) None 0 0) × ¬ Ran (ran 10 90 ∷ ran 5 80 ∷ []) (span 0 10 90) (node 1 (Some 0) None 0 0)
+    ¬ Ran two_times (span 0 10 90) (node 1 None None 0 0) × ¬ Ran two_times (span 0 10 90) (node 1 (Some 1) None 0 0)
+    × ¬ Ran (ran 10 90 ∷ ran 5 80 ∷ []) (span 0 10 90) (node 1 (Some 0) None 0 0)
 rejected_runs = (
   λ run. let around : 7 ≡ 0 = ap (λ (position : Option ℕ). unwrap_or position 7) run.contains in omega (arith, around),
   λ run. let around : 1 ≡ 0 = ap (λ (position : Option ℕ). unwrap_or position 7) run.contains in omega (arith, around),
@@ -130,14 +142,20 @@ rejected_runs = (
 )
 
 accepted_run : RanOthers two_nodes two_times (span 0 10 90)
-accepted_run = (node 1 (Some 0) None 0 0, (1, omega arith, refl), record { contains = refl; during = (omega arith, omega arith, omega arith) })
+accepted_run = (
+  node 1 (Some 0) None 0 0,
+  (1, omega arith, refl),
+  record { contains = refl; during = (omega arith, omega arith, omega arith) },
+)
 
 -- The only target whose log is in its log is not shown.
 ran_hidden_target : ¬ RanOthers one_node two_times (span 0 10 90)
 ran_hidden_target run = by run.1.0 run.1.1 run.1.2
   where
     by : (k : ℕ) → k < 1 → get_or one_node k run.0 ≡ run.0 → ⊥
-    by zero below same = let around : 7 ≡ 0 = ap (λ (node : Node). unwrap_or node.parent 7) same ∙ ap (λ (position : Option ℕ). unwrap_or position 7) run.2.contains in omega (arith, around)
+    by zero below same = let around : 7 ≡ 0 =
+        ap (λ (node : Node). unwrap_or node.parent 7) same ∙ ap (λ (position : Option ℕ). unwrap_or position 7) run.2.contains in
+        omega (arith, around)
     by (suc k) below same = omega (arith, below)
 
 -- A recipe is among the callers, and a caller among the recipes.

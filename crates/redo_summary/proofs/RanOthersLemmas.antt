@@ -21,7 +21,8 @@ position_is position (Some other) is = ap Some (sym (eqb-true position other is)
 is_that_position : (position : ℕ) (parent : Option ℕ) → parent ≡ Some position → is_position position parent ≡ true
 is_that_position position parent is = ap (is_position position) is ∙ eq-eqb position position refl
 
-during : (span : Span) (target : Target) (began ended : Option ℕ) → is_in_if_known span (span_if target began ended) ≡ true → AreDuring span began ended
+during : (span : Span) (target : Target) (began ended : Option ℕ) → is_in_if_known span (span_if target began ended) ≡ true
+    → AreDuring span began ended
 during span target None None is = absurd (cc)
 during span target None (Some ended) is = absurd (cc)
 during span target (Some began) None is = absurd (cc)
@@ -30,13 +31,15 @@ during span target (Some began) (Some ended) is =
     let inside = and_parts (leb span.began began) (leb ended span.ended) both.0 in
     (leb-true span.began began inside.0, leb-true ended span.ended inside.1, ltb-true span.began ended both.1)
 
-is_during : (span : Span) (target : Target) (began ended : Option ℕ) → AreDuring span began ended → is_in_if_known span (span_if target began ended) ≡ true
+is_during : (span : Span) (target : Target) (began ended : Option ℕ) → AreDuring span began ended
+    → is_in_if_known span (span_if target began ended) ≡ true
 is_during span target None None are = absurd are
 is_during span target None (Some ended) are = absurd are
 is_during span target (Some began) None are = absurd are
 is_during span target (Some began) (Some ended) are =
     and_from (leb span.began began && leb ended span.ended) (ltb span.began ended)
-    (and_from (leb span.began began) (leb ended span.ended) (le-leb span.began began are.0) (le-leb ended span.ended are.1)) (lt-ltb span.began ended are.2)
+    (and_from (leb span.began began) (leb ended span.ended) (le-leb span.began began are.0) (le-leb ended span.ended are.1))
+    (lt-ltb span.began ended are.2)
 
 module _ (times : List Times) (span : Span) where
   ran : (position : ℕ) (node : Node) → is_run_by span (target_of times position node) ≡ true → Ran times span node
@@ -50,18 +53,23 @@ module _ (times : List Times) (span : Span) where
   is_ran position node run =
       let known = times_of times node.number in
       let target = target_of times position node in
-      and_from (is_position span.position node.parent) (is_in_if_known span (span_of target)) (is_that_position span.position node.parent run.contains) (is_during span target known.began known.ended run.during)
+      and_from (is_position span.position node.parent) (is_in_if_known span (span_of target))
+      (is_that_position span.position node.parent run.contains) (is_during span target known.began known.ended run.during)
 
   -- ---- all targets
 
-  ran_others_of : (position : ℕ) (nodes : List Node) → list_any (is_run_by span) (targets_from times position nodes) ≡ true → RanOthers nodes times span
+  ran_others_of : (position : ℕ) (nodes : List Node) → list_any (is_run_by span) (targets_from times position nodes) ≡ true
+      → RanOthers nodes times span
   ran_others_of position [] is = absurd (cc)
   ran_others_of position (node ∷ nodes) is =
-      by (or_cases (is_run_by span (target_of times position node)) (list_any (is_run_by span) (targets_from times (position + 1) nodes)) is)
+      by (or_cases (is_run_by span (target_of times position node))
+      (list_any (is_run_by span) (targets_from times (position + 1) nodes)) is)
       (ran_others_of (position + 1) nodes)
     where
-      by : (is_run_by span (target_of times position node) ≡ true) ⊎ (list_any (is_run_by span) (targets_from times (position + 1) nodes) ≡ true)
-          → (list_any (is_run_by span) (targets_from times (position + 1) nodes) ≡ true → RanOthers nodes times span) → RanOthers (node ∷ nodes) times span
+      by : (is_run_by span (target_of times position node) ≡ true) ⊎
+          (list_any (is_run_by span) (targets_from times (position + 1) nodes) ≡ true)
+          → (list_any (is_run_by span) (targets_from times (position + 1) nodes) ≡ true → RanOthers nodes times span)
+          → RanOthers (node ∷ nodes) times span
       by (inl here) rest = (node, (0, omega arith, refl), ran position node here)
       by (inr later) rest =
           let more = rest later in
@@ -69,19 +77,23 @@ module _ (times : List Times) (span : Span) where
           let below : k < length nodes = more.1.1 in
           (more.0, (suc k, omega (arith, below), more.1.2), more.2)
 
-  is_ran_others : (position : ℕ) (nodes : List Node) (other : Node) (k : ℕ) → k < length nodes → get_or nodes k other ≡ other → Ran times span other → list_any (is_run_by span) (targets_from times position nodes) ≡ true
+  is_ran_others : (position : ℕ) (nodes : List Node) (other : Node) (k : ℕ) → k < length nodes → get_or nodes k other ≡ other
+      → Ran times span other → list_any (is_run_by span) (targets_from times position nodes) ≡ true
   is_ran_others position [] other k below is run = absurd (omega (arith, below))
   is_ran_others position (node ∷ nodes) other zero below is run =
-      or_left (is_run_by span (target_of times position node)) (list_any (is_run_by span) (targets_from times (position + 1) nodes)) (is_ran position node (subst (Ran times span) (sym is) run))
+      or_left (is_run_by span (target_of times position node)) (list_any (is_run_by span) (targets_from times (position + 1) nodes))
+      (is_ran position node (subst (Ran times span) (sym is) run))
   is_ran_others position (node ∷ nodes) other (suc k) below is run =
       or_right (is_run_by span (target_of times position node)) (list_any (is_run_by span) (targets_from times (position + 1) nodes))
       (is_ran_others (position + 1) nodes other k (omega (arith, below)) is run)
 
-all_that_passed : (test : Span → Bool) (P : Span → Type 0) → ((span : Span) → test span ≡ true → P span) → (spans : List Span) → AllByRecursion P (filter test spans)
+all_that_passed : (test : Span → Bool) (P : Span → Type 0) → ((span : Span) → test span ≡ true → P span) → (spans : List Span)
+    → AllByRecursion P (filter test spans)
 all_that_passed test P holds [] = tt
 all_that_passed test P holds (span ∷ spans) = by (test span) refl (all_that_passed test P holds spans)
   where
-    by : (b : Bool) → test span ≡ b → AllByRecursion P (filter test spans) → AllByRecursion P (cond b (span ∷ filter test spans) (filter test spans))
+    by : (b : Bool) → test span ≡ b → AllByRecursion P (filter test spans)
+        → AllByRecursion P (cond b (span ∷ filter test spans) (filter test spans))
     by true is more = (holds span is, more)
     by false is more = more
 
@@ -94,7 +106,8 @@ pub no_recipe_ran : (nodes : List Node) (times : List Times) → NoneRanOthers n
 no_recipe_ran nodes times =
     let targets = targets_of nodes times in
     all_that_passed (λ (span : Span). not (ran_others targets span)) (λ (span : Span). ¬ RanOthers nodes times span)
-    (λ span is run. let others : ran_others targets span ≡ true = is_ran_others times span 0 nodes run.0 run.1.0 run.1.1 run.1.2 run.2 in no_both (ran_others targets span) is others)
+    (λ span is run. let others : ran_others targets span ≡ true = is_ran_others times span 0 nodes run.0 run.1.0 run.1.1 run.1.2 run.2 in
+    no_both (ran_others targets span) is others)
     (spans_of targets)
   where
     no_both : (b : Bool) → not b ≡ true → b ≡ true → ⊥

@@ -63,49 +63,59 @@ abbrev few_times : List Times
 few_times = ran 1000 5000 ∷ began_at 7 ∷ ended_at 8 ∷ no_times ∷ ran 7 7 ∷ ran 9 5 ∷ []
 
 durations :
-    (duration_of few_times 0 ≡ Some 4000) × (duration_of few_times 1 ≡ None) × (duration_of few_times 2 ≡ None) × (duration_of few_times 3 ≡ None) × (duration_of few_times 4 ≡ Some 0)
+    (duration_of few_times 0 ≡ Some 4000) × (duration_of few_times 1 ≡ None) × (duration_of few_times 2 ≡ None)
+    × (duration_of few_times 3 ≡ None) × (duration_of few_times 4 ≡ Some 0)
     × (duration_of few_times 5 ≡ Some 0) × (duration_of few_times 6 ≡ None)
 durations = (refl, refl, refl, refl, refl, refl, refl)
 
 -- The number of a log says where its times are. A target failed if its status is known and isn't 0.
 these_targets :
-    targets_of (node 1 None None 0 0 ∷ node 0 (Some 0) (Some (pos 0)) 0 0 ∷ node 2 (Some 1) (Some (pos 2)) 0 0 ∷ node 7 (Some 0) (Some (negsuc 8)) 0 0 ∷ []) (ran 3 4 ∷ ran 1 9 ∷ ended_at 5 ∷ [])
+    targets_of (node 1 None None 0 0 ∷ node 0 (Some 0) (Some (pos 0)) 0 0 ∷ node 2 (Some 1) (Some (pos 2)) 0 0
+    ∷ node 7 (Some 0) (Some (negsuc 8)) 0 0 ∷ []) (ran 3 4 ∷ ran 1 9 ∷ ended_at 5 ∷ [])
     ≡ target 0 None (ran 1 9) ∷ target 1 (Some 0) (ran 3 4) ∷ failed_target 2 (Some 1) (ended_at 5) ∷ failed_target 3 (Some 0) no_times ∷ []
 these_targets = refl
 
 these_spans :
-    (span_of (target 3 None (ran 5 9)) ≡ Some (span 3 5 9)) × (span_of (failed_target 3 (Some 1) (ran 9 5)) ≡ Some (failed 3 9 5)) × (span_of (target 3 (Some 1) (began_at 5)) ≡ None)
+    (span_of (target 3 None (ran 5 9)) ≡ Some (span 3 5 9)) × (span_of (failed_target 3 (Some 1) (ran 9 5)) ≡ Some (failed 3 9 5))
+    × (span_of (target 3 (Some 1) (began_at 5)) ≡ None)
     × (span_of (target 3 (Some 1) (ended_at 5)) ≡ None) × (span_of (target 3 None no_times) ≡ None)
 these_spans = (refl, refl, refl, refl, refl)
 
 -- Only the end of a requested target is no mark.
 these_marks :
-    (mark_of (target 3 (Some 1) (began_at 5)) ≡ Some (span 3 5 5)) × (mark_of (failed_target 3 (Some 1) (ended_at 6)) ≡ Some (failed 3 6 6)) × (mark_of (target 0 None (began_at 5)) ≡ Some (span 0 5 5))
-    × (mark_of (target 0 None (ended_at 6)) ≡ None) × (mark_of (target 3 (Some 1) (ran 5 6)) ≡ None) × (mark_of (target 3 None (ran 5 6)) ≡ None) × (mark_of (target 3 (Some 1) no_times) ≡ None)
+    (mark_of (target 3 (Some 1) (began_at 5)) ≡ Some (span 3 5 5)) × (mark_of (failed_target 3 (Some 1) (ended_at 6)) ≡ Some (failed 3 6 6))
+    × (mark_of (target 0 None (began_at 5)) ≡ Some (span 0 5 5))
+    × (mark_of (target 0 None (ended_at 6)) ≡ None) × (mark_of (target 3 (Some 1) (ran 5 6)) ≡ None)
+    × (mark_of (target 3 None (ran 5 6)) ≡ None) × (mark_of (target 3 (Some 1) no_times) ≡ None)
     × (mark_of (target 3 None no_times) ≡ None)
 these_marks = (refl, refl, refl, refl, refl, refl, refl, refl)
 
-marks_in_order : marks_of (target 0 None (ran 1 2) ∷ target 1 (Some 0) (ended_at 9) ∷ target 2 (Some 0) no_times ∷ target 3 (Some 0) (began_at 4) ∷ []) ≡ span 1 9 9 ∷ span 3 4 4 ∷ []
+marks_in_order : marks_of (target 0 None (ran 1 2) ∷ target 1 (Some 0) (ended_at 9) ∷ target 2 (Some 0) no_times
+    ∷ target 3 (Some 0) (began_at 4) ∷ []) ≡ span 1 9 9 ∷ span 3 4 4 ∷ []
 marks_in_order = refl
 
 -- ---- callers
 
 -- A span may touch both ends of the span around it. A span that ended when the span around it began isn't in it.
 inner_spans :
-    (is_in (span 0 10 20) (span 1 10 20) ≡ true) × (is_in (span 0 10 20) (span 1 9 20) ≡ false) × (is_in (span 0 10 20) (span 1 10 21) ≡ false) × (is_in (span 0 10 20) (span 1 10 10) ≡ false)
-    × (is_in (span 0 10 20) (span 1 10 11) ≡ true) × (is_in (span 0 10 20) (span 1 20 20) ≡ true) × (is_in (span 0 10 10) (span 1 10 10) ≡ false)
+    (is_in (span 0 10 20) (span 1 10 20) ≡ true) × (is_in (span 0 10 20) (span 1 9 20) ≡ false)
+    × (is_in (span 0 10 20) (span 1 10 21) ≡ false) × (is_in (span 0 10 20) (span 1 10 10) ≡ false)
+    × (is_in (span 0 10 20) (span 1 10 11) ≡ true) × (is_in (span 0 10 20) (span 1 20 20) ≡ true)
+    × (is_in (span 0 10 10) (span 1 10 10) ≡ false)
 inner_spans = (refl, refl, refl, refl, refl, refl, refl)
 
 -- One of the targets below ran in the span of the first one.
 abbrev family : List Target
-family = target 0 None (ran 10 20) ∷ failed_target 1 (Some 0) (ran 5 15) ∷ failed_target 2 (Some 0) (ran 12 18) ∷ target 3 (Some 2) (ran 13 19) ∷ []
+family = target 0 None (ran 10 20) ∷ failed_target 1 (Some 0) (ran 5 15) ∷ failed_target 2 (Some 0) (ran 12 18)
+    ∷ target 3 (Some 2) (ran 13 19) ∷ []
 
 split_family : (callers_of family ≡ span 0 10 20 ∷ []) × (recipes_of family ≡ failed 1 5 15 ∷ failed 2 12 18 ∷ span 3 13 19 ∷ [])
 split_family = (refl, refl)
 
 -- The target at position 1 ran the one at position 3, and is in the span of the one at position 0, which ran it.
 abbrev nested : List Target
-nested = target 0 None (ran 10 90) ∷ failed_target 1 (Some 0) (ran 20 80) ∷ target 2 (Some 0) (began_at 30) ∷ target 3 (Some 1) (ran 30 40) ∷ []
+nested = target 0 None (ran 10 90) ∷ failed_target 1 (Some 0) (ran 20 80) ∷ target 2 (Some 0) (began_at 30)
+    ∷ target 3 (Some 1) (ran 30 40) ∷ []
 
 split_nested : (callers_of nested ≡ span 0 10 90 ∷ failed 1 20 80 ∷ []) × (recipes_of nested ≡ span 3 30 40 ∷ [])
 split_nested = (refl, refl)
@@ -127,34 +137,42 @@ split_requested = (refl, refl)
 -- ---- the window
 
 windows :
-    (window_over [] ≡ None) × (time_over [] ≡ 0) × (window_over (5 ∷ []) ≡ Some (record { began = 5; width = 1 })) × (time_over (5 ∷ []) ≡ 0)
-    × (window_over (7 ∷ 3 ∷ 5 ∷ []) ≡ Some (record { began = 3; width = 4 })) × (time_over (7 ∷ 3 ∷ 5 ∷ []) ≡ 4) × (time_over (3 ∷ 4 ∷ []) ≡ 1)
+    (window_over [] ≡ None) × (time_over [] ≡ 0) × (window_over (5 ∷ []) ≡ Some (record { began = 5; width = 1 }))
+    × (time_over (5 ∷ []) ≡ 0)
+    × (window_over (7 ∷ 3 ∷ 5 ∷ []) ≡ Some (record { began = 3; width = 4 })) × (time_over (7 ∷ 3 ∷ 5 ∷ []) ≡ 4)
+    × (time_over (3 ∷ 4 ∷ []) ≡ 1)
 windows = (refl, refl, refl, refl, refl, refl, refl)
 
 -- 2^44 - 1 milliseconds are not cut, and one more are.
 long_windows :
-    (window_over (1 ∷ 17592186044416 ∷ []) ≡ Some (record { began = 1; width = 17592186044415 })) × (time_over (1 ∷ 17592186044416 ∷ []) ≡ 17592186044415)
-    × (window_over (1 ∷ 17592186044417 ∷ []) ≡ Some (record { began = 1; width = 17592186044415 })) × (time_over (1 ∷ 17592186044417 ∷ []) ≡ 17592186044415)
+    (window_over (1 ∷ 17592186044416 ∷ []) ≡ Some (record { began = 1; width = 17592186044415 }))
+    × (time_over (1 ∷ 17592186044416 ∷ []) ≡ 17592186044415)
+    × (window_over (1 ∷ 17592186044417 ∷ []) ≡ Some (record { began = 1; width = 17592186044415 }))
+    × (time_over (1 ∷ 17592186044417 ∷ []) ≡ 17592186044415)
 long_windows = (refl, refl, refl, refl)
 
 -- Each beginning and each end counts.
-all_times : known_times (target 0 None (ended_at 9) ∷ target 1 (Some 0) (ran 3 4) ∷ target 2 (Some 0) no_times ∷ target 3 (Some 0) (began_at 5) ∷ []) ≡ 9 ∷ 3 ∷ 4 ∷ 5 ∷ []
+all_times : known_times (target 0 None (ended_at 9) ∷ target 1 (Some 0) (ran 3 4) ∷ target 2 (Some 0) no_times
+    ∷ target 3 (Some 0) (began_at 5) ∷ []) ≡ 9 ∷ 3 ∷ 4 ∷ 5 ∷ []
 all_times = refl
 
 -- ---- tables
 
-spans_are_cut : (duration (span 0 3 9) ≡ 6) × (duration (span 0 9 3) ≡ 0) × (duration (span 0 0 17592186044415) ≡ 17592186044415) × (duration (span 0 0 17592186044416) ≡ 17592186044415)
+spans_are_cut : (duration (span 0 3 9) ≡ 6) × (duration (span 0 9 3) ≡ 0) × (duration (span 0 0 17592186044415) ≡ 17592186044415)
+    × (duration (span 0 0 17592186044416) ≡ 17592186044415)
 spans_are_cut = (refl, refl, refl, refl)
 
 -- Larger values are first, and of equal values lower positions.
 ranks_in_order :
-    (first_ranks (rank 5 0 ∷ rank 9 1 ∷ rank 7 2 ∷ []) ≡ rank 9 1 ∷ rank 7 2 ∷ rank 5 0 ∷ []) × (first_ranks (rank 5 0 ∷ rank 5 1 ∷ rank 9 2 ∷ rank 5 3 ∷ []) ≡ rank 9 2 ∷ rank 5 0 ∷ rank 5 1 ∷ rank 5 3 ∷ [])
+    (first_ranks (rank 5 0 ∷ rank 9 1 ∷ rank 7 2 ∷ []) ≡ rank 9 1 ∷ rank 7 2 ∷ rank 5 0 ∷ [])
+    × (first_ranks (rank 5 0 ∷ rank 5 1 ∷ rank 9 2 ∷ rank 5 3 ∷ []) ≡ rank 9 2 ∷ rank 5 0 ∷ rank 5 1 ∷ rank 5 3 ∷ [])
     × (first_ranks (rank 5 3 ∷ rank 5 1 ∷ []) ≡ rank 5 1 ∷ rank 5 3 ∷ []) × (first_ranks [] ≡ [])
 ranks_in_order = (refl, refl, refl, refl)
 
 -- The ten first of twelve.
 ten_ranks :
-    first_ranks (rank 1 0 ∷ rank 2 1 ∷ rank 3 2 ∷ rank 4 3 ∷ rank 5 4 ∷ rank 6 5 ∷ rank 7 6 ∷ rank 8 7 ∷ rank 9 8 ∷ rank 10 9 ∷ rank 11 10 ∷ rank 12 11 ∷ [])
+    first_ranks (rank 1 0 ∷ rank 2 1 ∷ rank 3 2 ∷ rank 4 3 ∷ rank 5 4 ∷ rank 6 5 ∷ rank 7 6 ∷ rank 8 7 ∷ rank 9 8 ∷ rank 10 9 ∷ rank 11 10
+    ∷ rank 12 11 ∷ [])
     ≡ rank 12 11 ∷ rank 11 10 ∷ rank 10 9 ∷ rank 9 8 ∷ rank 8 7 ∷ rank 7 6 ∷ rank 6 5 ∷ rank 5 4 ∷ rank 4 3 ∷ rank 3 2 ∷ []
 ten_ranks = refl
 
@@ -162,18 +180,21 @@ longest : longest_of (span 2 0 5 ∷ failed 4 3 9 ∷ span 6 9 9 ∷ []) ≡ ran
 longest = refl
 
 -- Targets without warnings are not in the table.
-warned : most_warned (node 5 None None 0 0 ∷ node 3 (Some 0) None 0 2 ∷ node 4 (Some 0) None 0 0 ∷ node 9 (Some 0) None 0 7 ∷ node 8 (Some 0) None 0 1 ∷ []) ≡ rank 7 3 ∷ rank 2 1 ∷ rank 1 4 ∷ []
+warned : most_warned (node 5 None None 0 0 ∷ node 3 (Some 0) None 0 2 ∷ node 4 (Some 0) None 0 0 ∷ node 9 (Some 0) None 0 7
+    ∷ node 8 (Some 0) None 0 1 ∷ []) ≡ rank 7 3 ∷ rank 2 1 ∷ rank 1 4 ∷ []
 warned = refl
 
 -- ---- sums
 
 totals :
-    (total (λ (n : ℕ). n) (3 ∷ 4 ∷ []) ≡ 7) × (total (λ (n : ℕ). n) (18446744073709551614 ∷ 1 ∷ []) ≡ 18446744073709551615) × (total (λ (n : ℕ). n) (18446744073709551615 ∷ 1 ∷ []) ≡ 18446744073709551615)
+    (total (λ (n : ℕ). n) (3 ∷ 4 ∷ []) ≡ 7) × (total (λ (n : ℕ). n) (18446744073709551614 ∷ 1 ∷ []) ≡ 18446744073709551615)
+    × (total (λ (n : ℕ). n) (18446744073709551615 ∷ 1 ∷ []) ≡ 18446744073709551615)
     × (total (λ (n : ℕ). n) [] ≡ 0)
 totals = (refl, refl, refl, refl)
 
 sums :
-    (sum_of (span 0 1 9 ∷ span 1 5 7 ∷ []) ≡ 10) × (warnings_of (node 0 None None 5 2 ∷ node 1 (Some 0) None 7 3 ∷ []) ≡ 5) × (bytes_of (node 0 None None 5 2 ∷ node 1 (Some 0) None 7 3 ∷ []) ≡ 12)
+    (sum_of (span 0 1 9 ∷ span 1 5 7 ∷ []) ≡ 10) × (warnings_of (node 0 None None 5 2 ∷ node 1 (Some 0) None 7 3 ∷ []) ≡ 5)
+    × (bytes_of (node 0 None None 5 2 ∷ node 1 (Some 0) None 7 3 ∷ []) ≡ 12)
 sums = (refl, refl, refl)
 
 -- ---- the whole
@@ -209,12 +230,14 @@ whole :
       longest = [];
       warned = [];
     })
-    × (summary_of (node 3 None (Some (pos 0)) 10 0 ∷ node 0 (Some 0) (Some (pos 1)) 20 0 ∷ node 2 (Some 0) (Some (pos 2)) 30 4 ∷ node 1 (Some 0) None 40 2 ∷ []) (ran 1020 1050 ∷ ended_at 1095 ∷ ran 1050 1090 ∷ ran 1010 1100 ∷ ran 1 9999 ∷ []) ≡ small_build)
+    × (summary_of (node 3 None (Some (pos 0)) 10 0 ∷ node 0 (Some 0) (Some (pos 1)) 20 0 ∷ node 2 (Some 0) (Some (pos 2)) 30 4
+    ∷ node 1 (Some 0) None 40 2 ∷ []) (ran 1020 1050 ∷ ended_at 1095 ∷ ran 1050 1090 ∷ ran 1010 1100 ∷ ran 1 9999 ∷ []) ≡ small_build)
 whole = (refl, refl)
 
 -- A requested target ran two others at once: recipes count in `sum` and `most`, and their caller doesn't.
 overlap :
-    summary_of (node 0 None (Some (pos 0)) 10 0 ∷ node 1 (Some 0) (Some (pos 0)) 20 0 ∷ node 2 (Some 0) (Some (pos 0)) 30 0 ∷ []) (ran 1000 1100 ∷ ran 1010 1050 ∷ ran 1040 1090 ∷ []) ≡ record {
+    summary_of (node 0 None (Some (pos 0)) 10 0 ∷ node 1 (Some 0) (Some (pos 0)) 20 0 ∷ node 2 (Some 0) (Some (pos 0)) 30 0 ∷ [])
+    (ran 1000 1100 ∷ ran 1010 1050 ∷ ran 1040 1090 ∷ []) ≡ record {
       window = Some (record { began = 1000; width = 100 });
       took = 100;
       callers = span 0 1000 1100 ∷ [];
@@ -230,10 +253,12 @@ overlap :
 overlap = refl
 
 abbrev counted : ℕ → ℕ → ℕ → Facts
-counted callers recipes marks = record small_build { callers = replicate callers (span 0 1 9); recipes = replicate recipes (span 0 1 9); marks = replicate marks (span 0 1 1) }
+counted callers recipes marks = record small_build
+    { callers = replicate callers (span 0 1 9); recipes = replicate recipes (span 0 1 9); marks = replicate marks (span 0 1 1) }
 
 -- One of ten may be a mark. There must be a span.
 timed :
-    (is_timed (counted 1 0 0) ≡ true) × (is_timed (counted 0 1 0) ≡ true) × (is_timed (counted 0 0 0) ≡ false) × (is_timed (counted 0 0 1) ≡ false) × (is_timed (counted 4 5 1) ≡ true)
+    (is_timed (counted 1 0 0) ≡ true) × (is_timed (counted 0 1 0) ≡ true) × (is_timed (counted 0 0 0) ≡ false)
+    × (is_timed (counted 0 0 1) ≡ false) × (is_timed (counted 4 5 1) ≡ true)
     × (is_timed (counted 4 4 1) ≡ false) × (is_timed (counted 3 15 2) ≡ true) × (is_timed (counted 3 14 2) ≡ false)
 timed = (refl, refl, refl, refl, refl, refl, refl, refl)

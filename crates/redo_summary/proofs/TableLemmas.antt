@@ -32,10 +32,12 @@ all_dropped P (suc n) [] all = tt
 all_dropped P (suc n) (rank ∷ ranks) all = all_dropped P n ranks all.1
 
 -- The first of some ranks in order are before the others.
-taken_before : (n : ℕ) (ranks : List Rank) → AreInOrder ranks → AllByRecursion (λ (rank : Rank). AllByRecursion (IsBefore rank) (drop n ranks)) (take n ranks)
+taken_before : (n : ℕ) (ranks : List Rank) → AreInOrder ranks
+    → AllByRecursion (λ (rank : Rank). AllByRecursion (IsBefore rank) (drop n ranks)) (take n ranks)
 taken_before zero ranks ordered = tt
 taken_before (suc n) [] ordered = tt
-taken_before (suc n) (rank ∷ ranks) ordered = (all_dropped (IsBefore rank) n ranks (before_all rank ranks ordered.0 ordered.1), taken_before n ranks ordered.1)
+taken_before (suc n) (rank ∷ ranks) ordered =
+    (all_dropped (IsBefore rank) n ranks (before_all rank ranks ordered.0 ordered.1), taken_before n ranks ordered.1)
 
 pub has_first_ten : (ranks : List Rank) → HasFirstTen ranks (first_ranks ranks)
 has_first_ten ranks =

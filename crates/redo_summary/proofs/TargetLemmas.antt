@@ -11,27 +11,34 @@ use Rattle.redo_summary.specs.Targets.{no_times, target_of, targets_from, target
 abbrev pub no_target : Target
 no_target = record { position = 0; parent = None; failed = false; times = no_times }
 
-targets-last : (times : List Times) (position : ℕ) (nodes : List Node) (node : Node) → targets_from times position (nodes ++ node ∷ []) ≡ targets_from times position nodes ++ target_of times (position + length nodes) node ∷ []
+targets-last : (times : List Times) (position : ℕ) (nodes : List Node) (node : Node)
+    → targets_from times position (nodes ++ node ∷ [])
+    ≡ targets_from times position nodes ++ target_of times (position + length nodes) node ∷ []
 targets-last times position [] node = ap (λ (n : ℕ). target_of times n node ∷ []) (omega arith)
 targets-last times position (first ∷ nodes) node =
     ap (λ targets. target_of times position first ∷ targets)
-    (targets-last times (position + 1) nodes node ∙ ap (λ (n : ℕ). targets_from times (position + 1) nodes ++ target_of times n node ∷ []) (omega arith))
+    (targets-last times (position + 1) nodes node
+    ∙ ap (λ (n : ℕ). targets_from times (position + 1) nodes ++ target_of times n node ∷ []) (omega arith))
 
-pub targets_more : (times : List Times) (nodes : List Node) (i : ℕ) (d : Node) → i < length nodes → targets_of (take i nodes) times ++ target_of times i (get_or nodes i d) ∷ [] ≡ targets_of (take (i + 1) nodes) times
+pub targets_more : (times : List Times) (nodes : List Node) (i : ℕ) (d : Node) → i < length nodes
+    → targets_of (take i nodes) times ++ target_of times i (get_or nodes i d) ∷ [] ≡ targets_of (take (i + 1) nodes) times
 targets_more times nodes i d below =
     let node = get_or nodes i d in
     sym
     (ap (targets_from times 0) (take_more nodes i d below) ∙ targets-last times 0 (take i nodes) node
-    ∙ ap (λ (n : ℕ). targets_from times 0 (take i nodes) ++ target_of times n node ∷ []) (let all = length-take-le i nodes (omega (arith, below)) in omega (arith, all)))
+    ∙ ap (λ (n : ℕ). targets_from times 0 (take i nodes) ++ target_of times n node ∷ [])
+    (let all = length-take-le i nodes (omega (arith, below)) in omega (arith, all)))
 
 pub length-targets : (times : List Times) (position : ℕ) (nodes : List Node) → length (targets_from times position nodes) ≡ length nodes
 length-targets times position [] = refl
 length-targets times position (node ∷ nodes) = ap suc (length-targets times (position + 1) nodes)
 
-positioned_from : (times : List Times) (position : ℕ) (nodes : List Node) (k : ℕ) (d : Target) → k < length (targets_from times position nodes) → (get_or (targets_from times position nodes) k d).position ≡ position + k
+positioned_from : (times : List Times) (position : ℕ) (nodes : List Node) (k : ℕ) (d : Target)
+    → k < length (targets_from times position nodes) → (get_or (targets_from times position nodes) k d).position ≡ position + k
 positioned_from times position [] k d below = absurd (omega (arith, below))
 positioned_from times position (node ∷ nodes) zero d below = omega arith
-positioned_from times position (node ∷ nodes) (suc k) d below = let more = positioned_from times (position + 1) nodes k d (omega (arith, below)) in omega (arith, more)
+positioned_from times position (node ∷ nodes) (suc k) d below = let more =
+    positioned_from times (position + 1) nodes k d (omega (arith, below)) in omega (arith, more)
 
 pub positioned : (nodes : List Node) (times : List Times) → ArePositioned (targets_of nodes times)
 positioned nodes times k d below = let is = positioned_from times 0 nodes k d below in omega (arith, is)

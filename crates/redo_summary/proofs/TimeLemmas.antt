@@ -9,7 +9,8 @@ use Rattle.redo_summary.specs.Window.{known_times}
 
 -- ---- the first
 
-earlier_first : (time : ℕ) (first other : Option ℕ) → Some (earlier time (first_of first other)) ≡ first_of (Some (earlier time first)) other
+earlier_first : (time : ℕ) (first other : Option ℕ)
+    → Some (earlier time (first_of first other)) ≡ first_of (Some (earlier time first)) other
 earlier_first time None None = refl
 earlier_first time None (Some c) = refl
 earlier_first time (Some b) None = refl
@@ -53,24 +54,30 @@ append-assoc : (xs ys zs : List ℕ) → (xs ++ ys) ++ zs ≡ xs ++ (ys ++ zs)
 append-assoc [] ys zs = refl
 append-assoc (x ∷ xs) ys zs = ap (λ ws. x ∷ ws) (append-assoc xs ys zs)
 
-known_last : (targets : List Target) (target : Target) → known_times (targets ++ target ∷ []) ≡ known_times targets ++ (option_to_list target.times.began ++ option_to_list target.times.ended)
+known_last : (targets : List Target) (target : Target)
+    → known_times (targets ++ target ∷ []) ≡ known_times targets ++ (option_to_list target.times.began ++ option_to_list target.times.ended)
 known_last [] target = append-nil (option_to_list target.times.began ++ option_to_list target.times.ended)
 known_last (t ∷ ts) target =
     ap (λ times. (option_to_list t.times.began ++ option_to_list t.times.ended) ++ times) (known_last ts target)
-    ∙ sym (append-assoc (option_to_list t.times.began ++ option_to_list t.times.ended) (known_times ts) (option_to_list target.times.began ++ option_to_list target.times.ended))
+    ∙ sym (append-assoc (option_to_list t.times.began ++ option_to_list t.times.ended) (known_times ts)
+    (option_to_list target.times.began ++ option_to_list target.times.ended))
 
 pub first_more : (targets : List Target) (i : ℕ) (d : Target) → i < length targets →
-    first_of (first_time (known_times (take i targets))) (first_of (get_or targets i d).times.began (get_or targets i d).times.ended) ≡ first_time (known_times (take (i + 1) targets))
+    first_of (first_time (known_times (take i targets))) (first_of (get_or targets i d).times.began (get_or targets i d).times.ended)
+    ≡ first_time (known_times (take (i + 1) targets))
 first_more targets i d below =
     let target = get_or targets i d in
     sym
-    (ap (λ ts. first_time (known_times ts)) (take_more targets i d below) ∙ ap first_time (known_last (take i targets) target) ∙ first-append (known_times (take i targets)) _
+    (ap (λ ts. first_time (known_times ts)) (take_more targets i d below) ∙ ap first_time (known_last (take i targets) target)
+    ∙ first-append (known_times (take i targets)) _
     ∙ ap (first_of (first_time (known_times (take i targets)))) (first_of_two target.times.began target.times.ended))
 
 pub last_more : (targets : List Target) (i : ℕ) (d : Target) → i < length targets →
-    last_of (last_time (known_times (take i targets))) (last_of (get_or targets i d).times.began (get_or targets i d).times.ended) ≡ last_time (known_times (take (i + 1) targets))
+    last_of (last_time (known_times (take i targets))) (last_of (get_or targets i d).times.began (get_or targets i d).times.ended)
+    ≡ last_time (known_times (take (i + 1) targets))
 last_more targets i d below =
     let target = get_or targets i d in
     sym
-    (ap (λ ts. last_time (known_times ts)) (take_more targets i d below) ∙ ap last_time (known_last (take i targets) target) ∙ last-append (known_times (take i targets)) _
+    (ap (λ ts. last_time (known_times ts)) (take_more targets i d below) ∙ ap last_time (known_last (take i targets) target)
+    ∙ last-append (known_times (take i targets)) _
     ∙ ap (last_of (last_time (known_times (take i targets)))) (last_of_two target.times.began target.times.ended))

@@ -46,15 +46,37 @@ done_in_b = log (codes "b") (with_line_feed (is_done (codes "1700000021")))
 
 begun_at_1 : IsReported 1000 begun Began a 1700000001000
 unfolding split_lines ended record_fields fields_of status_of split_once after_prefix normal reduce_suffix number time_value entry_of record_entry report_of
-begun_at_1 = record { log = log (codes "all") (with_line_feed (begins (codes "1700000003")) ++ with_line_feed (begins (codes "1700000001"))); is_log = (0, omega arith, refl); line = begins (codes "1700000001"); is_line = (1, omega arith, refl); says = refl; at = refl }
+begun_at_1 = record {
+  log = log (codes "all")
+      (with_line_feed (begins (codes "1700000003")) ++ with_line_feed (begins (codes "1700000001")));
+  is_log = (0, omega arith, refl);
+  line = begins (codes "1700000001");
+  is_line = (1, omega arith, refl);
+  says = refl;
+  at = refl;
+}
 
 closed_at_12 : IsReported 1000 closed EndedInOwnLog a 1700000012000
 unfolding split_lines ended record_fields fields_of status_of split_once after_prefix normal reduce_suffix number time_value entry_of record_entry report_of
-closed_at_12 = record { log = log a (with_line_feed (is_done (codes "1700000012")) ++ with_line_feed (is_done (codes "1700000011"))); is_log = (0, omega arith, refl); line = is_done (codes "1700000012"); is_line = (0, omega arith, refl); says = refl; at = refl }
+closed_at_12 = record {
+  log = log a (with_line_feed (is_done (codes "1700000012")) ++ with_line_feed (is_done (codes "1700000011")));
+  is_log = (0, omega arith, refl);
+  line = is_done (codes "1700000012");
+  is_line = (0, omega arith, refl);
+  says = refl;
+  at = refl;
+}
 
 done_at_20 : IsReported 1000 (done_in_all ∷ []) EndedInOtherLog a 1700000020000
 unfolding split_lines ended record_fields fields_of status_of split_once after_prefix normal reduce_suffix number time_value entry_of record_entry report_of
-done_at_20 = record { log = done_in_all; is_log = (0, omega arith, refl); line = is_done (codes "1700000020"); is_line = (0, omega arith, refl); says = refl; at = refl }
+done_at_20 = record {
+  log = done_in_all;
+  is_log = (0, omega arith, refl);
+  line = is_done (codes "1700000020");
+  is_line = (0, omega arith, refl);
+  says = refl;
+  at = refl;
+}
 
 swapped : IsPermutation (done_in_all ∷ done_in_b ∷ []) (done_in_b ∷ done_in_all ∷ [])
 swapped = record { moves = (0, 1) ∷ []; below = (omega arith, omega arith, tt); is = refl }
@@ -118,13 +140,15 @@ same_time : (time other : ℕ) → Some time ≡ Some other → time ≡ other
 same_time time other same = cc
 
 -- What a log with one line says.
-says_line : (logs : List TimedLog) (log : TimedLog) (line : List ℕ) (stage : Stage) (target : List ℕ) (time : ℕ) → ended (take 1000 log.bytes) ≡ line ∷ []
+says_line : (logs : List TimedLog) (log : TimedLog) (line : List ℕ) (stage : Stage) (target : List ℕ) (time : ℕ)
+    → ended (take 1000 log.bytes) ≡ line ∷ []
     → (report : IsReported 1000 logs stage target time) → log ≡ report.log
     → (option_and_then (stage_of log.target) (entry_of log.target line true) ≡ said stage target) × (line_time line ≡ Some time)
 says_line logs log line stage target time one report log_is =
     let lines = subst (λ (l : TimedLog). Contains (ended (take 1000 l.bytes)) report.line) (sym log_is) report.is_line in
     let line_is = only line report.line (subst (λ (ls : List (List ℕ)). Contains ls report.line) one lines) in
-    let says = subst (λ (l : TimedLog). option_and_then (stage_of l.target) (entry_of l.target report.line true) ≡ Some (stage, target)) (sym log_is) report.says in (
+    let says = subst (λ (l : TimedLog). option_and_then (stage_of l.target) (entry_of l.target report.line true) ≡ Some (stage, target))
+    (sym log_is) report.says in (
       subst (λ (l : List ℕ). option_and_then (stage_of log.target) (entry_of log.target l true) ≡ Some (stage, target)) (sym line_is) says,
       subst (λ (l : List ℕ). line_time l ≡ Some time) (sym line_is) report.at,
     )
@@ -133,17 +157,23 @@ reported_in_all : (stage : Stage) (target : List ℕ) (time : ℕ) → IsReporte
     → (said EndedInOtherLog a ≡ said stage target) × (Some 1700000020000 ≡ Some time)
 unfolding split_lines ended record_fields fields_of status_of split_once after_prefix normal reduce_suffix number time_value entry_of record_entry report_of
 reported_in_all stage target time report =
-    says_line (done_in_all ∷ []) done_in_all (is_done (codes "1700000020")) stage target time refl report (only done_in_all report.log report.is_log)
+    says_line (done_in_all ∷ []) done_in_all (is_done (codes "1700000020")) stage target time refl report
+    (only done_in_all report.log report.is_log)
 
 -- Another stage, another target, another time.
 not_reported :
-    ¬ IsReported 1000 (done_in_all ∷ []) EndedInOwnLog a 1700000020000 × ¬ IsReported 1000 (done_in_all ∷ []) EndedInOtherLog (codes "b") 1700000020000
+    ¬ IsReported 1000 (done_in_all ∷ []) EndedInOwnLog a 1700000020000
+    × ¬ IsReported 1000 (done_in_all ∷ []) EndedInOtherLog (codes "b") 1700000020000
     × ¬ IsReported 1000 (done_in_all ∷ []) EndedInOtherLog a 1700000021000
 unfolding split_lines ended record_fields fields_of status_of split_once after_prefix normal reduce_suffix number time_value entry_of record_entry report_of
 not_reported = (
-  λ report. let stages = same_stage EndedInOtherLog EndedInOwnLog a a (reported_in_all EndedInOwnLog a 1700000020000 report).0 in absurd (cc),
-  λ report. let names = same_target EndedInOtherLog EndedInOtherLog a (codes "b") (reported_in_all EndedInOtherLog (codes "b") 1700000020000 report).0 in let letters : ◌≡◌ {A = ℕ} 97 98 = cc in omega (arith, letters),
-  λ report. let times = same_time 1700000020000 1700000021000 (reported_in_all EndedInOtherLog a 1700000021000 report).1 in omega (arith, times),
+  λ report. let stages = same_stage EndedInOtherLog EndedInOwnLog a a (reported_in_all EndedInOwnLog a 1700000020000 report).0 in
+      absurd (cc),
+  λ report. let names = same_target EndedInOtherLog EndedInOtherLog a (codes "b")
+      (reported_in_all EndedInOtherLog (codes "b") 1700000020000 report).0 in let letters : ◌≡◌ {A = ℕ} 97 98 = cc in
+      omega (arith, letters),
+  λ report. let times = same_time 1700000020000 1700000021000 (reported_in_all EndedInOtherLog a 1700000021000 report).1 in
+      omega (arith, times),
 )
 
 -- A record that is in none of these logs.
@@ -156,7 +186,8 @@ not_within : ¬ IsReported 30 (done_in_all ∷ []) EndedInOtherLog a 17000000200
 unfolding split_lines ended record_fields fields_of status_of split_once after_prefix normal reduce_suffix number time_value entry_of record_entry report_of
 not_within = λ report.
     let log_is = only done_in_all report.log report.is_log in
-    let lines : Contains [] report.line = subst (λ (l : TimedLog). Contains (ended (take 30 l.bytes)) report.line) (sym log_is) report.is_line in
+    let lines : Contains [] report.line =
+    subst (λ (l : TimedLog). Contains (ended (take 30 l.bytes)) report.line) (sym log_is) report.is_line in
     let below = lines.1 in omega (arith, below)
 
 -- ---- when a target ended
@@ -170,21 +201,38 @@ both = done_in_all ∷ closed_at_30 ∷ []
 
 own_at_30 : IsReported 1000 both EndedInOwnLog a 1700000030000
 unfolding split_lines ended record_fields fields_of status_of split_once after_prefix normal reduce_suffix number time_value entry_of record_entry report_of
-own_at_30 = record { log = closed_at_30; is_log = (1, omega arith, refl); line = is_done (codes "1700000030"); is_line = (0, omega arith, refl); says = refl; at = refl }
+own_at_30 = record {
+  log = closed_at_30;
+  is_log = (1, omega arith, refl);
+  line = is_done (codes "1700000030");
+  is_line = (0, omega arith, refl);
+  says = refl;
+  at = refl;
+}
 
 other_at_20 : IsReported 1000 both EndedInOtherLog a 1700000020000
 unfolding split_lines ended record_fields fields_of status_of split_once after_prefix normal reduce_suffix number time_value entry_of record_entry report_of
-other_at_20 = record { log = done_in_all; is_log = (0, omega arith, refl); line = is_done (codes "1700000020"); is_line = (0, omega arith, refl); says = refl; at = refl }
+other_at_20 = record {
+  log = done_in_all;
+  is_log = (0, omega arith, refl);
+  line = is_done (codes "1700000020");
+  is_line = (0, omega arith, refl);
+  says = refl;
+  at = refl;
+}
 
-reported_in_both : (stage : Stage) (time : ℕ) → IsReported 1000 both stage a time → ((stage ≡ EndedInOtherLog) × (time ≡ 1700000020000)) ⊎ ((stage ≡ EndedInOwnLog) × (time ≡ 1700000030000))
+reported_in_both : (stage : Stage) (time : ℕ) → IsReported 1000 both stage a time
+    → ((stage ≡ EndedInOtherLog) × (time ≡ 1700000020000)) ⊎ ((stage ≡ EndedInOwnLog) × (time ≡ 1700000030000))
 unfolding split_lines ended record_fields fields_of status_of split_once after_prefix normal reduce_suffix number time_value entry_of record_entry report_of
 reported_in_both stage time report =
     elim (one_of_two done_in_all closed_at_30 report.log report.is_log) [
       | inl first ↦
-          let facts : (said EndedInOtherLog a ≡ said stage a) × (Some 1700000020000 ≡ Some time) = says_line both done_in_all (is_done (codes "1700000020")) stage a time refl report first in
+          let facts : (said EndedInOtherLog a ≡ said stage a) × (Some 1700000020000 ≡ Some time) =
+          says_line both done_in_all (is_done (codes "1700000020")) stage a time refl report first in
           inl (sym (same_stage EndedInOtherLog stage a a facts.0), sym (same_time 1700000020000 time facts.1))
       | inr second ↦
-          let facts : (said EndedInOwnLog a ≡ said stage a) × (Some 1700000030000 ≡ Some time) = says_line both closed_at_30 (is_done (codes "1700000030")) stage a time refl report second in
+          let facts : (said EndedInOwnLog a ≡ said stage a) × (Some 1700000030000 ≡ Some time) =
+          says_line both closed_at_30 (is_done (codes "1700000030")) stage a time refl report second in
           inr (sym (same_stage EndedInOwnLog stage a a facts.0), sym (same_time 1700000030000 time facts.1))
     ]
 
@@ -192,19 +240,35 @@ reported_in_both stage time report =
 is_end : IsEnd 1000 both a 1700000030000
 is_end = inl (record {
   is = own_at_30;
-  none_later = λ time report. elim (reported_in_both EndedInOwnLog time report) [ inl other ↦ let stages = other.0 in absurd (cc) | inr own ↦ let same = own.1 in omega (arith, same) ];
+  none_later = λ time report. elim (reported_in_both EndedInOwnLog time report)
+      [ inl other ↦ let stages = other.0 in absurd (cc) | inr own ↦ let same = own.1 in omega (arith, same) ];
 })
 
 not_end : ¬ IsEnd 1000 both a 1700000020000
-not_end = λ end. elim end [ inl last ↦ (let high = last.none_later 1700000030000 own_at_30 in omega (arith, high)) | inr other ↦ other.0 1700000030000 own_at_30 ]
+not_end = λ end. elim end [
+  | inl last ↦
+      (let high = last.none_later 1700000030000 own_at_30 in omega (arith, high))
+  | inr other ↦ other.0 1700000030000 own_at_30
+]
 
 closed_at_11 : IsReported 1000 closed EndedInOwnLog a 1700000011000
 unfolding split_lines ended record_fields fields_of status_of split_once after_prefix normal reduce_suffix number time_value entry_of record_entry report_of
-closed_at_11 = record { log = log a (with_line_feed (is_done (codes "1700000012")) ++ with_line_feed (is_done (codes "1700000011"))); is_log = (0, omega arith, refl); line = is_done (codes "1700000011"); is_line = (1, omega arith, refl); says = refl; at = refl }
+closed_at_11 = record {
+  log = log a (with_line_feed (is_done (codes "1700000012")) ++ with_line_feed (is_done (codes "1700000011")));
+  is_log = (0, omega arith, refl);
+  line = is_done (codes "1700000011");
+  is_line = (1, omega arith, refl);
+  says = refl;
+  at = refl;
+}
 
 -- Its last record has an earlier time than the first one.
 not_latest : ¬ IsEnd 1000 closed a 1700000011000
-not_latest = λ end. elim end [ inl last ↦ (let high = last.none_later 1700000012000 closed_at_12 in omega (arith, high)) | inr other ↦ other.0 1700000012000 closed_at_12 ]
+not_latest = λ end. elim end [
+  | inl last ↦
+      (let high = last.none_later 1700000012000 closed_at_12 in omega (arith, high))
+  | inr other ↦ other.0 1700000012000 closed_at_12
+]
 
 -- ---- beginnings after the end
 
@@ -213,12 +277,21 @@ begun_once = log (codes "all") (with_line_feed (begins (codes "1700000001")))
 
 begun_once_at_1 : IsReported 1000 (begun_once ∷ []) Began a 1700000001000
 unfolding split_lines ended record_fields fields_of status_of split_once after_prefix normal reduce_suffix number time_value entry_of record_entry report_of
-begun_once_at_1 = record { log = begun_once; is_log = (0, omega arith, refl); line = begins (codes "1700000001"); is_line = (0, omega arith, refl); says = refl; at = refl }
+begun_once_at_1 = record {
+  log = begun_once;
+  is_log = (0, omega arith, refl);
+  line = begins (codes "1700000001");
+  is_line = (0, omega arith, refl);
+  says = refl;
+  at = refl;
+}
 
 only_at_1 : (time : ℕ) → IsReported 1000 (begun_once ∷ []) Began a time → time ≡ 1700000001000
 unfolding split_lines ended record_fields fields_of status_of split_once after_prefix normal reduce_suffix number time_value entry_of record_entry report_of
 only_at_1 time report =
-    let facts : (said Began a ≡ said Began a) × (Some 1700000001000 ≡ Some time) = says_line (begun_once ∷ []) begun_once (begins (codes "1700000001")) Began a time refl report (only begun_once report.log report.is_log) in
+    let facts : (said Began a ≡ said Began a) × (Some 1700000001000 ≡ Some time) =
+    says_line (begun_once ∷ []) begun_once (begins (codes "1700000001")) Began a time refl report
+    (only begun_once report.log report.is_log) in
     sym (same_time 1700000001000 time facts.1)
 
 begins_after : BeginsAfter 1000 (begun_once ∷ []) a (Some 1700000000999)
@@ -227,6 +300,7 @@ begins_after = (1700000000999, refl, λ time report. let same = only_at_1 time r
 -- A beginning at the end is not after it. Nothing is after an end that is unknown.
 not_begins_after : ¬ BeginsAfter 1000 (begun_once ∷ []) a (Some 1700000001000) × ¬ BeginsAfter 1000 [] a None
 not_begins_after = (
-  λ after. let same : 1700000001000 ≡ after.0 = (let is = after.1 in cc) in let late = after.2 1700000001000 begun_once_at_1 in omega (arith, same, late),
+  λ after. let same : 1700000001000 ≡ after.0 = (let is = after.1 in cc) in let late = after.2 1700000001000 begun_once_at_1 in
+      omega (arith, same, late),
   λ after. let none = after.1 in absurd (cc),
 )

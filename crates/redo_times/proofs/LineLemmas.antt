@@ -17,14 +17,18 @@ reports-append log lines more = filter_map-append (report_of log) lines more
 module _ (targets : List (List ℕ)) (log : List ℕ) (reports : List Report) where
   -- No bytes end no line.
   pub none_after : (tallies : List Tally) → AreTallies targets reports tallies → AreTalliesAfter targets log reports [] tallies
-  none_after tallies are = subst (λ (lines : List (List ℕ)). AreTallies targets (reports ++ reports_in log lines) tallies) (sym (ended-free [] tt)) (subst (λ (rs : List Report). AreTallies targets rs tallies) (sym (append-nil reports)) are)
+  none_after tallies are = subst (λ (lines : List (List ℕ)). AreTallies targets (reports ++ reports_in log lines) tallies)
+      (sym (ended-free [] tt)) (subst (λ (rs : List Report). AreTallies targets rs tallies) (sym (append-nil reports)) are)
 
   -- Further bytes that end these lines.
   module _ (taken bytes : List ℕ) (lines : List (List ℕ)) (cut : ended (taken ++ bytes) ≡ ended taken ++ lines) where
     pub grown : (reports ++ reports_in log (ended taken)) ++ reports_in log lines ≡ reports ++ reports_in log (ended (taken ++ bytes))
-    grown = append_assoc reports (reports_in log (ended taken)) (reports_in log lines) ∙ ap (λ rs. reports ++ rs) (sym (ap (reports_in log) cut ∙ reports-append log (ended taken) lines))
+    grown = append_assoc reports (reports_in log (ended taken)) (reports_in log lines)
+        ∙ ap (λ rs. reports ++ rs) (sym (ap (reports_in log) cut ∙ reports-append log (ended taken) lines))
 
-    pub after_lines : (tallies : List Tally) → AreTallies targets ((reports ++ reports_in log (ended taken)) ++ reports_in log lines) tallies → AreTalliesAfter targets log reports (taken ++ bytes) tallies
+    pub after_lines : (tallies : List Tally)
+        → AreTallies targets ((reports ++ reports_in log (ended taken)) ++ reports_in log lines) tallies
+        → AreTalliesAfter targets log reports (taken ++ bytes) tallies
     after_lines tallies are = subst (λ (rs : List Report). AreTallies targets rs tallies) grown are
 
 -- ---- the lines of some bytes, one after the other
@@ -36,7 +40,8 @@ left_is bytes upto = take_all (length bytes - upto) (drop upto bytes) (omega (ar
 module _ (bytes hay : List ℕ) (upto : ℕ) (hay_is : hay ≡ drop upto bytes) (no_rest : rest (take upto bytes) ≡ []) where
   -- One more line ends, with a line feed at `at`.
   module _ (at : ℕ) (found : NoneBefore (Passes (is_byte line_feed) hay) 0 (length hay) at × Passes (is_byte line_feed) hay at) where
-    cut_there : (ended (take upto bytes ++ take (at + 1) hay) ≡ ended (take upto bytes) ++ take at hay ∷ []) × (rest (take upto bytes ++ take (at + 1) hay) ≡ [])
+    cut_there : (ended (take upto bytes ++ take (at + 1) hay) ≡ ended (take upto bytes) ++ take at hay ∷ [])
+        × (rest (take upto bytes ++ take (at + 1) hay) ≡ [])
     cut_there = line_in [] (take at hay) hay at found refl (take upto bytes) no_rest
 
     joined : take upto bytes ++ take (at + 1) hay ≡ take (upto + (at + 1)) bytes
@@ -45,11 +50,14 @@ module _ (bytes hay : List ℕ) (upto : ℕ) (hay_is : hay ≡ drop upto bytes) 
     pub next_rest : rest (take (upto + (at + 1)) bytes) ≡ []
     next_rest = ap rest (sym joined) ∙ cut_there.1
 
-    pub next_lines : (targets : List (List ℕ)) (log : List ℕ) (reports : List Report) (tallies : List Tally) (line : List ℕ) → line ≡ take at hay
-        → AreTallies targets ((reports ++ reports_in log (ended (take upto bytes))) ++ reports_in log (line ∷ [])) tallies → AreTalliesAfter targets log reports (take (upto + (at + 1)) bytes) tallies
+    pub next_lines : (targets : List (List ℕ)) (log : List ℕ) (reports : List Report) (tallies : List Tally) (line : List ℕ)
+        → line ≡ take at hay
+        → AreTallies targets ((reports ++ reports_in log (ended (take upto bytes))) ++ reports_in log (line ∷ [])) tallies
+        → AreTalliesAfter targets log reports (take (upto + (at + 1)) bytes) tallies
     next_lines targets log reports tallies line line_is are =
         subst (λ (bs : List ℕ). AreTalliesAfter targets log reports bs tallies) joined
-        (after_lines targets log reports (take upto bytes) (take (at + 1) hay) (line ∷ []) (cut_there.0 ∙ ap (λ (l : List ℕ). ended (take upto bytes) ++ l ∷ []) (sym line_is)) tallies are)
+        (after_lines targets log reports (take upto bytes) (take (at + 1) hay) (line ∷ [])
+        (cut_there.0 ∙ ap (λ (l : List ℕ). ended (take upto bytes) ++ l ∷ []) (sym line_is)) tallies are)
 
   -- No further line ends.
   module _ (nowhere : Nowhere (Passes (is_byte line_feed) hay) 0 (length hay)) where
@@ -62,9 +70,11 @@ module _ (bytes hay : List ℕ) (upto : ℕ) (hay_is : hay ≡ drop upto bytes) 
     pub last_rest : drop upto bytes ≡ rest bytes
     last_rest = sym hay_is ∙ sym cut_last.1 ∙ ap rest all_joined
 
-    pub all_lines_after : (targets : List (List ℕ)) (log : List ℕ) (reports : List Report) (tallies : List Tally) → AreTalliesAfter targets log reports (take upto bytes) tallies → AreTalliesAfter targets log reports bytes tallies
+    pub all_lines_after : (targets : List (List ℕ)) (log : List ℕ) (reports : List Report) (tallies : List Tally)
+        → AreTalliesAfter targets log reports (take upto bytes) tallies → AreTalliesAfter targets log reports bytes tallies
     all_lines_after targets log reports tallies are =
-        subst (λ (lines : List (List ℕ)). AreTallies targets (reports ++ reports_in log lines) tallies) (sym (append-nil (ended (take upto bytes))) ∙ sym cut_last.0 ∙ ap ended all_joined) are
+        subst (λ (lines : List (List ℕ)). AreTallies targets (reports ++ reports_in log lines) tallies)
+        (sym (append-nil (ended (take upto bytes))) ∙ sym cut_last.0 ∙ ap ended all_joined) are
 
 -- ---- the lines of a chunk, of which the first one began before it
 
@@ -74,7 +84,8 @@ module _ (taken partial chunk : List ℕ) (kept : partial ≡ rest taken) where
     pub partial_within : (after : List ℕ) → after ≡ partial ++ chunk → after ≡ rest (taken ++ chunk)
     partial_within after after_is = sym (none_in partial after chunk nowhere after_is taken (sym kept)).1
 
-    pub tallies_within : (targets : List (List ℕ)) (log : List ℕ) (reports : List Report) (tallies : List Tally) → AreTalliesAfter targets log reports taken tallies → AreTalliesAfter targets log reports (taken ++ chunk) tallies
+    pub tallies_within : (targets : List (List ℕ)) (log : List ℕ) (reports : List Report) (tallies : List Tally)
+        → AreTalliesAfter targets log reports taken tallies → AreTalliesAfter targets log reports (taken ++ chunk) tallies
     tallies_within targets log reports tallies are =
         subst (λ (lines : List (List ℕ)). AreTallies targets (reports ++ reports_in log lines) tallies)
         (sym (append-nil (ended taken)) ∙ sym (none_in partial (partial ++ chunk) chunk nowhere refl taken (sym kept)).0) are
@@ -89,19 +100,25 @@ module _ (taken partial chunk : List ℕ) (kept : partial ≡ rest taken) where
     cut_head = line_in partial line chunk at found line_is taken (sym kept)
 
     whole : head ++ others ≡ taken ++ chunk
-    whole = append_assoc taken (take (at + 1) chunk) others ∙ ap (λ (bs : List ℕ). taken ++ bs) (ap (λ (bs : List ℕ). take (at + 1) chunk ++ bs) others_are ∙ take-append-drop (at + 1) chunk)
+    whole = append_assoc taken (take (at + 1) chunk) others
+        ∙ ap (λ (bs : List ℕ). taken ++ bs) (ap (λ (bs : List ℕ). take (at + 1) chunk ++ bs) others_are ∙ take-append-drop (at + 1) chunk)
 
     lines_behind : ended (head ++ others) ≡ ended head ++ ended others
     lines_behind = ended-append head others ∙ ap (λ (last : List ℕ). ended head ++ ended (last ++ others)) cut_head.1
 
     pub partial_behind : (after : List ℕ) → after ≡ rest others → after ≡ rest (taken ++ chunk)
-    partial_behind after after_is = after_is ∙ sym (rest-append head others ∙ ap (λ (last : List ℕ). rest (last ++ others)) cut_head.1) ∙ ap rest whole
+    partial_behind after after_is = after_is ∙ sym (rest-append head others ∙ ap (λ (last : List ℕ). rest (last ++ others)) cut_head.1)
+        ∙ ap rest whole
 
-    pub tallies_behind : (targets : List (List ℕ)) (log : List ℕ) (reports : List Report) (before first last : List Tally) → AreTalliesAfter targets log reports taken before
+    pub tallies_behind : (targets : List (List ℕ)) (log : List ℕ) (reports : List Report) (before first last : List Tally)
+        → AreTalliesAfter targets log reports taken before
         → ((more : List Report) → AreTallies targets more before → AreTallies targets (more ++ reports_in log (line ∷ [])) first)
         → ((more : List Report) → AreTallies targets more first → AreTalliesAfter targets log more others last)
         → AreTalliesAfter targets log reports (taken ++ chunk) last
     tallies_behind targets log reports before first last are read_line read_others =
-        let one : AreTalliesAfter targets log reports head first = after_lines targets log reports taken (take (at + 1) chunk) (line ∷ []) cut_head.0 first (read_line (reports ++ reports_in log (ended taken)) are) in
+        let one : AreTalliesAfter targets log reports head first =
+        after_lines targets log reports taken (take (at + 1) chunk) (line ∷ []) cut_head.0 first
+        (read_line (reports ++ reports_in log (ended taken)) are) in
         subst (λ (bs : List ℕ). AreTalliesAfter targets log reports bs last) whole
-        (after_lines targets log reports head others (ended others) lines_behind last (read_others (reports ++ reports_in log (ended head)) one))
+        (after_lines targets log reports head others (ended others) lines_behind last
+        (read_others (reports ++ reports_in log (ended head)) one))

@@ -26,16 +26,22 @@ in_any_case (Some stream ∷ known) P holds = in_any_case known P holds
 module _ (max_bytes : ℕ) (logs : List TimedLog) where
   times-in-range : (target : List ℕ) → AreInRange (times_of max_bytes logs target)
   times-in-range target = (
-    weaker_some (times_of max_bytes logs target).began (IsFirst (IsReported max_bytes logs Began target)) IsInRange (λ time first. line-in-range first.is.line time first.is.at) (beginning-first max_bytes logs target),
+    weaker_some (times_of max_bytes logs target).began (IsFirst (IsReported max_bytes logs Began target)) IsInRange
+        (λ time first. line-in-range first.is.line time first.is.at) (beginning-first max_bytes logs target),
     weaker_some (times_of max_bytes logs target).ended (IsEnd max_bytes logs target) IsInRange
-        (λ time end. elim end [ inl own ↦ line-in-range own.is.line time own.is.at | inr other ↦ line-in-range other.1.is.line time other.1.is.at ]) (end-last max_bytes logs target),
+        (λ time end. elim end [
+          | inl own ↦ line-in-range own.is.line time own.is.at
+          | inr other ↦ line-in-range other.1.is.line time
+              other.1.is.at
+        ]) (end-last max_bytes logs target),
   )
 
   each-in-range : (targets : List (List ℕ)) → AllByRecursion AreInRange (map (times_of max_bytes logs) targets)
   each-in-range [] = tt
   each-in-range (target ∷ targets) = (times-in-range target, each-in-range targets)
 
-pub all-in-range : (max_bytes : ℕ) (targets : List (List ℕ)) (known : List (Option Stream)) (times : List Times) → AreTimesOfReaders max_bytes targets known times → AllByRecursion AreInRange times
+pub all-in-range : (max_bytes : ℕ) (targets : List (List ℕ)) (known : List (Option Stream)) (times : List Times)
+    → AreTimesOfReaders max_bytes targets known times → AllByRecursion AreInRange times
 all-in-range max_bytes targets known times are =
     in_any_case known (AllByRecursion AreInRange times)
     (weaker_all known (λ streams. times ≡ times_of_all max_bytes targets streams) (λ streams. AllByRecursion AreInRange times)

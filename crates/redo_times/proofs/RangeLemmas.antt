@@ -14,8 +14,11 @@ use Rattle.redo_times.proofs.TimeLemmas.{decimals}
 
 digit-at-most : (digits : List ℕ) (i : ℕ) → list_all is_ascii_digit digits ≡ true → get_or digits i 48 ≤ 57
 digit-at-most [] i all = omega arith
-digit-at-most (digit ∷ digits) zero all = leb-true digit 57 (and_parts (nat_le 48 digit) (nat_le digit 57) (and_parts (is_ascii_digit digit) (list_all is_ascii_digit digits) all).0).1
-digit-at-most (digit ∷ digits) (suc i) all = digit-at-most digits i (and_parts (is_ascii_digit digit) (list_all is_ascii_digit digits) all).1
+digit-at-most (digit ∷ digits) zero all =
+    leb-true digit 57 (and_parts (nat_le 48 digit) (nat_le digit 57)
+    (and_parts (is_ascii_digit digit) (list_all is_ascii_digit digits) all).0).1
+digit-at-most (digit ∷ digits) (suc i) all =
+    digit-at-most digits i (and_parts (is_ascii_digit digit) (list_all is_ascii_digit digits) all).1
 
 milliseconds-below : (fraction : List ℕ) → list_all is_ascii_digit fraction ≡ true → milliseconds fraction ≤ 999
 milliseconds-below fraction all =
@@ -25,11 +28,13 @@ milliseconds-below fraction all =
     let value = decimals fraction in
     omega (arith, a, b, c, value)
 
-value-in-range : (seconds fraction : List ℕ) (value : ℕ) → list_all is_ascii_digit fraction ≡ true → value_of_parts (seconds, fraction) ≡ Some value → IsInRange value
+value-in-range : (seconds fraction : List ℕ) (value : ℕ) → list_all is_ascii_digit fraction ≡ true
+    → value_of_parts (seconds, fraction) ≡ Some value → IsInRange value
 value-in-range seconds fraction value all = by (leb min_seconds (number seconds) && leb (number seconds) max_seconds) refl
   where
     by : (counts : Bool) → (leb min_seconds (number seconds) && leb (number seconds) max_seconds) ≡ counts
-        → option_map (λ (s : ℕ). s * 1000 + milliseconds fraction) (if counts then Some (number seconds) else None) ≡ Some value → IsInRange value
+        → option_map (λ (s : ℕ). s * 1000 + milliseconds fraction) (if counts then Some (number seconds) else None) ≡ Some value
+        → IsInRange value
     by false is value_is = absurd (cc)
     by true is value_is =
         let both = and_parts (leb min_seconds (number seconds)) (leb (number seconds) max_seconds) is in
@@ -39,7 +44,8 @@ value-in-range seconds fraction value all = by (leb min_seconds (number seconds)
         let same : number seconds * 1000 + milliseconds fraction ≡ value = cc in
         (omega (arith, low, same), omega (arith, high, below, same))
 
-fraction-digits : (time : List ℕ) (parts : Option (List ℕ × List ℕ)) → is_time_parts time parts ≡ true → list_all is_ascii_digit (seconds_and_fraction time parts).1 ≡ true
+fraction-digits : (time : List ℕ) (parts : Option (List ℕ × List ℕ)) → is_time_parts time parts ≡ true
+    → list_all is_ascii_digit (seconds_and_fraction time parts).1 ≡ true
 fraction-digits time None is = refl
 fraction-digits time (Some parts) is =
     let fraction = (and_parts (are_digits 20 parts.0) (are_digits 9 parts.1) is).1 in
@@ -48,7 +54,8 @@ fraction-digits time (Some parts) is =
 time-in-range : (time : List ℕ) (value : ℕ) → is_time time ≡ true → time_value time ≡ Some value → IsInRange value
 unfolding time_value
 time-in-range time value is value_is =
-    let parts = seconds_and_fraction time (split_once period time) in value-in-range parts.0 parts.1 value (fraction-digits time (split_once period time) is) value_is
+    let parts = seconds_and_fraction time (split_once period time) in
+    value-in-range parts.0 parts.1 value (fraction-digits time (split_once period time) is) value_is
 
 validly-timed : (fields found : Fields) → validated fields ≡ Some found → is_time found.time ≡ true
 validly-timed fields found is =
@@ -68,4 +75,5 @@ timed line fields are =
 
 pub line-in-range : (line : List ℕ) (value : ℕ) → line_time line ≡ Some value → IsInRange value
 line-in-range line value is =
-    option_and_then_some _ (record_fields line) value is (λ fields fields_are value_is. time-in-range fields.time value (timed line fields fields_are) value_is)
+    option_and_then_some _ (record_fields line) value is
+    (λ fields fields_are value_is. time-in-range fields.time value (timed line fields fields_are) value_is)

@@ -24,7 +24,8 @@ all = codes "all"
 
 -- The log of `all`, in which `a` begins and ends, and the log of `a`, which says that it ended before.
 abbrev of_all : List ℕ
-of_all = with_line_feed (codes "@@REDO:do:7:1700000001@@ a") ++ with_line_feed (codes "@@REDO:done:7:1700000006@@ 0 a") ++ with_line_feed (codes "@@REDO:done:7:1700000005@@ 0 all")
+of_all = with_line_feed (codes "@@REDO:do:7:1700000001@@ a") ++ with_line_feed (codes "@@REDO:done:7:1700000006@@ 0 a")
+    ++ with_line_feed (codes "@@REDO:done:7:1700000005@@ 0 all")
 
 abbrev of_a : List ℕ
 of_a = with_line_feed (codes "@@REDO:done:7:1700000004@@ 0 a")

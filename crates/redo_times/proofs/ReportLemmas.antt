@@ -24,21 +24,30 @@ record Known (line kind time text : List ℕ) : Type 0 where
 known : (line kind time text : List ℕ) → option_map timed_parts (record_fields line) ≡ Some (kind, time, text) → Known line kind time text
 known line kind time text is = by (record_fields line) refl is
   where
-    by : (found : Option Fields) → record_fields line ≡ found → option_map timed_parts found ≡ Some (kind, time, text) → Known line kind time text
+    by : (found : Option Fields) → record_fields line ≡ found → option_map timed_parts found ≡ Some (kind, time, text)
+        → Known line kind time text
     by None are is = absurd (cc)
     by (Some fields) are is =
         let same : timed_parts fields ≡ (kind, time, text) = cc in
-        record { fields = fields; are = are; kind_is = ap (λ (p : List ℕ × List ℕ × List ℕ). p.0) same; time_is = ap (λ (p : List ℕ × List ℕ × List ℕ). p.1) same; text_is = ap (λ (p : List ℕ × List ℕ × List ℕ). p.2) same }
+        record {
+          fields = fields;
+          are = are;
+          kind_is = ap (λ (p : List ℕ × List ℕ × List ℕ). p.0) same;
+          time_is = ap (λ (p : List ℕ × List ℕ × List ℕ). p.1) same;
+          text_is = ap (λ (p : List ℕ × List ℕ × List ℕ). p.2) same;
+        }
 
 abbrev entry_with : List ℕ → Fields → Option Entry
 entry_with target fields = entry_of_fields target (kind_of fields.kind) fields.kind (number fields.pid) fields.text
 
 -- The entry of a line, from its fields.
-entry_is : (target line : List ℕ) (fields : Fields) → record_fields line ≡ Some fields → entry_of target line true ≡ entry_of_fields target (kind_of fields.kind) fields.kind (number fields.pid) fields.text
+entry_is : (target line : List ℕ) (fields : Fields) → record_fields line ≡ Some fields
+    → entry_of target line true ≡ entry_of_fields target (kind_of fields.kind) fields.kind (number fields.pid) fields.text
 unfolding entry_of record_entry record_fields
 entry_is target line fields are = by (after_prefix record_prefix line) refl are
   where
-    by : (body : Option (List ℕ)) → after_prefix record_prefix line ≡ body → option_and_then (λ (bytes : List ℕ). fields_of bytes) body ≡ Some fields → entry_of target line true ≡ entry_with target fields
+    by : (body : Option (List ℕ)) → after_prefix record_prefix line ≡ body
+        → option_and_then (λ (bytes : List ℕ). fields_of bytes) body ≡ Some fields → entry_of target line true ≡ entry_with target fields
     by None is are = absurd (cc)
     by (Some bytes) is are = rw is (ap (option_and_then (entry_with target)) are)
 
@@ -59,13 +68,15 @@ module _ (target line : List ℕ) where
     abbrev pub Says : Option (Stage × List ℕ) → Type 0
     Says said = (pid : ℕ) → said ≡ option_and_then (stage_of target) (entry_of_fields target (kind_of kind) kind pid text)
 
-    pub is_report : (value : ℕ) (said : Option (Stage × List ℕ)) → Some value ≡ time_value time → Says said → report_at (Some value) said ≡ report_of target line
+    pub is_report : (value : ℕ) (said : Option (Stage × List ℕ)) → Some value ≡ time_value time → Says said
+        → report_at (Some value) said ≡ report_of target line
     unfolding report_of
     is_report value said value_is says =
         let of = known line kind time text parts in
         let time_of : time_value of.fields.time ≡ Some value = ap time_value of.time_is ∙ sym value_is in
         let entry : entry_of target line true ≡ entry_of_fields target (kind_of kind) kind (number of.fields.pid) text =
-        entry_is target line of.fields of.are ∙ (λ i. entry_of_fields target (kind_of (of.kind_is i)) (of.kind_is i) (number of.fields.pid) (of.text_is i)) in
+        entry_is target line of.fields of.are
+        ∙ (λ i. entry_of_fields target (kind_of (of.kind_is i)) (of.kind_is i) (number of.fields.pid) (of.text_is i)) in
         ap (report_at (Some value)) (says (number of.fields.pid) ∙ ap (option_and_then (stage_of target)) (sym entry))
         ∙ sym (rw (of.are, time_of) refl)
 
@@ -75,5 +86,6 @@ unfolding normal
 no_name target name none = rw none refl
 
 -- The entry of a `done` record.
-pub end_entry : (target kind : List ℕ) (pid : ℕ) (text : List ℕ) → true ≡ bytes_eq kind (codes "done") → entry_of_fields target (kind_of kind) kind pid text ≡ done_entry target pid (split_once space text)
+pub end_entry : (target kind : List ℕ) (pid : ℕ) (text : List ℕ) → true ≡ bytes_eq kind (codes "done")
+    → entry_of_fields target (kind_of kind) kind pid text ≡ done_entry target pid (split_once space text)
 end_entry target kind pid text is = ap (λ (k : List ℕ). entry_of_fields target (kind_of k) kind pid text) (same_text kind (codes "done") is)

@@ -50,11 +50,13 @@ first_or_later x y xs here =
     ]
 
 -- What is among the results comes from an element.
-mapped_from : {X Y : Type 0} (h : X → Option Y) (xs : List X) (y : Y) → Contains (filter_map h xs) y → (x : X) × Contains xs x × (h x ≡ Some y)
+mapped_from : {X Y : Type 0} (h : X → Option Y) (xs : List X) (y : Y) → Contains (filter_map h xs) y
+    → (x : X) × Contains xs x × (h x ≡ Some y)
 mapped_from h [] y here = absurd (nothing y here)
 mapped_from {X} {Y} h (x ∷ xs) y here = by (h x) refl here (mapped_from h xs y)
   where
-    by : (result : Option Y) → h x ≡ result → Contains (cons_option result (filter_map h xs)) y → (Contains (filter_map h xs) y → (z : X) × Contains xs z × (h z ≡ Some y)) → (z : X) × Contains (x ∷ xs) z × (h z ≡ Some y)
+    by : (result : Option Y) → h x ≡ result → Contains (cons_option result (filter_map h xs)) y
+        → (Contains (filter_map h xs) y → (z : X) × Contains xs z × (h z ≡ Some y)) → (z : X) × Contains (x ∷ xs) z × (h z ≡ Some y)
     by None is here behind = let found = behind here in (found.0, tail x found.0 xs found.1, found.2)
     by (Some one) is here behind =
         elim (first_or_later one y (filter_map h xs) here) [
@@ -66,7 +68,8 @@ mapped_to : {X Y : Type 0} (h : X → Option Y) (xs : List X) (x : X) (y : Y) �
 mapped_to h [] x y here is = absurd (nothing x here)
 mapped_to {X} {Y} h (first ∷ xs) x y here is =
     elim (first_or_later first x xs here) [
-      | inl same ↦ subst (λ (result : Option Y). Contains (cons_option result (filter_map h xs)) y) (sym (ap h same ∙ is)) (head y (filter_map h xs))
+      | inl same ↦ subst (λ (result : Option Y). Contains (cons_option result (filter_map h xs)) y) (sym (ap h same ∙ is))
+          (head y (filter_map h xs))
       | inr there ↦ behind (h first) (mapped_to h xs x y there is)
     ]
   where
@@ -74,7 +77,8 @@ mapped_to {X} {Y} h (first ∷ xs) x y here is =
     behind None there = there
     behind (Some one) there = tail one y (filter_map h xs) there
 
-joined_from : {X Y : Type 0} (f : X → List Y) (xs : List X) (y : Y) → Contains (flat_map f xs) y → (x : X) × Contains xs x × Contains (f x) y
+joined_from : {X Y : Type 0} (f : X → List Y) (xs : List X) (y : Y) → Contains (flat_map f xs) y
+    → (x : X) × Contains xs x × Contains (f x) y
 joined_from f [] y here = absurd (nothing y here)
 joined_from f (x ∷ xs) y here =
     elim (Contains-append_cases (f x) (flat_map f xs) y here) [
@@ -108,7 +112,8 @@ own_stage Began = refl
 own_stage EndedInOwnLog = refl
 own_stage EndedInOtherLog = refl
 
-report_parts : (time : Option ℕ) (said : Option (Stage × List ℕ)) (report : Report) → report_at time said ≡ Some report → (time ≡ Some report.time) × (said ≡ Some (report.stage, report.target))
+report_parts : (time : Option ℕ) (said : Option (Stage × List ℕ)) (report : Report) → report_at time said ≡ Some report
+    → (time ≡ Some report.time) × (said ≡ Some (report.stage, report.target))
 report_parts None said report is = absurd (cc)
 report_parts (Some time) None report is = absurd (cc)
 report_parts (Some time) (Some said) report is =
@@ -116,17 +121,20 @@ report_parts (Some time) (Some said) report is =
     (ap (λ (r : Report). Some r.time) same, ap (λ (r : Report). Some (r.stage, r.target)) same)
 
 line_parts : (target line : List ℕ) (report : Report) → report_of target line ≡ Some report
-    → (line_time line ≡ Some report.time) × (option_and_then (stage_of target) (entry_of target line true) ≡ Some (report.stage, report.target))
+    → (line_time line ≡ Some report.time)
+    × (option_and_then (stage_of target) (entry_of target line true) ≡ Some (report.stage, report.target))
 unfolding report_of
 line_parts target line report is = report_parts (line_time line) (option_and_then (stage_of target) (entry_of target line true)) report is
 
-line_report : (log line target : List ℕ) (stage : Stage) (time : ℕ) → line_time line ≡ Some time → option_and_then (stage_of log) (entry_of log line true) ≡ Some (stage, target)
+line_report : (log line target : List ℕ) (stage : Stage) (time : ℕ) → line_time line ≡ Some time
+    → option_and_then (stage_of log) (entry_of log line true) ≡ Some (stage, target)
     → report_of log line ≡ Some (record { stage = stage; target = target; time = time })
 unfolding report_of
 line_report log line target stage time at says = λ i. report_at (at i) (says i)
 
 module _ (stage : Stage) (target : List ℕ) (time : ℕ) where
-  timed : (report : Report) → time_if stage target report ≡ Some time → (report.stage ≡ stage) × (report.target ≡ target) × (report.time ≡ time)
+  timed : (report : Report) → time_if stage target report ≡ Some time
+      → (report.stage ≡ stage) × (report.target ≡ target) × (report.time ≡ time)
   timed report is =
       let passed = cond_some (is_same_stage report.stage stage && bytes_eq report.target target) report.time time is in
       let both = and_parts (is_same_stage report.stage stage) (bytes_eq report.target target) passed.0 in
@@ -158,7 +166,8 @@ module _ (stage : Stage) (target : List ℕ) (time : ℕ) where
         let report : Report = record { stage = stage; target = target; time = time } in
         mapped_to (time_if stage target) (reports_of max_bytes logs) report time
         (joined_to (log_reports max_bytes) logs from.log report from.is_log
-        (mapped_to (report_of from.log.target) (ended (take max_bytes from.log.bytes)) from.line report from.is_line (line_report from.log.target from.line target stage time from.at from.says)))
+        (mapped_to (report_of from.log.target) (ended (take max_bytes from.log.bytes)) from.line report from.is_line
+        (line_report from.log.target from.line target stage time from.at from.says)))
         own_time
 
 -- ---- the first and the last time
@@ -175,12 +184,15 @@ pub first-some : (times : List ℕ) (time : ℕ) → first_time times ≡ Some t
 first-some [] time is = absurd (cc)
 first-some (one ∷ times) time is = by (first_time times) refl is (first-some times)
   where
-    by : (others : Option ℕ) → first_time times ≡ others → Some (earlier one others) ≡ Some time → ((other : ℕ) → first_time times ≡ Some other → IsFirst (Contains times) other) → IsFirst (Contains (one ∷ times)) time
+    by : (others : Option ℕ) → first_time times ≡ others → Some (earlier one others) ≡ Some time
+        → ((other : ℕ) → first_time times ≡ Some other → IsFirst (Contains times) other) → IsFirst (Contains (one ∷ times)) time
     by None none is behind =
         let same : one ≡ time = cc in
         record {
           is = subst (Contains (one ∷ times)) same (head one times);
-          none_earlier = λ other here. elim (first_or_later one other times here) [ inl own ↦ omega (arith, same, own) | inr there ↦ absurd (first-none times none other there) ];
+          none_earlier = λ other here. elim
+              (first_or_later one other times here)
+              [ inl own ↦ omega (arith, same, own) | inr there ↦ absurd (first-none times none other there) ];
         }
     by (Some other) some is behind =
         let same : min one other ≡ time = cc in
@@ -191,19 +203,25 @@ first-some (one ∷ times) time is = by (first_time times) refl is (first-some t
                 | inl own ↦ subst (Contains (one ∷ times)) (sym own ∙ same) (head one times)
                 | inr others ↦ subst (Contains (one ∷ times)) (sym others ∙ same) (tail one other times found.is)
               ];
-          none_earlier = λ next here. elim (first_or_later one next times here) [ inl own ↦ omega (arith, same, own) | inr there ↦ (let bound = found.none_earlier next there in omega (arith, same, bound)) ];
+          none_earlier = λ next here. elim (first_or_later one next times here) [
+            | inl own ↦ omega (arith, same, own)
+            | inr there ↦
+                (let bound = found.none_earlier next there in omega (arith, same, bound))
+          ];
         }
 
 pub last-some : (times : List ℕ) (time : ℕ) → last_time times ≡ Some time → IsLast (Contains times) time
 last-some [] time is = absurd (cc)
 last-some (one ∷ times) time is = by (last_time times) refl is (last-some times)
   where
-    by : (others : Option ℕ) → last_time times ≡ others → Some (later one others) ≡ Some time → ((other : ℕ) → last_time times ≡ Some other → IsLast (Contains times) other) → IsLast (Contains (one ∷ times)) time
+    by : (others : Option ℕ) → last_time times ≡ others → Some (later one others) ≡ Some time
+        → ((other : ℕ) → last_time times ≡ Some other → IsLast (Contains times) other) → IsLast (Contains (one ∷ times)) time
     by None none is behind =
         let same : one ≡ time = cc in
         record {
           is = subst (Contains (one ∷ times)) same (head one times);
-          none_later = λ other here. elim (first_or_later one other times here) [ inl own ↦ omega (arith, same, own) | inr there ↦ absurd (last-none times none other there) ];
+          none_later = λ other here. elim (first_or_later one other times here)
+              [ inl own ↦ omega (arith, same, own) | inr there ↦ absurd (last-none times none other there) ];
         }
     by (Some other) some is behind =
         let same : max one other ≡ time = cc in
@@ -214,5 +232,6 @@ last-some (one ∷ times) time is = by (last_time times) refl is (last-some time
                 | inl own ↦ subst (Contains (one ∷ times)) (sym own ∙ same) (head one times)
                 | inr others ↦ subst (Contains (one ∷ times)) (sym others ∙ same) (tail one other times found.is)
               ];
-          none_later = λ next here. elim (first_or_later one next times here) [ inl own ↦ omega (arith, same, own) | inr there ↦ (let bound = found.none_later next there in omega (arith, same, bound)) ];
+          none_later = λ next here. elim (first_or_later one next times here)
+              [ inl own ↦ omega (arith, same, own) | inr there ↦ (let bound = found.none_later next there in omega (arith, same, bound)) ];
         }

@@ -13,7 +13,8 @@ use Rattle.redo_times.specs.Private.Tally.{AreTallies, AreTalliesAfter, AreTalli
 use Rattle.redo_times.proofs.LineLemmas.{none_after}
 
 -- The bytes that a reader gave so far, of which `left` more count.
-pub record Reading (targets : List (List ℕ)) (log : List ℕ) (max_bytes left : ℕ) (known now : Option Stream) (partial : List ℕ) (first tallies : List Tally) : Type 0 where
+pub record Reading (targets : List (List ℕ)) (log : List ℕ) (max_bytes left : ℕ) (known now : Option Stream) (partial : List ℕ)
+    (first tallies : List Tally) : Type 0 where
   pub taken : List ℕ
   pub size : length taken + left ≡ max_bytes
   pub gave : Gave known taken now
@@ -30,12 +31,14 @@ module _ (targets : List (List ℕ)) (log : List ℕ) (max_bytes : ℕ) (known :
     are = λ reports are. none_after targets log reports first are;
   }
 
-  module _ (left : ℕ) (now : Option Stream) (partial : List ℕ) (tallies : List Tally) (so_far : Reading targets log max_bytes left known now partial first tallies) where
+  module _ (left : ℕ) (now : Option Stream) (partial : List ℕ) (tallies : List Tally)
+      (so_far : Reading targets log max_bytes left known now partial first tallies) where
     -- The bytes that count are the bytes that were taken.
     abbrev AreTaken : Stream → Type 0
     AreTaken stream = take max_bytes stream.bytes ≡ so_far.taken
 
-    by_taken : SomeStream known AreTaken → (reports : List Report) → AreTallies targets reports first → SomeStream known (λ stream. AreTalliesOfStream targets log reports max_bytes stream tallies)
+    by_taken : SomeStream known AreTaken → (reports : List Report) → AreTallies targets reports first
+        → SomeStream known (λ stream. AreTalliesOfStream targets log reports max_bytes stream tallies)
     by_taken taken reports are =
         weaker known AreTaken (λ stream. AreTalliesOfStream targets log reports max_bytes stream tallies)
         (λ stream is. subst (λ (bytes : List ℕ). AreTalliesAfter targets log reports bytes tallies) (sym is) (so_far.are reports are)) taken
@@ -47,15 +50,19 @@ module _ (targets : List (List ℕ)) (log : List ℕ) (max_bytes : ℕ) (known :
     all_of stream is = ap (take max_bytes) is ∙ take_all max_bytes so_far.taken fits_in
 
     -- The stream ended, or a read failed.
-    pub at_end : (after : Option Stream) (buffer : List ℕ) → Pulls now after (Ok 0) buffer → (reports : List Report) → AreTallies targets reports first
+    pub at_end : (after : Option Stream) (buffer : List ℕ) → Pulls now after (Ok 0) buffer → (reports : List Report)
+        → AreTallies targets reports first
         → SomeStream known (λ stream. AreTalliesOfStream targets log reports max_bytes stream tallies)
     at_end after buffer pulls =
-        by_taken (weaker known _ AreTaken (λ stream is. all_of stream is.0) (Gave-end known now after so_far.taken buffer so_far.gave pulls))
+        by_taken (weaker known _ AreTaken (λ stream is. all_of stream is.0)
+        (Gave-end known now after so_far.taken buffer so_far.gave pulls))
 
-    pub at_failure : (after : Option Stream) (buffer : List ℕ) (broken : Broken) → Pulls now after (Err broken) buffer → (reports : List Report) → AreTallies targets reports first
+    pub at_failure : (after : Option Stream) (buffer : List ℕ) (broken : Broken) → Pulls now after (Err broken) buffer
+        → (reports : List Report) → AreTallies targets reports first
         → SomeStream known (λ stream. AreTalliesOfStream targets log reports max_bytes stream tallies)
     at_failure after buffer broken pulls =
-        by_taken (weaker known _ AreTaken (λ stream is. all_of stream is.0) (Gave-failed known now after so_far.taken broken buffer so_far.gave pulls))
+        by_taken (weaker known _ AreTaken (λ stream is. all_of stream is.0)
+        (Gave-failed known now after so_far.taken broken buffer so_far.gave pulls))
 
     -- All bytes that count were read.
     prefix : (known : Option Stream) → Gave known so_far.taken now → left ≡ 0 → SomeStream known AreTaken
@@ -65,5 +72,6 @@ module _ (targets : List (List ℕ)) (log : List ℕ) (max_bytes : ℕ) (known :
         let all : max_bytes ≡ length so_far.taken = omega (arith, size, none) in
         (λ i. take (all i) (gave.2 i)) ∙ take-append_seam so_far.taken gave.0.bytes
 
-    pub at_limit : left ≡ 0 → (reports : List Report) → AreTallies targets reports first → SomeStream known (λ stream. AreTalliesOfStream targets log reports max_bytes stream tallies)
+    pub at_limit : left ≡ 0 → (reports : List Report) → AreTallies targets reports first
+        → SomeStream known (λ stream. AreTalliesOfStream targets log reports max_bytes stream tallies)
     at_limit none = by_taken (prefix known so_far.gave none)

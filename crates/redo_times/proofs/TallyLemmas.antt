@@ -30,11 +30,13 @@ later-swap a b (Some c) = omega arith
 
 first-push : (times : List ℕ) (time : ℕ) → first_time (times ++ time ∷ []) ≡ Some (earlier time (first_time times))
 first-push [] time = refl
-first-push (other ∷ times) time = ap (λ first. Some (earlier other first)) (first-push times time) ∙ ap Some (earlier-swap other time (first_time times))
+first-push (other ∷ times) time = ap (λ first. Some (earlier other first)) (first-push times time)
+    ∙ ap Some (earlier-swap other time (first_time times))
 
 last-push : (times : List ℕ) (time : ℕ) → last_time (times ++ time ∷ []) ≡ Some (later time (last_time times))
 last-push [] time = refl
-last-push (other ∷ times) time = ap (λ last. Some (later other last)) (last-push times time) ∙ ap Some (later-swap other time (last_time times))
+last-push (other ∷ times) time = ap (λ last. Some (later other last)) (last-push times time)
+    ∙ ap Some (later-swap other time (last_time times))
 
 -- ---- one more report
 
@@ -42,10 +44,13 @@ abbrev report : Stage → List ℕ → ℕ → Report
 report stage name time = record { stage = stage; target = name; time = time }
 
 -- A report changes no times of another stage, or of another target.
-kept : (stage : Stage) (target : List ℕ) (reports : List Report) (one : Report) → time_if stage target one ≡ None → times_at stage target (reports ++ one ∷ []) ≡ times_at stage target reports
-kept stage target reports one none = filter_map-append (time_if stage target) reports (one ∷ []) ∙ rw none (append-nil (times_at stage target reports))
+kept : (stage : Stage) (target : List ℕ) (reports : List Report) (one : Report) → time_if stage target one ≡ None
+    → times_at stage target (reports ++ one ∷ []) ≡ times_at stage target reports
+kept stage target reports one none =
+    filter_map-append (time_if stage target) reports (one ∷ []) ∙ rw none (append-nil (times_at stage target reports))
 
-pushed : (stage : Stage) (target : List ℕ) (reports : List Report) (one : Report) (time : ℕ) → time_if stage target one ≡ Some time → times_at stage target (reports ++ one ∷ []) ≡ times_at stage target reports ++ time ∷ []
+pushed : (stage : Stage) (target : List ℕ) (reports : List Report) (one : Report) (time : ℕ) → time_if stage target one ≡ Some time
+    → times_at stage target (reports ++ one ∷ []) ≡ times_at stage target reports ++ time ∷ []
 pushed stage target reports one time some = filter_map-append (time_if stage target) reports (one ∷ []) ∙ rw some refl
 
 module _ (name target : List ℕ) (time : ℕ) (reports : List Report) where
@@ -53,21 +58,25 @@ module _ (name target : List ℕ) (time : ℕ) (reports : List Report) where
   more stage = reports ++ report stage name time ∷ []
 
   -- A report about the target.
-  tally-pushed : bytes_eq name target ≡ true → (stage : Stage) → tally_of (more stage) target ≡ with_time stage time (tally_of reports target)
+  tally-pushed : bytes_eq name target ≡ true → (stage : Stage)
+      → tally_of (more stage) target ≡ with_time stage time (tally_of reports target)
   tally-pushed same Began = λ i. record {
-    began = (ap first_time (pushed Began target reports (report Began name time) time (rw same refl)) ∙ first-push (times_at Began target reports) time) i;
+    began = (ap first_time (pushed Began target reports (report Began name time) time (rw same refl))
+        ∙ first-push (times_at Began target reports) time) i;
     ended_in_own_log = last_time (kept EndedInOwnLog target reports (report Began name time) refl i);
     ended_in_other_log = last_time (kept EndedInOtherLog target reports (report Began name time) refl i);
   }
   tally-pushed same EndedInOwnLog = λ i. record {
     began = first_time (kept Began target reports (report EndedInOwnLog name time) refl i);
-    ended_in_own_log = (ap last_time (pushed EndedInOwnLog target reports (report EndedInOwnLog name time) time (rw same refl)) ∙ last-push (times_at EndedInOwnLog target reports) time) i;
+    ended_in_own_log = (ap last_time (pushed EndedInOwnLog target reports (report EndedInOwnLog name time) time (rw same refl))
+        ∙ last-push (times_at EndedInOwnLog target reports) time) i;
     ended_in_other_log = last_time (kept EndedInOtherLog target reports (report EndedInOwnLog name time) refl i);
   }
   tally-pushed same EndedInOtherLog = λ i. record {
     began = first_time (kept Began target reports (report EndedInOtherLog name time) refl i);
     ended_in_own_log = last_time (kept EndedInOwnLog target reports (report EndedInOtherLog name time) refl i);
-    ended_in_other_log = (ap last_time (pushed EndedInOtherLog target reports (report EndedInOtherLog name time) time (rw same refl)) ∙ last-push (times_at EndedInOtherLog target reports) time) i;
+    ended_in_other_log = (ap last_time (pushed EndedInOtherLog target reports (report EndedInOtherLog name time) time (rw same refl))
+        ∙ last-push (times_at EndedInOtherLog target reports) time) i;
   }
 
   -- A report about another target.
@@ -92,7 +101,8 @@ each_fails : {X : Type 0} (test : X → Bool) (xs : List X) → list_any test xs
 each_fails test [] none = tt
 each_fails test (x ∷ xs) none = by (test x) refl none (each_fails test xs)
   where
-    by : (passes : Bool) → test x ≡ passes → (passes || list_any test xs) ≡ false → (list_any test xs ≡ false → AllByRecursion (λ x. test x ≡ false) xs) → AllByRecursion (λ x. test x ≡ false) (x ∷ xs)
+    by : (passes : Bool) → test x ≡ passes → (passes || list_any test xs) ≡ false
+        → (list_any test xs ≡ false → AllByRecursion (λ x. test x ≡ false) xs) → AllByRecursion (λ x. test x ≡ false) (x ∷ xs)
     by true is none others = absurd (cc)
     by false is none others = (is, others none)
 
@@ -104,38 +114,47 @@ module _ (stage : Stage) (name : List ℕ) (time : ℕ) (reports : List Report) 
   after = tally_of (reports ++ report stage name time ∷ [])
 
   -- No target is this one.
-  others_kept : (targets : List (List ℕ)) → AllByRecursion (λ target. pointwise nat_eq name target ≡ false) targets → map before targets ≡ map after targets
+  others_kept : (targets : List (List ℕ)) → AllByRecursion (λ target. pointwise nat_eq name target ≡ false) targets
+      → map before targets ≡ map after targets
   others_kept [] none = refl
   others_kept (target ∷ targets) none = λ i. sym (tally-kept name target time reports none.0 stage) i ∷ others_kept targets none.1 i
 
   -- The target at this position is this one, and no other is.
-  pub at_place : (targets : List (List ℕ)) (place : ℕ) → place < length targets → pointwise nat_eq name (get_or targets place []) ≡ true → IsDistinct (pointwise nat_eq) targets
+  pub at_place : (targets : List (List ℕ)) (place : ℕ) → place < length targets → pointwise nat_eq name (get_or targets place []) ≡ true
+      → IsDistinct (pointwise nat_eq) targets
       → set (map before targets) place (with_time stage time (before (get_or targets place []))) ≡ map after targets
   unfolding IsDistinct
   at_place [] place below is distinct = absurd (omega (arith, below))
   at_place (target ∷ targets) zero below is distinct =
       let same : name ≡ target = same_text name target (sym is) in
-      λ i. sym (tally-pushed name target time reports is stage) i ∷ others_kept targets (subst (λ (n : List ℕ). AllByRecursion (λ other. pointwise nat_eq n other ≡ false) targets) (sym same) distinct.0) i
+      λ i. sym (tally-pushed name target time reports is stage) i
+      ∷ others_kept targets (subst (λ (n : List ℕ). AllByRecursion (λ other. pointwise nat_eq n other ≡ false) targets)
+      (sym same) distinct.0) i
   at_place (target ∷ targets) (suc place) below is distinct =
       let same : name ≡ get_or targets place [] = same_text name (get_or targets place []) (sym is) in
       let apart : pointwise nat_eq name target ≡ false =
       subst (λ (n : List ℕ). pointwise nat_eq n target ≡ false) (sym same)
-      (sym (nat_list_eq_equiv.symm target (get_or targets place [])) ∙ apart_from_distinct (pointwise nat_eq) (target ∷ targets) 0 (suc place) [] distinct (omega arith) below) in
+      (sym (nat_list_eq_equiv.symm target (get_or targets place []))
+      ∙ apart_from_distinct (pointwise nat_eq) (target ∷ targets) 0 (suc place) [] distinct (omega arith) below) in
       λ i. sym (tally-kept name target time reports apart stage) i ∷ at_place targets place (omega (arith, below)) is distinct.1 i
 
   -- The tallies after the report, if a target was found at this position or none was.
   module _ (targets : List (List ℕ)) (tallies : List Tally) (are : AreTallies targets reports tallies) where
     pub found : (place : ℕ) (empty : Tally) → position (pointwise nat_eq name) targets ≡ Some place → IsDistinct (pointwise nat_eq) targets
-        → AreTallies targets (reports ++ report stage name time ∷ []) (set tallies place (with_time stage time (get_or tallies place empty)))
+        → AreTallies targets (reports ++ report stage name time ∷ [])
+        (set tallies place (with_time stage time (get_or tallies place empty)))
     found place empty is distinct =
         let at = position-Some (pointwise nat_eq name) targets place [] is in
-        let old : get_or tallies place empty ≡ before (get_or targets place []) = ap (λ (ts : List Tally). get_or ts place empty) are ∙ get_or-map before targets place [] empty at.0 in
+        let old : get_or tallies place empty ≡ before (get_or targets place []) =
+        ap (λ (ts : List Tally). get_or ts place empty) are ∙ get_or-map before targets place [] empty at.0 in
         (λ i. set (are i) place (with_time stage time (old i))) ∙ at_place targets place at.0 at.1 distinct
 
     pub missing : position (pointwise nat_eq name) targets ≡ None → AreTallies targets (reports ++ report stage name time ∷ []) tallies
-    missing none = are ∙ others_kept targets (each_fails (pointwise nat_eq name) targets (sym (some_place (pointwise nat_eq name) targets) ∙ ap is_some none))
+    missing none = are ∙ others_kept targets
+        (each_fails (pointwise nat_eq name) targets (sym (some_place (pointwise nat_eq name) targets) ∙ ap is_some none))
 
 -- Tallies of which nothing is known.
-pub all_empty : (empty : Tally) → ((target : List ℕ) → empty ≡ tally_of [] target) → (targets : List (List ℕ)) → AreTallies targets [] (replicate (length targets) empty)
+pub all_empty : (empty : Tally) → ((target : List ℕ) → empty ≡ tally_of [] target) → (targets : List (List ℕ))
+    → AreTallies targets [] (replicate (length targets) empty)
 all_empty empty is [] = refl
 all_empty empty is (target ∷ targets) = λ i. is target i ∷ all_empty empty is targets i

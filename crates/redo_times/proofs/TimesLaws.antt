@@ -28,7 +28,8 @@ kept None ended time is = absurd (cc)
 kept (Some began) None time is = (is, tt)
 kept (Some began) (Some ended) time is = by (leb began ended) refl is
   where
-    by : (order : Bool) → leb began ended ≡ order → (if order then Some began else None) ≡ Some time → (Some began ≡ Some time) × (time ≤ ended)
+    by : (order : Bool) → leb began ended ≡ order → (if order then Some began else None) ≡ Some time
+        → (Some began ≡ Some time) × (time ≤ ended)
     by true order is = (is, (let same : began ≡ time = cc in let bound = leb-true began ended order in omega (arith, same, bound)))
     by false order is = absurd (cc)
 
@@ -83,17 +84,27 @@ module _ (max_bytes : ℕ) (logs : List TimedLog) (target : List ℕ) where
   never-last stage none time from = last-none (at stage) none time (listed stage target time max_bytes logs from)
 
   pub beginning-first : IfSome (times_of max_bytes logs target).began (IsFirst (IsReported max_bytes logs Began target))
-  beginning-first = if_some (before_end (first_time (at Began)) end) (IsFirst (IsReported max_bytes logs Began target)) (λ time is. first-reported Began time (kept (first_time (at Began)) end time is).0)
+  beginning-first = if_some (before_end (first_time (at Began)) end) (IsFirst (IsReported max_bytes logs Began target))
+      (λ time is. first-reported Began time (kept (first_time (at Began)) end time is).0)
 
-  pub beginning-before : IfSome (times_of max_bytes logs target).began (λ began. IfSome (times_of max_bytes logs target).ended (λ ended. began ≤ ended))
-  beginning-before = if_some (before_end (first_time (at Began)) end) (λ began. IfSome end (λ ended. began ≤ ended)) (λ time is. (kept (first_time (at Began)) end time is).1)
+  pub beginning-before : IfSome (times_of max_bytes logs target).began
+      (λ began. IfSome (times_of max_bytes logs target).ended (λ ended. began ≤ ended))
+  beginning-before = if_some (before_end (first_time (at Began)) end) (λ began. IfSome end (λ ended. began ≤ ended))
+      (λ time is. (kept (first_time (at Began)) end time is).1)
 
-  pub beginning-unknown : IfNone (times_of max_bytes logs target).began (Never (IsReported max_bytes logs Began target) ⊎ BeginsAfter max_bytes logs target (times_of max_bytes logs target).ended)
+  pub beginning-unknown : IfNone (times_of max_bytes logs target).began
+      (Never (IsReported max_bytes logs Began target) ⊎ BeginsAfter max_bytes logs target (times_of max_bytes logs target).ended)
   beginning-unknown =
-      if_none (before_end (first_time (at Began)) end) (Never (IsReported max_bytes logs Began target) ⊎ BeginsAfter max_bytes logs target end) (λ is.
+      if_none (before_end (first_time (at Began)) end)
+      (Never (IsReported max_bytes logs Began target) ⊎ BeginsAfter max_bytes logs target end) (λ is.
       elim (lost (first_time (at Began)) end is) [
         | inl none ↦ inl (never-first Began none)
-        | inr (first, ended, first_is, end_is, order) ↦ inr (ended, end_is, (λ time from. let bound = (first-reported Began first first_is).none_earlier time from in omega (arith, order, bound)))
+        | inr (first, ended, first_is, end_is, order) ↦ inr (
+          ended,
+          end_is,
+          (λ time from. let bound = (first-reported Began first first_is).none_earlier time from in
+              omega (arith, order, bound)),
+        )
       ])
 
   pub end-last : IfSome (times_of max_bytes logs target).ended (IsEnd max_bytes logs target)
@@ -105,14 +116,17 @@ module _ (max_bytes : ℕ) (logs : List TimedLog) (target : List ℕ) where
       ])
 
   pub own-unknown : IfNone (times_of max_bytes logs target).ended (Never (IsReported max_bytes logs EndedInOwnLog target))
-  own-unknown = if_none end (Never (IsReported max_bytes logs EndedInOwnLog target)) (λ is. never-last EndedInOwnLog (neither (last_time (at EndedInOwnLog)) (last_time (at EndedInOtherLog)) is).0)
+  own-unknown = if_none end (Never (IsReported max_bytes logs EndedInOwnLog target))
+      (λ is. never-last EndedInOwnLog (neither (last_time (at EndedInOwnLog)) (last_time (at EndedInOtherLog)) is).0)
 
   pub other-unknown : IfNone (times_of max_bytes logs target).ended (Never (IsReported max_bytes logs EndedInOtherLog target))
-  other-unknown = if_none end (Never (IsReported max_bytes logs EndedInOtherLog target)) (λ is. never-last EndedInOtherLog (neither (last_time (at EndedInOwnLog)) (last_time (at EndedInOtherLog)) is).1)
+  other-unknown = if_none end (Never (IsReported max_bytes logs EndedInOtherLog target))
+      (λ is. never-last EndedInOtherLog (neither (last_time (at EndedInOwnLog)) (last_time (at EndedInOtherLog)) is).1)
 
 -- ---- the order of the logs
 
-same-first : (times others : List ℕ) → ((time : ℕ) → Contains times time → Contains others time) → ((time : ℕ) → Contains others time → Contains times time) → first_time times ≡ first_time others
+same-first : (times others : List ℕ) → ((time : ℕ) → Contains times time → Contains others time)
+    → ((time : ℕ) → Contains others time → Contains times time) → first_time times ≡ first_time others
 same-first times others to from = by (first_time times) (first_time others) refl refl
   where
     by : (first other : Option ℕ) → first_time times ≡ first → first_time others ≡ other → first ≡ other
@@ -126,7 +140,8 @@ same-first times others to from = by (first_time times) (first_time others) refl
         let down = there.none_earlier first (to first here.is) in
         let same : first ≡ other = omega (arith, up, down) in ap Some same
 
-same-last : (times others : List ℕ) → ((time : ℕ) → Contains times time → Contains others time) → ((time : ℕ) → Contains others time → Contains times time) → last_time times ≡ last_time others
+same-last : (times others : List ℕ) → ((time : ℕ) → Contains times time → Contains others time)
+    → ((time : ℕ) → Contains others time → Contains times time) → last_time times ≡ last_time others
 same-last times others to from = by (last_time times) (last_time others) refl refl
   where
     by : (last other : Option ℕ) → last_time times ≡ last → last_time others ≡ other → last ≡ other
@@ -141,17 +156,33 @@ same-last times others to from = by (last_time times) (last_time others) refl re
         let same : last ≡ other = omega (arith, up, down) in ap Some same
 
 -- A record of the logs is a record of the same logs in another order.
-moved : (max_bytes : ℕ) (logs others : List TimedLog) → IsPermutation logs others → (stage : Stage) (target : List ℕ) (time : ℕ) → IsReported max_bytes logs stage target time → IsReported max_bytes others stage target time
-moved max_bytes logs others order stage target time from = record { log = from.log; is_log = Contains-permutation logs others from.log order from.is_log; line = from.line; is_line = from.is_line; says = from.says; at = from.at }
+moved : (max_bytes : ℕ) (logs others : List TimedLog) → IsPermutation logs others → (stage : Stage) (target : List ℕ) (time : ℕ)
+    → IsReported max_bytes logs stage target time → IsReported max_bytes others stage target time
+moved max_bytes logs others order stage target time from =
+    record {
+      log = from.log;
+      is_log = Contains-permutation logs others from.log order from.is_log;
+      line = from.line;
+      is_line = from.is_line;
+      says = from.says;
+      at = from.at;
+    }
 
 listed-moved : (max_bytes : ℕ) (logs others : List TimedLog) → IsPermutation logs others → (stage : Stage) (target : List ℕ) (time : ℕ)
-    → Contains (times_at stage target (reports_of max_bytes logs)) time → Contains (times_at stage target (reports_of max_bytes others)) time
-listed-moved max_bytes logs others order stage target time here = listed stage target time max_bytes others (moved max_bytes logs others order stage target time (reported stage target time max_bytes logs here))
+    → Contains (times_at stage target (reports_of max_bytes logs)) time
+    → Contains (times_at stage target (reports_of max_bytes others)) time
+listed-moved max_bytes logs others order stage target time here =
+    listed stage target time max_bytes others
+    (moved max_bytes logs others order stage target time (reported stage target time max_bytes logs here))
 
-pub order-irrelevant : (max_bytes : ℕ) (logs others : List TimedLog) (target : List ℕ) → IsPermutation logs others → times_of max_bytes logs target ≡ times_of max_bytes others target
+pub order-irrelevant : (max_bytes : ℕ) (logs others : List TimedLog) (target : List ℕ) → IsPermutation logs others
+    → times_of max_bytes logs target ≡ times_of max_bytes others target
 order-irrelevant max_bytes logs others target order =
     let back = IsPermutation-sym logs others order in
-    let first = same-first _ _ (listed-moved max_bytes logs others order Began target) (listed-moved max_bytes others logs back Began target) in
-    let own = same-last _ _ (listed-moved max_bytes logs others order EndedInOwnLog target) (listed-moved max_bytes others logs back EndedInOwnLog target) in
-    let other = same-last _ _ (listed-moved max_bytes logs others order EndedInOtherLog target) (listed-moved max_bytes others logs back EndedInOtherLog target) in
+    let first = same-first _ _ (listed-moved max_bytes logs others order Began target)
+    (listed-moved max_bytes others logs back Began target) in
+    let own = same-last _ _ (listed-moved max_bytes logs others order EndedInOwnLog target)
+    (listed-moved max_bytes others logs back EndedInOwnLog target) in
+    let other = same-last _ _ (listed-moved max_bytes logs others order EndedInOtherLog target)
+    (listed-moved max_bytes others logs back EndedInOtherLog target) in
     λ i. record { began = before_end (first i) (option_or (own i) (other i)); ended = option_or (own i) (other i) }

@@ -52,7 +52,9 @@ beginnings =
     from (log a ([]) ∷ []) a None None ∷
     from (log a (begins (codes "1700000001") (codes "a")) ∷ []) a (Some 1700000001000) None ∷
     from (log all (begins (codes "1700000002.25") (codes "a")) ∷ log a ([]) ∷ []) a (Some 1700000002250) None ∷
-    from (log all (begins (codes "1700000005") (codes "a") ++ begins (codes "1700000003") (codes "a") ++ begins (codes "1700000007") (codes "a")) ∷ log ((codes "b")) (begins (codes "1700000004") (codes "a")) ∷ []) a (Some 1700000003000) None ∷
+    from (log all (begins (codes "1700000005") (codes "a") ++ begins (codes "1700000003") (codes "a")
+    ++ begins (codes "1700000007") (codes "a")) ∷ log ((codes "b")) (begins (codes "1700000004") (codes "a")) ∷ []) a
+    (Some 1700000003000) None ∷
     from (log all (begins (codes "1700000005") (codes "b")) ∷ []) a None None ∷
     from (log all (begins (codes "5") (codes "a") ++ begins (codes "1700000006") (codes "a")) ∷ []) a (Some 1700000006000) None ∷
     []
@@ -65,11 +67,16 @@ these_beginnings = (refl, (refl, (refl, (refl, (refl, (refl, (refl, tt)))))))
 abbrev ends : List Row
 ends =
     from (log a (is_done (codes "1700000010") (codes "0 a")) ∷ []) a None (Some 1700000010000) ∷
-    from (log all (is_done (codes "1700000020") (codes "0 a")) ∷ log a (is_done (codes "1700000010") (codes "2 a")) ∷ []) a None (Some 1700000010000) ∷
-    from (log a (is_done (codes "1700000012") (codes "0 a") ++ is_done (codes "1700000011") (codes "0 a")) ∷ []) a None (Some 1700000012000) ∷
-    from (log a (is_done (codes "1700000011") (codes "0 a") ++ is_done (codes "1700000012") (codes "-1 a")) ∷ []) a None (Some 1700000012000) ∷
-    from (log all (is_done (codes "1700000020") (codes "0 a")) ∷ log ((codes "b")) (is_done (codes "1700000021.5") (codes "0 a")) ∷ []) a None (Some 1700000021500) ∷
-    from (log a (is_done (codes "5") (codes "0 a")) ∷ log all (is_done (codes "1700000020") (codes "0 a")) ∷ []) a None (Some 1700000020000) ∷
+    from (log all (is_done (codes "1700000020") (codes "0 a")) ∷ log a (is_done (codes "1700000010") (codes "2 a")) ∷ []) a None
+    (Some 1700000010000) ∷
+    from (log a (is_done (codes "1700000012") (codes "0 a") ++ is_done (codes "1700000011") (codes "0 a")) ∷ []) a None
+    (Some 1700000012000) ∷
+    from (log a (is_done (codes "1700000011") (codes "0 a") ++ is_done (codes "1700000012") (codes "-1 a")) ∷ []) a None
+    (Some 1700000012000) ∷
+    from (log all (is_done (codes "1700000020") (codes "0 a")) ∷ log ((codes "b")) (is_done (codes "1700000021.5") (codes "0 a")) ∷ []) a
+    None (Some 1700000021500) ∷
+    from (log a (is_done (codes "5") (codes "0 a")) ∷ log all (is_done (codes "1700000020") (codes "0 a")) ∷ []) a None
+    (Some 1700000020000) ∷
     from (log all (is_done (codes "1700000020") (codes "0 b")) ∷ []) a None None ∷
     []
 
@@ -80,10 +87,15 @@ these_ends = (refl, (refl, (refl, (refl, (refl, (refl, (refl, tt)))))))
 -- Targets that begin and end. A beginning after the end is unknown.
 abbrev pairs : List Row
 pairs =
-    from (log all (begins (codes "1700000001") (codes "a") ++ is_done (codes "1700000002") (codes "0 a")) ∷ []) a (Some 1700000001000) (Some 1700000002000) ∷
-    from (log all (begins (codes "1700000002") (codes "a") ++ is_done (codes "1700000002") (codes "0 a")) ∷ []) a (Some 1700000002000) (Some 1700000002000) ∷
-    from (log all (begins (codes "1700000002.001") (codes "a") ++ is_done (codes "1700000002") (codes "0 a")) ∷ []) a None (Some 1700000002000) ∷
-    from (log all (begins (codes "1700000001") (codes "a") ++ is_done (codes "1700000009") (codes "0 a")) ∷ log a (line (codes "cc a.c") ++ is_done (codes "1700000003") (codes "0 a") ++ line (codes "after")) ∷ []) a (Some 1700000001000) (Some 1700000003000) ∷
+    from (log all (begins (codes "1700000001") (codes "a") ++ is_done (codes "1700000002") (codes "0 a")) ∷ []) a (Some 1700000001000)
+    (Some 1700000002000) ∷
+    from (log all (begins (codes "1700000002") (codes "a") ++ is_done (codes "1700000002") (codes "0 a")) ∷ []) a (Some 1700000002000)
+    (Some 1700000002000) ∷
+    from (log all (begins (codes "1700000002.001") (codes "a") ++ is_done (codes "1700000002") (codes "0 a")) ∷ []) a None
+    (Some 1700000002000) ∷
+    from (log all (begins (codes "1700000001") (codes "a") ++ is_done (codes "1700000009") (codes "0 a"))
+    ∷ log a (line (codes "cc a.c") ++ is_done (codes "1700000003") (codes "0 a") ++ line (codes "after")) ∷ []) a (Some 1700000001000)
+    (Some 1700000003000) ∷
     []
 
 these_pairs : AllByRecursion (HasTimes 1000) pairs
@@ -97,7 +109,8 @@ names =
     from (log ((codes "d/a")) (begins (codes "1700000001") (codes "../x")) ∷ []) (codes "../x") None None ∷
     from (log ((codes "d/a")) (begins (codes "1700000001") (codes "x")) ∷ []) (codes "d/x") (Some 1700000001000) None ∷
     from (log ((codes "d/a")) (is_done (codes "1700000001") (codes "0 ./a")) ∷ []) (codes "d/a") None (Some 1700000001000) ∷
-    from (log ((codes "d/a")) (is_done (codes "1700000001") (codes "0 ../d/a")) ∷ log all (is_done (codes "1700000002") (codes "0 d/a")) ∷ []) (codes "d/a") None (Some 1700000001000) ∷
+    from (log ((codes "d/a")) (is_done (codes "1700000001") (codes "0 ../d/a")) ∷ log all (is_done (codes "1700000002") (codes "0 d/a"))
+    ∷ []) (codes "d/a") None (Some 1700000001000) ∷
     []
 
 these_names : AllByRecursion (HasTimes 1000) names
@@ -108,9 +121,14 @@ these_names = (refl, (refl, (refl, (refl, (refl, tt)))))
 abbrev others : List Row
 others =
     from (log all (line (codes "x @@REDO:do:7:1700000001@@ a") ++ line (codes "@@REDO") ++ line (codes "")) ∷ []) a None None ∷
-    from (log all (line (codes "@@REDO:waiting:7:1700000001@@ a") ++ line (codes "@@REDO:locked:7:1700000001@@ a") ++ line (codes "@@REDO:unlocked:7:1700000001@@ a") ++ line (codes "@@REDO:unchanged:7:1700000001@@ a") ++ line (codes "@@REDO:check:7:1700000001@@ a")) ∷ []) a None None ∷
-    from (log all (line (codes "@@REDO:do:x:1700000001@@ a") ++ line (codes "@@REDO:do:7:17000000x1@@ a") ++ line (codes "@@REDO:do:7:1700000001@@a") ++ line (codes "@@REDO:DO:7:1700000001@@ a")) ∷ []) a None None ∷
-    from (log all (line (codes "@@REDO:do:7:1700000001@@ ") ++ line (codes "@@REDO:done:7:1700000001@@ 0 ") ++ line (codes "@@REDO:done:7:1700000001@@ a") ++ line (codes "@@REDO:done:7:1700000001@@ x a") ++ line (codes "@@REDO:done:7:1700000001@@ 0a")) ∷ []) a None None ∷
+    from (log all (line (codes "@@REDO:waiting:7:1700000001@@ a") ++ line (codes "@@REDO:locked:7:1700000001@@ a")
+    ++ line (codes "@@REDO:unlocked:7:1700000001@@ a") ++ line (codes "@@REDO:unchanged:7:1700000001@@ a")
+    ++ line (codes "@@REDO:check:7:1700000001@@ a")) ∷ []) a None None ∷
+    from (log all (line (codes "@@REDO:do:x:1700000001@@ a") ++ line (codes "@@REDO:do:7:17000000x1@@ a")
+    ++ line (codes "@@REDO:do:7:1700000001@@a") ++ line (codes "@@REDO:DO:7:1700000001@@ a")) ∷ []) a None None ∷
+    from (log all (line (codes "@@REDO:do:7:1700000001@@ ") ++ line (codes "@@REDO:done:7:1700000001@@ 0 ")
+    ++ line (codes "@@REDO:done:7:1700000001@@ a") ++ line (codes "@@REDO:done:7:1700000001@@ x a")
+    ++ line (codes "@@REDO:done:7:1700000001@@ 0a")) ∷ []) a None None ∷
     from (log all (line (codes "@@REDO:bad") ++ begins (codes "1700000004") (codes "a")) ∷ []) a (Some 1700000004000) None ∷
     from (log all (codes "@@REDO:do:7:1700000001@@ a") ∷ []) a None None ∷
     []
@@ -124,7 +142,8 @@ these_others = (refl, (refl, (refl, (refl, (refl, (refl, tt))))))
 abbrev prefixes : List Row
 prefixes =
     from (log all (begins (codes "1700000005") (codes "a") ++ begins (codes "1700000001") (codes "a")) ∷ []) a (Some 1700000005000) None ∷
-    from (log all (begins (codes "1700000005") (codes "a")) ∷ log a (line (codes "") ++ begins (codes "1700000001") (codes "a")) ∷ []) a (Some 1700000005000) None ∷
+    from (log all (begins (codes "1700000005") (codes "a")) ∷ log a (line (codes "") ++ begins (codes "1700000001") (codes "a")) ∷ []) a
+    (Some 1700000005000) None ∷
     []
 
 these_prefixes : AllByRecursion (HasTimes 27) prefixes

@@ -15,7 +15,10 @@ pub const CHOSEN: [Case; 12] = [
         &[
             (
                 "all",
-                "@@REDO:do:7:1700000000.0001@@ all\n@@REDO:do:7:1700000000.5@@ d/a\nmake: text\n@@REDO:unchanged:7:1700000000.6@@ d/x\n@@REDO:done:7:1700000003.0199@@ 0 d/a\n@@REDO:do:7:1700000003.25@@ b\n@@REDO:done:7:1700000005@@ 2 b\n@@REDO:done:7:1700000005.123456789@@ 1 all\n",
+                "@@REDO:do:7:1700000000.0001@@ all\n@@REDO:do:7:1700000000.5@@ d/a\nmake: text\n\
+                    @@REDO:unchanged:7:1700000000.6@@ d/x\n@@REDO:done:7:1700000003.0199@@ 0 d/a\n\
+                    @@REDO:do:7:1700000003.25@@ b\n@@REDO:done:7:1700000005@@ 2 b\n\
+                    @@REDO:done:7:1700000005.123456789@@ 1 all\n",
             ),
             (
                 "d/a",
@@ -33,7 +36,8 @@ pub const CHOSEN: [Case; 12] = [
         &[
             (
                 "a",
-                "@@REDO:done:7:1700000002@@ 0 a\n@@REDO:done:7:1700000009@@ 0 a\n@@REDO:do:7:1700000001@@ b\n@@REDO:done:7:1700000004@@ 0 a\n",
+                "@@REDO:done:7:1700000002@@ 0 a\n@@REDO:done:7:1700000009@@ 0 a\n\
+                    @@REDO:do:7:1700000001@@ b\n@@REDO:done:7:1700000004@@ 0 a\n",
             ),
             ("b", "@@REDO:done:7:1700000030@@ 0 a\n"),
         ],
@@ -92,7 +96,11 @@ pub const CHOSEN: [Case; 12] = [
     (
         &[(
             "a",
-            "@@REDO:do:x:1700000001@@ a\n@@REDO:do:7:1700000002@@a\n@@REDO:do:7:1700000003.@@ a\n@@REDO:done:7:1700000004@@ a\n@@REDO:done:7:1700000005@@ - a\n@@REDO:done:7:1700000006@@ 0 \n@@REDO:do:7:1700000007@@ \n @@REDO:do:7:1700000008@@ a\n@@REDO:\n@@REDO:do:7:1700000009@@ a\n@@REDO:do:7:1700000001@@ a",
+            "@@REDO:do:x:1700000001@@ a\n@@REDO:do:7:1700000002@@a\n@@REDO:do:7:1700000003.@@ a\n\
+                @@REDO:done:7:1700000004@@ a\n@@REDO:done:7:1700000005@@ - a\n\
+                @@REDO:done:7:1700000006@@ 0 \n\
+                @@REDO:do:7:1700000007@@ \n @@REDO:do:7:1700000008@@ a\n@@REDO:\n\
+                @@REDO:do:7:1700000009@@ a\n@@REDO:do:7:1700000001@@ a",
         )],
         false,
         1000,

@@ -6,11 +6,13 @@ use Rattle.redo_trim.specs.declared.limit.Gauge.{Gauge}
 use Rattle.redo_trim.specs.Trim.{with_bytes, with_text}
 
 -- A log is the innermost one of two or more.
-text_append : (size : ℕ) (gauge : Gauge) (inner outer : List Gauge) → with_text size ((inner ++ gauge ∷ []) ++ outer) ≡ with_text size (inner ++ gauge ∷ []) ++ outer
+text_append : (size : ℕ) (gauge : Gauge) (inner outer : List Gauge)
+    → with_text size ((inner ++ gauge ∷ []) ++ outer) ≡ with_text size (inner ++ gauge ∷ []) ++ outer
 text_append size gauge [] outer = refl
 text_append size gauge (first ∷ inner) outer = refl
 
-pub last_text : (gauges : List Gauge) (at size : ℕ) (default : Gauge) → at + 1 ≡ length gauges → reverse (set gauges at (with_bytes size (get_or gauges at default))) ≡ with_text size (reverse gauges)
+pub last_text : (gauges : List Gauge) (at size : ℕ) (default : Gauge) → at + 1 ≡ length gauges
+    → reverse (set gauges at (with_bytes size (get_or gauges at default))) ≡ with_text size (reverse gauges)
 last_text [] at size default last = absurd (omega (arith, last))
 last_text (gauge ∷ []) zero size default last = refl
 last_text (gauge ∷ []) (suc at) size default last = absurd (omega (arith, last))

@@ -42,16 +42,20 @@ not_fits = (λ fits. let low = fits.head in omega (arith, low), λ fits. let low
 -- ---- the lines of one log
 
 -- They begin at the bytes 0, 4, 8, 14 and 19.
-after_heads : (after_head 8 five ≡ codes "three" ∷ codes "four" ∷ codes "five" ∷ []) × (after_head 7 five ≡ codes "two" ∷ codes "three" ∷ codes "four" ∷ codes "five" ∷ []) × (after_head 24 five ≡ [])
+after_heads : (after_head 8 five ≡ codes "three" ∷ codes "four" ∷ codes "five" ∷ [])
+    × (after_head 7 five ≡ codes "two" ∷ codes "three" ∷ codes "four" ∷ codes "five" ∷ []) × (after_head 24 five ≡ [])
 after_heads = (refl, refl, refl)
 
 -- The first line begins at byte 100.
 by_beginning :
-    (lines_from 114 100 five ≡ codes "four" ∷ codes "five" ∷ []) × (lines_before 114 100 five ≡ codes "one" ∷ codes "two" ∷ codes "three" ∷ []) × (lines_from 100 100 five ≡ five) × (lines_before 100 100 five ≡ [])
+    (lines_from 114 100 five ≡ codes "four" ∷ codes "five" ∷ [])
+    × (lines_before 114 100 five ≡ codes "one" ∷ codes "two" ∷ codes "three" ∷ []) × (lines_from 100 100 five ≡ five)
+    × (lines_before 100 100 five ≡ [])
     × (lines_from 120 100 five ≡ []) × (lines_before 120 100 five ≡ five)
 by_beginning = (refl, refl, refl, refl, refl, refl)
 
-heads_and_tails : (head_and_tail (limit 8 19) five ≡ codes "one" ∷ codes "two" ∷ codes "five" ∷ []) × (head_and_tail (limit 0 25) five ≡ []) × (head_and_tail (limit 8 0) five ≡ five)
+heads_and_tails : (head_and_tail (limit 8 19) five ≡ codes "one" ∷ codes "two" ∷ codes "five" ∷ []) × (head_and_tail (limit 0 25) five ≡ [])
+    × (head_and_tail (limit 8 0) five ≡ five)
 heads_and_tails = (refl, refl, refl)
 
 markers : (marker_for 3 [] ≡ []) × (marker_for 3 ([] ∷ codes "a" ∷ []) ≡ marker 3 ∷ [])
@@ -59,7 +63,8 @@ markers = (refl, refl)
 
 all_marked :
     (marked_lines 1 (limit 8 19) five ≡ text (codes "one") ∷ text (codes "two") ∷ marker 1 ∷ text (codes "five") ∷ [])
-    × (marked_lines 1 (limit 8 8) five ≡ text (codes "one") ∷ text (codes "two") ∷ text (codes "three") ∷ text (codes "four") ∷ text (codes "five") ∷ [])
+    × (marked_lines 1 (limit 8 8) five ≡ text (codes "one") ∷ text (codes "two") ∷ text (codes "three") ∷ text (codes "four")
+    ∷ text (codes "five") ∷ [])
     × (marked_lines 1 (limit 0 25) five ≡ marker 1 ∷ [])
 all_marked = (refl, refl, refl)
 

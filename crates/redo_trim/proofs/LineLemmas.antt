@@ -28,7 +28,8 @@ use Rattle.redo_trim.proofs.FormLemmas.{bytes-append, form_stops, form_then, sta
 
 -- ---- the first line
 
-pub first_found : (bytes : List ℕ) (at : ℕ) → NoneBefore (Passes (is_byte 10) bytes) 0 (length bytes) at × Passes (is_byte 10) bytes at → IsFirstLine bytes (at + 1)
+pub first_found : (bytes : List ℕ) (at : ℕ) → NoneBefore (Passes (is_byte 10) bytes) 0 (length bytes) at × Passes (is_byte 10) bytes at
+    → IsFirstLine bytes (at + 1)
 first_found bytes at found =
     let below = found.0.high in
     let free = free_before bytes at found.0.before in
@@ -48,37 +49,50 @@ first_found bytes at found =
 
 -- Complete lines have a line feed.
 pub line_found : (bytes : List ℕ) → Nowhere (Passes (is_byte 10) bytes) 0 (length bytes) → rest bytes ≡ [] → 0 < length bytes → ⊥
-line_found bytes nowhere complete some = let none = ap length (sym (rest-free bytes (holds_none bytes nowhere)) ∙ complete) in omega (arith, none, some)
+line_found bytes nowhere complete some = let none = ap length (sym (rest-free bytes (holds_none bytes nowhere)) ∙ complete) in
+    omega (arith, none, some)
 
 -- ---- lines and those after them
 
 -- The bytes after complete lines.
 pub complete_after : (bytes : List ℕ) (len : ℕ) → rest (take len bytes) ≡ [] → rest bytes ≡ [] → rest (drop len bytes) ≡ []
 complete_after bytes len first complete =
-    sym (ap (λ (r : List ℕ). rest (r ++ drop len bytes)) first) ∙ sym (rest-append (take len bytes) (drop len bytes)) ∙ ap rest (take-append-drop len bytes) ∙ complete
+    sym (ap (λ (r : List ℕ). rest (r ++ drop len bytes)) first) ∙ sym (rest-append (take len bytes) (drop len bytes))
+    ∙ ap rest (take-append-drop len bytes) ∙ complete
 
 split_ended : (bytes : List ℕ) (len : ℕ) → rest (take len bytes) ≡ [] → ended bytes ≡ ended (take len bytes) ++ ended (drop len bytes)
 split_ended bytes len first =
-    ap ended (sym (take-append-drop len bytes)) ∙ ended-append (take len bytes) (drop len bytes) ∙ ap (λ (r : List ℕ). ended (take len bytes) ++ ended (r ++ drop len bytes)) first
+    ap ended (sym (take-append-drop len bytes)) ∙ ended-append (take len bytes) (drop len bytes)
+    ∙ ap (λ (r : List ℕ). ended (take len bytes) ++ ended (r ++ drop len bytes)) first
 
-split_texts : (depth : ℕ) (bytes : List ℕ) (len : ℕ) → rest (take len bytes) ≡ [] → text_events depth (ended bytes) ≡ text_events depth (ended (take len bytes)) ++ text_events depth (ended (drop len bytes))
+split_texts : (depth : ℕ) (bytes : List ℕ) (len : ℕ) → rest (take len bytes) ≡ []
+    → text_events depth (ended bytes) ≡ text_events depth (ended (take len bytes)) ++ text_events depth (ended (drop len bytes))
 split_texts depth bytes len first =
-    ap (text_events depth) (split_ended bytes len first) ∙ map-append (λ (text : List ℕ). EntryShown depth (Text text)) (ended (take len bytes)) (ended (drop len bytes))
+    ap (text_events depth) (split_ended bytes len first)
+    ∙ map-append (λ (text : List ℕ). EntryShown depth (Text text)) (ended (take len bytes)) (ended (drop len bytes))
 
-module _ {F : Type 0} (bytes : F → Event → List ℕ) (after : F → Event → F) (depth : ℕ) (form : F) (text : List ℕ) (len : ℕ) (first : rest (take len text) ≡ []) where
+module _ {F : Type 0} (bytes : F → Event → List ℕ) (after : F → Event → F) (depth : ℕ) (form : F) (text : List ℕ) (len : ℕ)
+    (first : rest (take len text) ≡ []) where
   pub next_bytes : bytes_of bytes after form (text_events depth (ended text))
-      ≡ bytes_of bytes after form (text_events depth (ended (take len text))) ++ bytes_of bytes after (state_after after form (text_events depth (ended (take len text)))) (text_events depth (ended (drop len text)))
+      ≡ bytes_of bytes after form (text_events depth (ended (take len text)))
+      ++ bytes_of bytes after (state_after after form (text_events depth (ended (take len text))))
+      (text_events depth (ended (drop len text)))
   next_bytes =
-      ap (bytes_of bytes after form) (split_texts depth text len first) ∙ bytes-append bytes after form (text_events depth (ended (take len text))) (text_events depth (ended (drop len text)))
+      ap (bytes_of bytes after form) (split_texts depth text len first)
+      ∙ bytes-append bytes after form (text_events depth (ended (take len text))) (text_events depth (ended (drop len text)))
 
-  next_state : state_after after form (text_events depth (ended text)) ≡ state_after after (state_after after form (text_events depth (ended (take len text)))) (text_events depth (ended (drop len text)))
+  next_state : state_after after form (text_events depth (ended text))
+      ≡ state_after after (state_after after form (text_events depth (ended (take len text)))) (text_events depth (ended (drop len text)))
   next_state =
-      ap (state_after after form) (split_texts depth text len first) ∙ state-append bytes after form (text_events depth (ended (take len text))) (text_events depth (ended (drop len text)))
+      ap (state_after after form) (split_texts depth text len first)
+      ∙ state-append bytes after form (text_events depth (ended (take len text))) (text_events depth (ended (drop len text)))
 
-  pub state_next : (now : F) (left : List ℕ) → drop len text ≡ left → now ≡ state_after after form (text_events depth (ended (take len text)))
+  pub state_next : (now : F) (left : List ℕ) → drop len text ≡ left
+      → now ≡ state_after after form (text_events depth (ended (take len text)))
       → state_after after now (text_events depth (ended left)) ≡ state_after after form (text_events depth (ended text))
   state_next now left past same =
-      ap (λ l. state_after after now (text_events depth (ended l))) (sym past) ∙ ap (λ f. state_after after f (text_events depth (ended (drop len text)))) same ∙ sym next_state
+      ap (λ l. state_after after now (text_events depth (ended l))) (sym past)
+      ∙ ap (λ f. state_after after f (text_events depth (ended (drop len text)))) same ∙ sym next_state
 
 lines_length : (lines : List (List ℕ)) → length (flat_map with_line_feed lines) ≡ text_size lines
 lines_length [] = refl
@@ -91,7 +105,8 @@ lines_length (line ∷ lines) =
 
 complete_length : (bytes : List ℕ) → rest bytes ≡ [] → length bytes ≡ text_size (ended bytes)
 complete_length bytes complete =
-    ap length ((are_lines bytes).whole ∙ ap (λ (r : List ℕ). flat_map with_line_feed (ended bytes) ++ r) complete ∙ append-nil (flat_map with_line_feed (ended bytes))) ∙ lines_length (ended bytes)
+    ap length ((are_lines bytes).whole ∙ ap (λ (r : List ℕ). flat_map with_line_feed (ended bytes) ++ r) complete
+    ∙ append-nil (flat_map with_line_feed (ended bytes))) ∙ lines_length (ended bytes)
 
 -- ---- gauges
 
@@ -112,45 +127,65 @@ fits_still size (gauge ∷ outer) fits = fits
 pub keeps_whole : (gauges : List Gauge) (size : ℕ) → keeps_all gauges ≡ true → showing_in (innermost gauges) size ≡ showing.Whole
 keeps_whole [] size keeps = refl
 keeps_whole (gauge ∷ outer) size keeps =
-    ap (λ (b : Bool). if b || nat_le (gauge.seen + size) gauge.limit.head then showing.Whole else if nat_le gauge.seen gauge.limit.head then showing.Marker else showing.Nothing) keeps
+    ap (λ (b : Bool). if b || nat_le (gauge.seen + size) gauge.limit.head then showing.Whole
+    else if nat_le gauge.seen gauge.limit.head then showing.Marker else showing.Nothing) keeps
 
 -- ---- many lines of which none is left out
 
 module _ {F : Type 0} (bytes : F → Event → List ℕ) (after : F → Event → F) (depth : ℕ) where
-  pub kept_all : (lines : List (List ℕ)) (limits : List Limit) (gauges : List Gauge) → TailFits gauges → keeps_all gauges ≡ true → trimmed limits gauges (text_events depth lines) ≡ text_events depth lines
+  pub kept_all : (lines : List (List ℕ)) (limits : List Limit) (gauges : List Gauge) → TailFits gauges → keeps_all gauges ≡ true
+      → trimmed limits gauges (text_events depth lines) ≡ text_events depth lines
   kept_all [] limits gauges fits keeps = refl
   kept_all (line ∷ lines) limits gauges fits keeps =
       let next = with_text (line_size line) gauges in
-      ap (λ (s : Showing). line_shown s depth line ++ trimmed limits next (text_events depth lines)) (keeps_whole gauges (line_size line) keeps)
-      ∙ ap (λ es. EntryShown depth (Text line) ∷ es) (kept_all lines limits next (fits_still (line_size line) gauges fits) (keeps_still (line_size line) gauges fits keeps))
+      ap (λ (s : Showing). line_shown s depth line ++ trimmed limits next (text_events depth lines))
+      (keeps_whole gauges (line_size line) keeps)
+      ∙ ap (λ es. EntryShown depth (Text line) ∷ es)
+      (kept_all lines limits next (fits_still (line_size line) gauges fits) (keeps_still (line_size line) gauges fits keeps))
 
   pub bytes_kept : (form : Trimmed F) (lines : List (List ℕ)) → TailFits form.gauges → keeps_all form.gauges ≡ true
-      → bytes_of (form_bytes bytes after) (form_after after) form (text_events depth lines) ≡ bytes_of bytes after form.form (text_events depth lines)
-  bytes_kept form lines fits keeps = trimmed_bytes bytes after form (text_events depth lines) ∙ ap (bytes_of bytes after form.form) (kept_all lines form.limits.now form.gauges fits keeps)
+      → bytes_of (form_bytes bytes after) (form_after after) form (text_events depth lines)
+      ≡ bytes_of bytes after form.form (text_events depth lines)
+  bytes_kept form lines fits keeps = trimmed_bytes bytes after form (text_events depth lines)
+      ∙ ap (bytes_of bytes after form.form) (kept_all lines form.limits.now form.gauges fits keeps)
 
   -- The adapter after text lines.
   abbrev after_texts : Trimmed F → F → ℕ → Trimmed F
   after_texts form now size = record { form = now; gauges = with_text size form.gauges; limits = form.limits }
 
   state_from : (form : Trimmed F) (lines : List (List ℕ)) (now : F) (size : ℕ) → TailFits form.gauges → keeps_all form.gauges ≡ true
-      → state_after (form_after after) (after_texts form now size) (text_events depth lines) ≡ after_texts form (state_after after now (text_events depth lines)) (size + text_size lines)
+      → state_after (form_after after) (after_texts form now size) (text_events depth lines)
+      ≡ after_texts form (state_after after now (text_events depth lines)) (size + text_size lines)
   state_from form [] now size fits keeps = ap (after_texts form now) (omega arith)
   state_from form (line ∷ lines) now size fits keeps =
       let more = text_events depth lines in
       let both = sum_by-cons (λ (text : List ℕ). length text + 1) line lines in
       let gauges = with_text size form.gauges in
-      ap (λ (s : Showing). state_after (form_after after) (record { form = state_after after now (line_shown s depth line); gauges = with_text (line_size line) gauges; limits = form.limits }) more)
+      ap (λ (s : Showing). state_after (form_after after)
+      (record {
+        form = state_after after now (line_shown s depth line);
+        gauges = with_text (line_size line) gauges;
+        limits = form.limits;
+      }) more)
       (keeps_whole gauges (line_size line) (keeps_still size form.gauges fits keeps))
-      ∙ ap (λ (gs : List Gauge). state_after (form_after after) (record { form = after now (EntryShown depth (Text line)); gauges = gs; limits = form.limits }) more) (with_texts size (line_size line) form.gauges)
+      ∙ ap (λ (gs : List Gauge). state_after (form_after after)
+      (record { form = after now (EntryShown depth (Text line)); gauges = gs; limits = form.limits }) more)
+      (with_texts size (line_size line) form.gauges)
       ∙ state_from form lines (after now (EntryShown depth (Text line))) (size + line_size line) fits keeps
       ∙ ap (after_texts form (state_after after now (text_events depth (line ∷ lines)))) (omega (arith, both))
 
   state_lines : (form : Trimmed F) (lines : List (List ℕ)) → 0 < length lines → TailFits form.gauges → keeps_all form.gauges ≡ true
-      → state_after (form_after after) form (text_events depth lines) ≡ after_texts form (state_after after form.form (text_events depth lines)) (text_size lines)
+      → state_after (form_after after) form (text_events depth lines)
+      ≡ after_texts form (state_after after form.form (text_events depth lines)) (text_size lines)
   state_lines form [] some fits keeps = absurd (omega (arith, some))
   state_lines form (line ∷ lines) some fits keeps =
       let both = sum_by-cons (λ (text : List ℕ). length text + 1) line lines in
-      ap (λ (s : Showing). state_after (form_after after) (record { form = state_after after form.form (line_shown s depth line); gauges = with_text (line_size line) form.gauges; limits = form.limits }) (text_events depth lines))
+      ap (λ (s : Showing). state_after (form_after after)
+      (record {
+        form = state_after after form.form (line_shown s depth line);
+        gauges = with_text (line_size line) form.gauges;
+        limits = form.limits;
+      }) (text_events depth lines))
       (keeps_whole form.gauges (line_size line) keeps)
       ∙ state_from form lines (after form.form (EntryShown depth (Text line))) (line_size line) fits keeps
       ∙ ap (after_texts form (state_after after form.form (text_events depth (line ∷ lines)))) (omega (arith, both))
@@ -159,11 +194,14 @@ module _ {F : Type 0} (bytes : F → Event → List ℕ) (after : F → Event �
   some_line text [] size some = absurd (omega (arith, size, some))
   some_line text (line ∷ lines) size some = omega arith
 
-  pub state_kept : (form : Trimmed F) (text : List ℕ) → rest text ≡ [] → 0 < length text → TailFits form.gauges → keeps_all form.gauges ≡ true
-      → state_after (form_after after) form (text_events depth (ended text)) ≡ after_texts form (state_after after form.form (text_events depth (ended text))) (length text)
+  pub state_kept : (form : Trimmed F) (text : List ℕ) → rest text ≡ [] → 0 < length text → TailFits form.gauges
+      → keeps_all form.gauges ≡ true
+      → state_after (form_after after) form (text_events depth (ended text))
+      ≡ after_texts form (state_after after form.form (text_events depth (ended text))) (length text)
   state_kept form text complete some fits keeps =
       let size = complete_length text complete in
-      state_lines form (ended text) (some_line text (ended text) size some) fits keeps ∙ ap (after_texts form (state_after after form.form (text_events depth (ended text)))) (sym size)
+      state_lines form (ended text) (some_line text (ended text) size some) fits keeps
+      ∙ ap (after_texts form (state_after after form.form (text_events depth (ended text)))) (sym size)
 
   -- ---- one line
 
@@ -173,29 +211,36 @@ module _ {F : Type 0} (bytes : F → Event → List ℕ) (after : F → Event �
   same_shown showing.Nothing line = refl
 
   module _ (form : Trimmed F) (text : List ℕ) (one : IsOneLine text) where
-    one_shown : kept form.gauges (EntryShown depth (Text one.line)) ≡ lines_shown (showing_in (innermost form.gauges) (length text)) depth (ended text)
+    one_shown : kept form.gauges (EntryShown depth (Text one.line))
+        ≡ lines_shown (showing_in (innermost form.gauges) (length text)) depth (ended text)
     one_shown =
         same_shown (showing_in (innermost form.gauges) (line_size one.line)) one.line
         ∙ ap (λ (n : ℕ). lines_shown (showing_in (innermost form.gauges) n) depth (one.line ∷ [])) one.size_is
         ∙ ap (lines_shown (showing_in (innermost form.gauges) (length text)) depth) (sym one.is)
 
-    pub one_bytes : bytes_of (form_bytes bytes after) (form_after after) form (text_events depth (ended text)) ≡ bytes_of bytes after form.form (lines_shown (showing_in (innermost form.gauges) (length text)) depth (ended text))
+    pub one_bytes : bytes_of (form_bytes bytes after) (form_after after) form (text_events depth (ended text))
+        ≡ bytes_of bytes after form.form (lines_shown (showing_in (innermost form.gauges) (length text)) depth (ended text))
     one_bytes =
         ap (λ ls. bytes_of (form_bytes bytes after) (form_after after) form (text_events depth ls)) one.is
-        ∙ append-nil (bytes_of bytes after form.form (kept form.gauges (EntryShown depth (Text one.line)))) ∙ ap (bytes_of bytes after form.form) one_shown
+        ∙ append-nil (bytes_of bytes after form.form (kept form.gauges (EntryShown depth (Text one.line))))
+        ∙ ap (bytes_of bytes after form.form) one_shown
 
-    pub one_state : state_after (form_after after) form (text_events depth (ended text)) ≡ after_texts form (state_after after form.form (lines_shown (showing_in (innermost form.gauges) (length text)) depth (ended text))) (length text)
+    pub one_state : state_after (form_after after) form (text_events depth (ended text))
+        ≡ after_texts form (state_after after form.form (lines_shown (showing_in (innermost form.gauges) (length text)) depth (ended text)))
+        (length text)
     one_state =
         ap (λ ls. state_after (form_after after) form (text_events depth ls)) one.is
         ∙ ap (λ es. after_texts form (state_after after form.form es) (line_size one.line)) one_shown
-        ∙ ap (after_texts form (state_after after form.form (lines_shown (showing_in (innermost form.gauges) (length text)) depth (ended text)))) one.size_is
+        ∙ ap (after_texts form (state_after after form.form
+        (lines_shown (showing_in (innermost form.gauges) (length text)) depth (ended text)))) one.size_is
 
 -- ---- texts that are written in parts
 
 pub nothing_written : (output : Option Output) → output ≡ append_output output [] 0
 nothing_written None = refl
 nothing_written (Some taken) =
-    ap (λ (b : List ℕ). Some (record { bytes = b; failures = taken.failures })) (sym (append-nil taken.bytes)) ∙ ap (λ (n : ℕ). Some (record { bytes = taken.bytes ++ []; failures = n })) (omega arith)
+    ap (λ (b : List ℕ). Some (record { bytes = b; failures = taken.failures })) (sym (append-nil taken.bytes))
+    ∙ ap (λ (n : ℕ). Some (record { bytes = taken.bytes ++ []; failures = n })) (omega arith)
 
 pub wrote_none : (before : Option Output) (text : List ℕ) → WroteUpTo before before text text
 wrote_none before text = record { prefix = []; wrote = nothing_written before; splits = refl }
@@ -212,11 +257,14 @@ module _ (before middle after : Option Output) (text part left : List ℕ) (so_f
   pub failed_part : (fault : FormFault) → FormWrites middle after part (Err fault) → FormWrites before after text (Err fault)
   failed_part fault wrote =
       subst (λ t. FormWrites before after t (Err fault)) (append_assoc so_far.prefix part left ∙ so_far.splits)
-      (form_stops before after (so_far.prefix ++ part) left fault (form_then before middle after so_far.prefix part (Err fault) so_far.wrote wrote))
+      (form_stops before after (so_far.prefix ++ part) left fault
+      (form_then before middle after so_far.prefix part (Err fault) so_far.wrote wrote))
 
-pub last_part : (before middle after : Option Output) (text part : List ℕ) (done : Result (Unit {0}) FormFault) → WroteUpTo before middle text part → FormWrites middle after part done → FormWrites before after text done
+pub last_part : (before middle after : Option Output) (text part : List ℕ) (done : Result (Unit {0}) FormFault)
+    → WroteUpTo before middle text part → FormWrites middle after part done → FormWrites before after text done
 last_part before middle after text part done so_far wrote =
     subst (λ t. FormWrites before after t done) so_far.splits (form_then before middle after so_far.prefix part done so_far.wrote wrote)
 
 pub wrote_all : (before after : Option Output) (text : List ℕ) → WroteUpTo before after text [] → after ≡ append_output before text 0
-wrote_all before after text so_far = so_far.wrote ∙ ap (λ (t : List ℕ). append_output before t 0) (sym (append-nil so_far.prefix) ∙ so_far.splits)
+wrote_all before after text so_far =
+    so_far.wrote ∙ ap (λ (t : List ℕ). append_output before t 0) (sym (append-nil so_far.prefix) ∙ so_far.splits)

@@ -28,15 +28,19 @@ text line = EntryShown 1 (Text line)
 -- ---- one line
 
 -- A line of 8 bytes ends in the head. A longer one doesn't, and begins in it.
-first_lines : (showing_of (gauge (limit 8 19) 0) 8 ≡ showing.Whole) × (showing_of (gauge (limit 8 19) 0) 9 ≡ showing.Marker) × (showing_of (gauge (limit 8 19) 4) 4 ≡ showing.Whole) × (showing_of (gauge (limit 8 19) 4) 5 ≡ showing.Marker)
+first_lines : (showing_of (gauge (limit 8 19) 0) 8 ≡ showing.Whole) × (showing_of (gauge (limit 8 19) 0) 9 ≡ showing.Marker)
+    × (showing_of (gauge (limit 8 19) 4) 4 ≡ showing.Whole) × (showing_of (gauge (limit 8 19) 4) 5 ≡ showing.Marker)
 first_lines = (refl, refl, refl, refl)
 
 -- A line that begins at the end of the head is the first one that is left out.
-later_lines : (showing_of (gauge (limit 8 19) 8) 1 ≡ showing.Marker) × (showing_of (gauge (limit 8 19) 9) 1 ≡ showing.Nothing) × (showing_of (gauge (limit 8 19) 18) 1 ≡ showing.Nothing) × (showing_of (gauge (limit 8 19) 19) 1 ≡ showing.Whole) × (showing_of (gauge (limit 8 19) 100) 1 ≡ showing.Whole)
+later_lines : (showing_of (gauge (limit 8 19) 8) 1 ≡ showing.Marker) × (showing_of (gauge (limit 8 19) 9) 1 ≡ showing.Nothing)
+    × (showing_of (gauge (limit 8 19) 18) 1 ≡ showing.Nothing) × (showing_of (gauge (limit 8 19) 19) 1 ≡ showing.Whole)
+    × (showing_of (gauge (limit 8 19) 100) 1 ≡ showing.Whole)
 later_lines = (refl, refl, refl, refl, refl)
 
 -- No head, no tail, and neither.
-extreme_lines : (showing_of (gauge (limit 0 5) 0) 1 ≡ showing.Marker) × (showing_of (gauge (limit 0 0) 0) 1 ≡ showing.Whole) × (showing_of (gauge (limit 8 4) 0) 9 ≡ showing.Marker) × (showing_of (gauge (limit 8 4) 4) 9 ≡ showing.Whole)
+extreme_lines : (showing_of (gauge (limit 0 5) 0) 1 ≡ showing.Marker) × (showing_of (gauge (limit 0 0) 0) 1 ≡ showing.Whole)
+    × (showing_of (gauge (limit 8 4) 0) 9 ≡ showing.Marker) × (showing_of (gauge (limit 8 4) 4) 9 ≡ showing.Whole)
     × (showing_of (gauge (limit 0xFFFFFFFFFFFFFFFF 0xFFFFFFFFFFFFFFFF) 0xFFFFFFFFFFFFFFFF) 1 ≡ showing.Whole)
 extreme_lines = (refl, refl, refl, refl, refl)
 
@@ -48,7 +52,8 @@ in_logs = (refl, refl)
 abbrev limits : List Limit
 limits = limit 6 20 ∷ limit 0 12 ∷ []
 
-limits_by_number : (limit_of limits 0 ≡ limit 6 20) × (limit_of limits 1 ≡ limit 0 12) × (limit_of limits 2 ≡ limit 0 0) × (limit_of [] 0 ≡ limit 0 0)
+limits_by_number : (limit_of limits 0 ≡ limit 6 20) × (limit_of limits 1 ≡ limit 0 12) × (limit_of limits 2 ≡ limit 0 0)
+    × (limit_of [] 0 ≡ limit 0 0)
 limits_by_number = (refl, refl, refl, refl)
 
 sizes : (line_size [] ≡ 1) × (line_size (codes "a one") ≡ 6)
@@ -56,13 +61,16 @@ sizes = (refl, refl)
 
 -- ---- one event
 
-these_markers : marker 3 ≡ EntryShown 3 (Note 0 [] (codes "Lines are left out here. The command at the end of this page shows all of them."))
+these_markers : marker 3 ≡ EntryShown 3
+    (Note 0 [] (codes "Lines are left out here. The command at the end of this page shows all of them."))
 these_markers = refl
 
 -- Only text lines are left out.
 kept_events :
-    (kept (gauge (limit 8 19) 9 ∷ gauge (limit 0 0) 0 ∷ []) (text (codes "a")) ≡ []) × (kept (gauge (limit 8 19) 8 ∷ []) (text (codes "a")) ≡ marker 1 ∷ [])
-    × (kept (gauge (limit 8 19) 6 ∷ []) (text (codes "a")) ≡ text (codes "a") ∷ []) × (kept (gauge (limit 8 19) 7 ∷ []) (text (codes "a")) ≡ marker 1 ∷ []) × (kept [] (text (codes "a")) ≡ text (codes "a") ∷ [])
+    (kept (gauge (limit 8 19) 9 ∷ gauge (limit 0 0) 0 ∷ []) (text (codes "a")) ≡ [])
+    × (kept (gauge (limit 8 19) 8 ∷ []) (text (codes "a")) ≡ marker 1 ∷ [])
+    × (kept (gauge (limit 8 19) 6 ∷ []) (text (codes "a")) ≡ text (codes "a") ∷ [])
+    × (kept (gauge (limit 8 19) 7 ∷ []) (text (codes "a")) ≡ marker 1 ∷ []) × (kept [] (text (codes "a")) ≡ text (codes "a") ∷ [])
     × (kept (gauge (limit 8 19) 9 ∷ []) (EntryShown 1 (Note 9 (codes "a") [])) ≡ EntryShown 1 (Note 9 (codes "a") []) ∷ [])
     × (kept (gauge (limit 8 19) 9 ∷ []) (LogEnds 1) ≡ LogEnds 1 ∷ [])
     × (kept (gauge (limit 8 19) 9 ∷ []) (Mentioned 1 9 Made [] NotOpened) ≡ Mentioned 1 9 Made [] NotOpened ∷ [])
@@ -72,19 +80,23 @@ kept_events = (refl, refl, refl, refl, refl, refl, refl, refl)
 
 gauges :
     (gauges_after limits [] (Requested (codes "a") (OpensHere 1)) ≡ gauge (limit 0 12) 0 ∷ [])
-    × (gauges_after limits (gauge (limit 6 20) 3 ∷ []) (Mentioned 1 9 Made (codes "b") (OpensHere 2)) ≡ gauge (limit 0 0) 0 ∷ gauge (limit 6 20) 3 ∷ [])
+    × (gauges_after limits (gauge (limit 6 20) 3 ∷ []) (Mentioned 1 9 Made (codes "b") (OpensHere 2))
+    ≡ gauge (limit 0 0) 0 ∷ gauge (limit 6 20) 3 ∷ [])
     × (gauges_after limits (gauge (limit 6 20) 3 ∷ []) (Mentioned 1 9 Made (codes "b") (OpenedBefore 0)) ≡ gauge (limit 6 20) 3 ∷ [])
     × (gauges_after limits (gauge (limit 6 20) 3 ∷ []) (Mentioned 1 9 Made (codes "b") NotOpened) ≡ gauge (limit 6 20) 3 ∷ [])
-    × (gauges_after limits (gauge (limit 0 12) 3 ∷ gauge (limit 6 20) 5 ∷ []) (LogEnds 2) ≡ gauge (limit 6 20) 5 ∷ []) × (gauges_after limits [] (LogEnds 0) ≡ [])
+    × (gauges_after limits (gauge (limit 0 12) 3 ∷ gauge (limit 6 20) 5 ∷ []) (LogEnds 2) ≡ gauge (limit 6 20) 5 ∷ [])
+    × (gauges_after limits [] (LogEnds 0) ≡ [])
     × (gauges_after limits (gauge (limit 6 20) 3 ∷ []) (EntryShown 1 (Closing 9 (pos 0))) ≡ gauge (limit 6 20) 3 ∷ [])
 gauges = (refl, refl, refl, refl, refl, refl, refl)
 
 -- Only the gauge of the innermost log counts a line, and only up to 2^64 - 1.
 text_gauges :
-    (gauges_after limits (gauge (limit 0 12) 3 ∷ gauge (limit 6 20) 5 ∷ []) (text (codes "ab")) ≡ gauge (limit 0 12) 6 ∷ gauge (limit 6 20) 5 ∷ []) × (gauges_after limits [] (text (codes "ab")) ≡ [])
+    (gauges_after limits (gauge (limit 0 12) 3 ∷ gauge (limit 6 20) 5 ∷ []) (text (codes "ab"))
+    ≡ gauge (limit 0 12) 6 ∷ gauge (limit 6 20) 5 ∷ []) × (gauges_after limits [] (text (codes "ab")) ≡ [])
     × (gauges_after limits (gauge (limit 6 20) 0xFFFFFFFFFFFFFFFE ∷ []) (text []) ≡ gauge (limit 6 20) 0xFFFFFFFFFFFFFFFF ∷ [])
     × (gauges_after limits (gauge (limit 6 20) 0xFFFFFFFFFFFFFFFE ∷ []) (text (codes "ab")) ≡ gauge (limit 6 20) 0xFFFFFFFFFFFFFFFF ∷ [])
-    × (after_shown (text (codes "ab")) (gauge (limit 0 12) 3 ∷ gauge (limit 6 20) 5 ∷ []) ≡ gauge (limit 0 12) 6 ∷ gauge (limit 6 20) 5 ∷ [])
+    × (after_shown (text (codes "ab")) (gauge (limit 0 12) 3 ∷ gauge (limit 6 20) 5 ∷ [])
+    ≡ gauge (limit 0 12) 6 ∷ gauge (limit 6 20) 5 ∷ [])
 text_gauges = (refl, refl, refl, refl, refl)
 
 -- ---- two logs, one in the other
@@ -95,26 +107,32 @@ lines line = EntryShown 2 (Text line)
 -- The lines of `a` begin at the bytes 0, 6, 12 and 20, and so do those of `b`.
 abbrev pub events : List Event
 events =
-    Requested (codes "a") (OpensHere 0) ∷ text (codes "a one") ∷ Mentioned 1 9 Made (codes "b") (OpensHere 1) ∷ lines (codes "b one") ∷ lines (codes "b two")
-    ∷ EntryShown 2 (Note 9 (codes "check") (codes "n")) ∷ lines (codes "b three") ∷ lines (codes "b four") ∷ LogEnds 2 ∷ text (codes "a two") ∷ text (codes "a three") ∷ text (codes "a four") ∷ LogEnds 1 ∷ []
+    Requested (codes "a") (OpensHere 0) ∷ text (codes "a one") ∷ Mentioned 1 9 Made (codes "b") (OpensHere 1) ∷ lines (codes "b one")
+    ∷ lines (codes "b two")
+    ∷ EntryShown 2 (Note 9 (codes "check") (codes "n")) ∷ lines (codes "b three") ∷ lines (codes "b four") ∷ LogEnds 2
+    ∷ text (codes "a two") ∷ text (codes "a three") ∷ text (codes "a four") ∷ LogEnds 1 ∷ []
 
 -- Of `a` the second line and the third one are left out, of `b` the first two.
 two_logs :
     trimmed limits [] events
-    ≡ Requested (codes "a") (OpensHere 0) ∷ text (codes "a one") ∷ Mentioned 1 9 Made (codes "b") (OpensHere 1) ∷ marker 2 ∷ EntryShown 2 (Note 9 (codes "check") (codes "n")) ∷ lines (codes "b three")
+    ≡ Requested (codes "a") (OpensHere 0) ∷ text (codes "a one") ∷ Mentioned 1 9 Made (codes "b") (OpensHere 1) ∷ marker 2
+    ∷ EntryShown 2 (Note 9 (codes "check") (codes "n")) ∷ lines (codes "b three")
     ∷ lines (codes "b four") ∷ LogEnds 2 ∷ marker 1 ∷ text (codes "a four") ∷ LogEnds 1 ∷ []
 two_logs = refl
 
 one_log : trimmed (limit 6 20 ∷ []) [] events
-    ≡ Requested (codes "a") (OpensHere 0) ∷ text (codes "a one") ∷ Mentioned 1 9 Made (codes "b") (OpensHere 1) ∷ lines (codes "b one") ∷ lines (codes "b two")
-    ∷ EntryShown 2 (Note 9 (codes "check") (codes "n")) ∷ lines (codes "b three") ∷ lines (codes "b four") ∷ LogEnds 2 ∷ marker 1 ∷ text (codes "a four") ∷ LogEnds 1 ∷ []
+    ≡ Requested (codes "a") (OpensHere 0) ∷ text (codes "a one") ∷ Mentioned 1 9 Made (codes "b") (OpensHere 1) ∷ lines (codes "b one")
+    ∷ lines (codes "b two")
+    ∷ EntryShown 2 (Note 9 (codes "check") (codes "n")) ∷ lines (codes "b three") ∷ lines (codes "b four") ∷ LogEnds 2 ∷ marker 1
+    ∷ text (codes "a four") ∷ LogEnds 1 ∷ []
 one_log = refl
 
 tree :
     trim limits [] (contents_of events)
     ≡ Opened (Requested (codes "a") (OpensHere 0)) 0
     (Shown (text (codes "a one")) (Opened (Mentioned 1 9 Made (codes "b") (OpensHere 1)) 1
-    (Shown (marker 2) (Shown (EntryShown 2 (Note 9 (codes "check") (codes "n"))) (Shown (lines (codes "b three")) (Shown (lines (codes "b four")) Nothing))))
+    (Shown (marker 2) (Shown (EntryShown 2 (Note 9 (codes "check") (codes "n")))
+    (Shown (lines (codes "b three")) (Shown (lines (codes "b four")) Nothing))))
     (Shown (marker 1) (Shown (text (codes "a four")) Nothing)))) Nothing
 tree = refl
 
@@ -123,13 +141,15 @@ other_tree :
     trim (limit 6 20 ∷ []) [] (contents_of events)
     ≡ Opened (Requested (codes "a") (OpensHere 0)) 0
     (Shown (text (codes "a one")) (Opened (Mentioned 1 9 Made (codes "b") (OpensHere 1)) 1
-    (Shown (lines (codes "b one")) (Shown (lines (codes "b two")) (Shown (EntryShown 2 (Note 9 (codes "check") (codes "n"))) (Shown (lines (codes "b three")) (Shown (lines (codes "b four")) Nothing)))))
+    (Shown (lines (codes "b one")) (Shown (lines (codes "b two"))
+    (Shown (EntryShown 2 (Note 9 (codes "check") (codes "n"))) (Shown (lines (codes "b three")) (Shown (lines (codes "b four")) Nothing)))))
     (Shown (marker 1) (Shown (text (codes "a four")) Nothing)))) Nothing
 other_tree = refl
 
 -- ---- what is no text line
 
-others : other_events (text (codes "a") ∷ marker 1 ∷ EntryShown 1 (Note 9 (codes "hint") []) ∷ Mentioned 1 9 Made [] NotOpened ∷ EntryShown 1 (Closing 9 (pos 0)) ∷ LogEnds 1 ∷ [])
+others : other_events (text (codes "a") ∷ marker 1 ∷ EntryShown 1 (Note 9 (codes "hint") []) ∷ Mentioned 1 9 Made [] NotOpened
+    ∷ EntryShown 1 (Closing 9 (pos 0)) ∷ LogEnds 1 ∷ [])
     ≡ EntryShown 1 (Note 9 (codes "hint") []) ∷ Mentioned 1 9 Made [] NotOpened ∷ EntryShown 1 (Closing 9 (pos 0)) ∷ LogEnds 1 ∷ []
 others = refl
 
@@ -147,7 +167,9 @@ parts :
     × (tail_lines (limit 8 4) five ≡ codes "three" ∷ codes "four" ∷ codes "five" ∷ [])
 parts = (refl, refl, refl, refl, refl, refl, refl, refl, refl, refl, refl)
 
-lines_of_logs : lines_in (contents_of (text (codes "x") ∷ Mentioned 1 9 Made [] (OpensHere 1) ∷ lines (codes "y") ∷ LogEnds 2 ∷ EntryShown 1 (Closing 9 (pos 0)) ∷ text (codes "z") ∷ [])) ≡ codes "x" ∷ codes "z" ∷ []
+lines_of_logs : lines_in (contents_of
+    (text (codes "x") ∷ Mentioned 1 9 Made [] (OpensHere 1) ∷ lines (codes "y") ∷ LogEnds 2 ∷ EntryShown 1 (Closing 9 (pos 0))
+    ∷ text (codes "z") ∷ [])) ≡ codes "x" ∷ codes "z" ∷ []
 lines_of_logs = refl
 
 -- ---- a form
@@ -162,6 +184,8 @@ number_bytes state event = state ∷ []
 abbrev number_after : ℕ → Event → ℕ
 number_after state event = state + 1
 
-forms : (given : Bor (List Limit)) → (form_bytes number_bytes number_after (form_at given 7 0) (text (codes "a")) ≡ 7 ∷ []) × (form_bytes number_bytes number_after (form_at given 7 9) (text (codes "a")) ≡ [])
-    × (form_after number_after (form_at given 7 0) (text (codes "a")) ≡ form_at given 8 2) × (form_after number_after (form_at given 7 9) (text (codes "a")) ≡ form_at given 7 11)
+forms : (given : Bor (List Limit)) → (form_bytes number_bytes number_after (form_at given 7 0) (text (codes "a")) ≡ 7 ∷ [])
+    × (form_bytes number_bytes number_after (form_at given 7 9) (text (codes "a")) ≡ [])
+    × (form_after number_after (form_at given 7 0) (text (codes "a")) ≡ form_at given 8 2)
+    × (form_after number_after (form_at given 7 9) (text (codes "a")) ≡ form_at given 7 11)
 forms given = (refl, refl, refl, refl)

@@ -76,20 +76,26 @@ pub const CASES: [Case; 14] = [
         NESTED,
         &[Limit { head: 6, tail: 20 }, Limit { head: 0, tail: 12 }],
         &["a"],
-        "redo  a\na one\nredo    b\nredo: Lines are left out here. The command at the end of this page shows all of them.\nredo      (n)\nb three\nb four\nredo: Lines are left out here. The command at the end of this page shows all of them.\na four\n",
+        "redo  a\na one\nredo    b\nredo: Lines are left out here. The command at the end of \
+            this page shows all of them.\nredo      (n)\nb three\nb four\n\
+            redo: Lines are left out here. The command at the end of this page shows all of them.\n\
+            a four\n",
     ),
     // The second log has no limit.
     (
         NESTED,
         &[Limit { head: 0, tail: 20 }],
         &["a"],
-        "redo  a\nredo: Lines are left out here. The command at the end of this page shows all of them.\nredo    b\nb one\nb two\nredo      (n)\nb three\nb four\na four\n",
+        "redo  a\nredo: Lines are left out here. The command at the end of this page shows all \
+            of them.\nredo    b\nb one\nb two\nredo      (n)\nb three\nb four\na four\n",
     ),
     // Logs are requested in another order. The last lines have no line feed.
     (
         &[("a", "a one\na two\na"), ("b", "b one\nb two\nb")],
         &[Limit { head: 5, tail: 12 }, Limit { head: 6, tail: 13 }],
         &["b", "a"],
-        "redo  b\nb one\nredo: Lines are left out here. The command at the end of this page shows all of them.\nredo  a\nredo: Lines are left out here. The command at the end of this page shows all of them.\na\n",
+        "redo  b\nb one\nredo: Lines are left out here. The command at the end of this page \
+            shows all of them.\nredo  a\nredo: Lines are left out here. The command at the end of \
+            this page shows all of them.\na\n",
     ),
 ];

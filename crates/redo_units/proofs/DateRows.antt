@@ -19,7 +19,8 @@ place period days = (period, days)
 
 -- A period of two days, then one of three, and so on.
 periods :
-    (period_of (λ n. n) 9 2 0 ≡ place 2 0) × (period_of (λ n. n) 9 2 1 ≡ place 2 1) × (period_of (λ n. n) 9 2 2 ≡ place 3 0) × (period_of (λ n. n) 9 2 4 ≡ place 3 2) × (period_of (λ n. n) 9 2 5 ≡ place 4 0) × (period_of (λ n. n) 1 2 9 ≡ place 3 7)
+    (period_of (λ n. n) 9 2 0 ≡ place 2 0) × (period_of (λ n. n) 9 2 1 ≡ place 2 1) × (period_of (λ n. n) 9 2 2 ≡ place 3 0)
+    × (period_of (λ n. n) 9 2 4 ≡ place 3 2) × (period_of (λ n. n) 9 2 5 ≡ place 4 0) × (period_of (λ n. n) 1 2 9 ≡ place 3 7)
     × (period_of (λ n. n) 0 2 9 ≡ place 2 9)
 unfolding period_of
 periods = (refl, refl, refl, refl, refl, refl, refl)
@@ -62,7 +63,64 @@ early_dates =
 
 these_dates : AllByRecursion (λ row. date_text_of row.secs ≡ row.text) early_dates
 unfolding date_text_of date_parts period_of
-these_dates = (refl, (refl, (refl, (refl, (refl, (refl, (refl, (refl, (refl, (refl, (refl, (refl, (refl, (refl, (refl, (refl, (refl, (refl, (refl, (refl, (refl, (refl, (refl, (refl, (refl, (refl, (refl, (refl, (refl, (refl, (refl, tt)))))))))))))))))))))))))))))))
+these_dates = (
+  refl,
+  (
+    refl,
+    (
+      refl,
+      (
+        refl,
+        (
+          refl,
+          (
+            refl,
+            (
+              refl,
+              (
+                refl,
+                (
+                  refl,
+                  (
+                    refl,
+                    (
+                      refl,
+                      (
+                        refl,
+                        (
+                          refl,
+                          (
+                            refl,
+                            (
+                              refl,
+                              (
+                                refl,
+                                (
+                                  refl,
+                                  (
+                                    refl,
+                                    (
+                                      refl,
+                                      (refl, (refl, (refl, (refl, (refl, (refl, (refl, (refl, (refl, (refl, (refl, (refl, tt)))))))))))),
+                                    ),
+                                  ),
+                                ),
+                              ),
+                            ),
+                          ),
+                        ),
+                      ),
+                    ),
+                  ),
+                ),
+              ),
+            ),
+          ),
+        ),
+      ),
+    ),
+  ),
+)
 
 -- The last date, and no date from the year 10000 on. 2^64 - 1 is the largest number of seconds.
 abbrev late_dates : List Row

@@ -15,13 +15,16 @@ use Rattle.redo_units.specs.Ticks.{axis_steps, tick_step_of}
 module _ (p : ℕ → Bool) where
   module _ (xs : List ℕ) (i d : ℕ) where
     split : i < length xs → find p (drop i xs) ≡ cond (p (get_or xs i d)) (Some (get_or xs i d)) (find p (drop (i + 1) xs))
-    split below = let next : suc i ≡ i + 1 = omega arith in ap (find p) (drop-cons xs i d below) ∙ ap (λ (n : ℕ). cond (p (get_or xs i d)) (Some (get_or xs i d)) (find p (drop n xs))) next
+    split below = let next : suc i ≡ i + 1 = omega arith in
+        ap (find p) (drop-cons xs i d below) ∙ ap (λ (n : ℕ). cond (p (get_or xs i d)) (Some (get_or xs i d)) (find p (drop n xs))) next
 
     pub passed : i < length xs → p (get_or xs i d) ≡ false → find p (drop i xs) ≡ find p xs → find p (drop (i + 1) xs) ≡ find p xs
-    passed below fails before = sym (split below ∙ ap (λ (b : Bool). cond b (Some (get_or xs i d)) (find p (drop (i + 1) xs))) fails) ∙ before
+    passed below fails before = sym (split below ∙ ap (λ (b : Bool). cond b (Some (get_or xs i d)) (find p (drop (i + 1) xs))) fails)
+        ∙ before
 
     pub found : i < length xs → p (get_or xs i d) ≡ true → find p (drop i xs) ≡ find p xs → find p xs ≡ Some (get_or xs i d)
-    found below passes before = sym before ∙ split below ∙ ap (λ (b : Bool). cond b (Some (get_or xs i d)) (find p (drop (i + 1) xs))) passes
+    found below passes before = sym before ∙ split below
+        ∙ ap (λ (b : Bool). cond b (Some (get_or xs i d)) (find p (drop (i + 1) xs))) passes
 
     pub not_found : length xs ≤ i → find p (drop i xs) ≡ find p xs → find p xs ≡ None
     not_found done before = sym before ∙ ap (find p) (drop_all i xs done)
@@ -30,7 +33,8 @@ module _ (p : ℕ → Bool) where
   Outcome : ℕ → ℕ → Bool → Type 0
   Outcome default result any = ((0 < result) × (p result ≡ true)) ⊎ ((result ≡ default) × (any ≡ false))
 
-  outcome-cons : (default x : ℕ) (b : Bool) (rest : Option ℕ) (any : Bool) → 0 < x → p x ≡ b → Outcome default (unwrap_or rest default) any → Outcome default (unwrap_or (cond b (Some x) rest) default) (b || any)
+  outcome-cons : (default x : ℕ) (b : Bool) (rest : Option ℕ) (any : Bool) → 0 < x → p x ≡ b → Outcome default (unwrap_or rest default) any
+      → Outcome default (unwrap_or (cond b (Some x) rest) default) (b || any)
   unfolding Outcome
   outcome-cons default x true rest any positive passes outcome = inl (positive, passes)
   outcome-cons default x false rest any positive passes outcome = outcome
@@ -48,15 +52,21 @@ module _ (width : ℕ) where
 
   -- `product` is ten times the step, but at most 2^64 - 1.
   module _ (i d product : ℕ) where
-    pub step_passed : i < length axis_steps → product ≡ min (get_or axis_steps i d * 10) 18446744073709551615 → product < width → width < 2 ^ 64 → find suffices (drop i axis_steps) ≡ find suffices axis_steps
+    pub step_passed : i < length axis_steps → product ≡ min (get_or axis_steps i d * 10) 18446744073709551615 → product < width
+        → width < 2 ^ 64 → find suffices (drop i axis_steps) ≡ find suffices axis_steps
         → find suffices (drop (i + 1) axis_steps) ≡ find suffices axis_steps
-    step_passed below is less fits before = passed suffices axis_steps i d below (lt-leb width (get_or axis_steps i d * 10) (omega (arith, is, less, fits))) before
+    step_passed below is less fits before =
+        passed suffices axis_steps i d below (lt-leb width (get_or axis_steps i d * 10) (omega (arith, is, less, fits))) before
 
-    pub step_found : i < length axis_steps → product ≡ min (get_or axis_steps i d * 10) 18446744073709551615 → width ≤ product → find suffices (drop i axis_steps) ≡ find suffices axis_steps → get_or axis_steps i d ≡ tick_step_of width
+    pub step_found : i < length axis_steps → product ≡ min (get_or axis_steps i d * 10) 18446744073709551615 → width ≤ product
+        → find suffices (drop i axis_steps) ≡ find suffices axis_steps → get_or axis_steps i d ≡ tick_step_of width
     unfolding tick_step_of
-    step_found below is le before = sym (ap (λ (o : Option ℕ). unwrap_or o width) (found suffices axis_steps i d below (le-leb width (get_or axis_steps i d * 10) (omega (arith, is, le))) before))
+    step_found below is le before = sym
+        (ap (λ (o : Option ℕ). unwrap_or o width)
+        (found suffices axis_steps i d below (le-leb width (get_or axis_steps i d * 10) (omega (arith, is, le))) before))
 
-  pub no_step_found : (i : ℕ) → length axis_steps ≤ i → find suffices (drop i axis_steps) ≡ find suffices axis_steps → width ≡ tick_step_of width
+  pub no_step_found : (i : ℕ) → length axis_steps ≤ i → find suffices (drop i axis_steps) ≡ find suffices axis_steps
+      → width ≡ tick_step_of width
   unfolding tick_step_of
   no_step_found i done before = sym (ap (λ (o : Option ℕ). unwrap_or o width) (not_found suffices axis_steps i 0 done before))
 

@@ -47,14 +47,57 @@ ticks =
 
 these_ticks : AllByRecursion (λ row. tick_text row.ms row.step ≡ row.text) ticks
 unfolding tick_words decimal_text digits
-these_ticks = (refl, (refl, (refl, (refl, (refl, (refl, (refl, (refl, (refl, (refl, (refl, (refl, (refl, (refl, (refl, (refl, (refl, (refl, (refl, (refl, (refl, (refl, (refl, (refl, (refl, (refl, tt))))))))))))))))))))))))))
+these_ticks = (
+  refl,
+  (
+    refl,
+    (
+      refl,
+      (
+        refl,
+        (
+          refl,
+          (
+            refl,
+            (
+              refl,
+              (
+                refl,
+                (
+                  refl,
+                  (
+                    refl,
+                    (
+                      refl,
+                      (
+                        refl,
+                        (
+                          refl,
+                          (
+                            refl,
+                            (refl, (refl, (refl, (refl, (refl, (refl, (refl, (refl, (refl, (refl, (refl, (refl, tt)))))))))))),
+                          ),
+                        ),
+                      ),
+                    ),
+                  ),
+                ),
+              ),
+            ),
+          ),
+        ),
+      ),
+    ),
+  ),
+)
 
 -- Each tick has six words, and some are empty.
 words :
     (tick_words 0 1 ≡ NumberWord 0 ∷ TextWord [] ∷ TextWord [] ∷ TextWord [] ∷ TextWord [] ∷ TextWord [] ∷ [])
     × (tick_words 1230 10 ≡ NumberWord 1 ∷ TextWord (codes ".") ∷ NumberWord 2 ∷ NumberWord 3 ∷ TextWord [] ∷ TextWord (codes " s") ∷ [])
     × (tick_words 125000 5000 ≡ NumberWord 2 ∷ TextWord (codes ":") ∷ NumberWord 0 ∷ NumberWord 5 ∷ TextWord [] ∷ TextWord [] ∷ [])
-    × (tick_words 3725000 300000 ≡ NumberWord 1 ∷ TextWord (codes ":") ∷ NumberWord 0 ∷ NumberWord 2 ∷ TextWord (codes " h") ∷ TextWord [] ∷ [])
+    × (tick_words 3725000 300000 ≡ NumberWord 1 ∷ TextWord (codes ":") ∷ NumberWord 0 ∷ NumberWord 2 ∷ TextWord (codes " h")
+    ∷ TextWord [] ∷ [])
 unfolding tick_words
 words = (refl, refl, refl, refl)
 
@@ -98,7 +141,49 @@ widest =
 
 these_steps : AllByRecursion (λ row. tick_step_of row.width ≡ row.step) widest
 unfolding tick_step_of
-these_steps = (refl, (refl, (refl, (refl, (refl, (refl, (refl, (refl, (refl, (refl, (refl, (refl, (refl, (refl, (refl, (refl, (refl, (refl, (refl, (refl, (refl, (refl, (refl, (refl, (refl, (refl, tt))))))))))))))))))))))))))
+these_steps = (
+  refl,
+  (
+    refl,
+    (
+      refl,
+      (
+        refl,
+        (
+          refl,
+          (
+            refl,
+            (
+              refl,
+              (
+                refl,
+                (
+                  refl,
+                  (
+                    refl,
+                    (
+                      refl,
+                      (
+                        refl,
+                        (
+                          refl,
+                          (
+                            refl,
+                            (refl, (refl, (refl, (refl, (refl, (refl, (refl, (refl, (refl, (refl, (refl, (refl, tt)))))))))))),
+                          ),
+                        ),
+                      ),
+                    ),
+                  ),
+                ),
+              ),
+            ),
+          ),
+        ),
+      ),
+    ),
+  ),
+)
 
 abbrev other_widths : List StepRow
 other_widths =

@@ -21,8 +21,10 @@ words_of = (refl, refl)
 
 -- The largest number is 2^64 - 1.
 words :
-    (words_text [] ≡ []) × (words_text (TextWord (codes " min ") ∷ []) ≡ codes " min ") × (words_text (NumberWord 0 ∷ NumberWord 5 ∷ TextWord (codes " s") ∷ []) ≡ codes "05 s")
-    × (words_text (NumberWord 18446744073709551615 ∷ []) ≡ codes "18446744073709551615") × (words_text (NumberWord 18446744073709551616 ∷ []) ≡ [])
+    (words_text [] ≡ []) × (words_text (TextWord (codes " min ") ∷ []) ≡ codes " min ")
+    × (words_text (NumberWord 0 ∷ NumberWord 5 ∷ TextWord (codes " s") ∷ []) ≡ codes "05 s")
+    × (words_text (NumberWord 18446744073709551615 ∷ []) ≡ codes "18446744073709551615")
+    × (words_text (NumberWord 18446744073709551616 ∷ []) ≡ [])
 unfolding decimal_text digits
 words = (refl, refl, refl, refl, refl)
 
@@ -50,13 +52,23 @@ durations =
 
 these_durations : AllByRecursion (λ row. duration_text row.number ≡ row.text) durations
 unfolding duration_words decimal_text digits
-these_durations = (refl, (refl, (refl, (refl, (refl, (refl, (refl, (refl, (refl, (refl, (refl, (refl, (refl, (refl, (refl, (refl, (refl, (refl, tt))))))))))))))))))
+these_durations = (
+  refl,
+  (
+    refl,
+    (
+      refl,
+      (refl, (refl, (refl, (refl, (refl, (refl, (refl, (refl, (refl, (refl, (refl, (refl, (refl, (refl, (refl, tt))))))))))))))),
+    ),
+  ),
+)
 
 -- A duration has five words, and a size four. Words that are not used are empty and at the end.
 places :
     (duration_words 12345 ≡ NumberWord 12 ∷ TextWord (codes ".") ∷ NumberWord 3 ∷ TextWord (codes " s") ∷ TextWord [] ∷ [])
     × (duration_words 125000 ≡ NumberWord 2 ∷ TextWord (codes " min ") ∷ NumberWord 0 ∷ NumberWord 5 ∷ TextWord (codes " s") ∷ [])
-    × (size_words 1 ≡ NumberWord 1 ∷ TextWord (codes " byte") ∷ TextWord [] ∷ TextWord [] ∷ []) × (size_words 46099 ≡ NumberWord 46 ∷ TextWord (codes ".") ∷ NumberWord 0 ∷ TextWord (codes " kB") ∷ [])
+    × (size_words 1 ≡ NumberWord 1 ∷ TextWord (codes " byte") ∷ TextWord [] ∷ TextWord [] ∷ [])
+    × (size_words 46099 ≡ NumberWord 46 ∷ TextWord (codes ".") ∷ NumberWord 0 ∷ TextWord (codes " kB") ∷ [])
     × (tenths_words 5 2 ≡ NumberWord 2 ∷ TextWord (codes ".") ∷ NumberWord 5 ∷ [])
 unfolding duration_words size_words tenths_words
 places = (refl, refl, refl, refl, refl)
@@ -92,8 +104,11 @@ tenths_text amount per = words_text (tenths_words amount per)
 
 -- The last two are of 2^64 / 10, of which the tenfold is at most 2^64 - 1, and of 2^64 - 1.
 quotients :
-    (tenths_text 0 7 ≡ codes "0.0") × (tenths_text 5 2 ≡ codes "2.5") × (tenths_text 2 3 ≡ codes "0.6") × (tenths_text 40 10 ≡ codes "4.0") × (tenths_text 123 1 ≡ codes "123.0")
-    × (tenths_text 7 0 ≡ codes "7.0") × (tenths_text 0 0 ≡ codes "0.0") × (tenths_text 1 18446744073709551615 ≡ codes "0.0") × (tenths_text 1844674407370955161 10 ≡ codes "184467440737095516.1")
-    × (tenths_text 1844674407370955162 1 ≡ codes "1844674407370955161.5") × (tenths_text 18446744073709551615 18446744073709551615 ≡ codes "0.1")
+    (tenths_text 0 7 ≡ codes "0.0") × (tenths_text 5 2 ≡ codes "2.5") × (tenths_text 2 3 ≡ codes "0.6") × (tenths_text 40 10 ≡ codes "4.0")
+    × (tenths_text 123 1 ≡ codes "123.0")
+    × (tenths_text 7 0 ≡ codes "7.0") × (tenths_text 0 0 ≡ codes "0.0") × (tenths_text 1 18446744073709551615 ≡ codes "0.0")
+    × (tenths_text 1844674407370955161 10 ≡ codes "184467440737095516.1")
+    × (tenths_text 1844674407370955162 1 ≡ codes "1844674407370955161.5")
+    × (tenths_text 18446744073709551615 18446744073709551615 ≡ codes "0.1")
 unfolding tenths_words decimal_text digits
 quotients = (refl, refl, refl, refl, refl, refl, refl, refl, refl, refl, refl)

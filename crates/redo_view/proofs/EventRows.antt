@@ -46,7 +46,8 @@ shallow_locks = record locks { recursive = false }
 
 -- Whether a log is opened: it may be or not, it was or not, and it has a number or not.
 openings :
-    (opening_of true false None ≡ NotOpened) × (opening_of true false (Some 3) ≡ OpensHere 3) × (opening_of false false (Some 3) ≡ NotOpened)
+    (opening_of true false None ≡ NotOpened) × (opening_of true false (Some 3) ≡ OpensHere 3)
+    × (opening_of false false (Some 3) ≡ NotOpened)
     × (opening_of true true (Some 3) ≡ OpenedBefore 3) × (opening_of false true (Some 3) ≡ OpenedBefore 3)
 openings = (refl, refl, refl, refl, refl)
 
@@ -55,18 +56,23 @@ opens = (refl, refl, refl)
 
 -- A log ends after the logs that it opens. `x` has no log, and `a` was opened before.
 abbrev logs : List Log
-logs = log a (Mention 7 Made b ∷ Mention 8 Waiting b ∷ Mention 7 Made x ∷ Text (codes "t") ∷ Closing 7 (pos 0) ∷ []) ∷ log b (Mention 9 Made a ∷ Done 9 (pos 2) x ∷ []) ∷ []
+logs = log a (Mention 7 Made b ∷ Mention 8 Waiting b ∷ Mention 7 Made x ∷ Text (codes "t") ∷ Closing 7 (pos 0) ∷ [])
+    ∷ log b (Mention 9 Made a ∷ Done 9 (pos 2) x ∷ []) ∷ []
 
 all_events :
     (shown_events logs locks (a ∷ b ∷ [])
-    ≡ Requested a (OpensHere 0) ∷ Mentioned 1 7 Made b (OpensHere 1) ∷ Mentioned 2 9 Made a (OpenedBefore 0) ∷ EntryShown 2 (Done 9 (pos 2) x) ∷ LogEnds 2
-    ∷ Mentioned 1 8 Waiting b (OpenedBefore 1) ∷ Mentioned 1 7 Made x NotOpened ∷ EntryShown 1 (Text (codes "t")) ∷ EntryShown 1 (Closing 7 (pos 0)) ∷ LogEnds 1 ∷ [])
+    ≡ Requested a (OpensHere 0) ∷ Mentioned 1 7 Made b (OpensHere 1) ∷ Mentioned 2 9 Made a (OpenedBefore 0)
+    ∷ EntryShown 2 (Done 9 (pos 2) x) ∷ LogEnds 2
+    ∷ Mentioned 1 8 Waiting b (OpenedBefore 1) ∷ Mentioned 1 7 Made x NotOpened ∷ EntryShown 1 (Text (codes "t"))
+    ∷ EntryShown 1 (Closing 7 (pos 0)) ∷ LogEnds 1 ∷ [])
     × (shown_events logs options (b ∷ a ∷ [])
-    ≡ Requested b (OpensHere 1) ∷ Mentioned 1 9 Made a (OpensHere 0) ∷ Mentioned 2 7 Made x NotOpened ∷ EntryShown 2 (Text (codes "t")) ∷ EntryShown 2 (Closing 7 (pos 0)) ∷ LogEnds 2
+    ≡ Requested b (OpensHere 1) ∷ Mentioned 1 9 Made a (OpensHere 0) ∷ Mentioned 2 7 Made x NotOpened ∷ EntryShown 2 (Text (codes "t"))
+    ∷ EntryShown 2 (Closing 7 (pos 0)) ∷ LogEnds 2
     ∷ EntryShown 1 (Done 9 (pos 2) x) ∷ LogEnds 1 ∷ [])
     × (shown_events logs shallow (b ∷ a ∷ [])
     ≡ Requested b (OpensHere 1) ∷ Mentioned 1 9 Made a NotOpened ∷ EntryShown 1 (Done 9 (pos 2) x) ∷ LogEnds 1
-    ∷ Requested a (OpensHere 0) ∷ Mentioned 1 7 Made x NotOpened ∷ EntryShown 1 (Text (codes "t")) ∷ EntryShown 1 (Closing 7 (pos 0)) ∷ LogEnds 1 ∷ [])
+    ∷ Requested a (OpensHere 0) ∷ Mentioned 1 7 Made x NotOpened ∷ EntryShown 1 (Text (codes "t")) ∷ EntryShown 1 (Closing 7 (pos 0))
+    ∷ LogEnds 1 ∷ [])
     × (shown_events logs shallow_locks (a ∷ [])
     ≡ Requested a (OpensHere 0) ∷ Mentioned 1 7 Made b NotOpened ∷ Mentioned 1 8 Waiting b NotOpened ∷ Mentioned 1 7 Made x NotOpened
     ∷ EntryShown 1 (Text (codes "t")) ∷ EntryShown 1 (Closing 7 (pos 0)) ∷ LogEnds 1 ∷ [])
@@ -76,8 +82,10 @@ all_events = (refl, refl, refl, refl, refl)
 
 -- The text of each event.
 texts :
-    (event_text locks (Requested a (OpensHere 0)) ≡ codes "redo  a\n") × (event_text locks (Mentioned 1 7 Waiting b NotOpened) ≡ codes "redo    b (WAITING)\n")
-    × (event_text options (Mentioned 1 7 Waiting b (OpensHere 1)) ≡ codes "redo    b\n") × (event_text options (EntryShown 2 (Text (codes "t"))) ≡ codes "t\n")
+    (event_text locks (Requested a (OpensHere 0)) ≡ codes "redo  a\n")
+    × (event_text locks (Mentioned 1 7 Waiting b NotOpened) ≡ codes "redo    b (WAITING)\n")
+    × (event_text options (Mentioned 1 7 Waiting b (OpensHere 1)) ≡ codes "redo    b\n")
+    × (event_text options (EntryShown 2 (Text (codes "t"))) ≡ codes "t\n")
     × (event_text options (EntryShown 2 (Note 7 (codes "check") b)) ≡ codes "redo      (b)\n") × (event_text options (LogEnds 2) ≡ [])
 texts = (refl, refl, refl, refl, refl, refl)
 
@@ -86,20 +94,30 @@ abbrev at : List ℕ → Bor (List ℕ)
 at bytes = record { ref_ptr = (0, 0); now = bytes }
 
 values :
-    (event_value (ref.Requested (at a) (OpensHere 1)) ≡ Requested a (OpensHere 1)) × (event_value (ref.Mentioned 2 7 Locked (at a) NotOpened) ≡ Mentioned 2 7 Locked a NotOpened)
+    (event_value (ref.Requested (at a) (OpensHere 1)) ≡ Requested a (OpensHere 1))
+    × (event_value (ref.Mentioned 2 7 Locked (at a) NotOpened) ≡ Mentioned 2 7 Locked a NotOpened)
     × (event_value (ref.EntryShown 2 (of.Note 7 (at a) (at b))) ≡ EntryShown 2 (Note 7 a b)) × (event_value (ref.LogEnds 2) ≡ LogEnds 2)
 values = (refl, refl, refl, refl)
 
 written_alone :
-    IsWrittenAlone (ref.Requested (at a) (OpensHere 1)) × IsWrittenAlone (ref.Mentioned 2 7 Locked (at a) NotOpened) × IsWrittenAlone (ref.EntryShown 2 (of.Note 7 (at a) (at b)))
-    × IsWrittenAlone (ref.EntryShown 2 (of.Done 7 (pos 1) (at a))) × IsWrittenAlone (ref.EntryShown 2 (of.Closing 7 (pos 1))) × IsWrittenAlone (ref.LogEnds 2)
+    IsWrittenAlone (ref.Requested (at a) (OpensHere 1)) × IsWrittenAlone (ref.Mentioned 2 7 Locked (at a) NotOpened)
+    × IsWrittenAlone (ref.EntryShown 2 (of.Note 7 (at a) (at b)))
+    × IsWrittenAlone (ref.EntryShown 2 (of.Done 7 (pos 1) (at a))) × IsWrittenAlone (ref.EntryShown 2 (of.Closing 7 (pos 1)))
+    × IsWrittenAlone (ref.LogEnds 2)
 written_alone = (tt, omega arith, (omega arith, tt), (omega arith, tt), (omega arith, tt), omega arith)
 
 -- A text line isn't, nor is a mention as an entry, nor an event that is too deep.
 not_written_alone :
-    (IsWrittenAlone (ref.EntryShown 2 (of.Text (at a))) → ⊥) × (IsWrittenAlone (ref.EntryShown 2 (of.Mention 7 Made (at a))) → ⊥) × (IsWrittenAlone (ref.Mentioned (2 ^ 60) 7 Locked (at a) NotOpened) → ⊥)
+    (IsWrittenAlone (ref.EntryShown 2 (of.Text (at a))) → ⊥) × (IsWrittenAlone (ref.EntryShown 2 (of.Mention 7 Made (at a))) → ⊥)
+    × (IsWrittenAlone (ref.Mentioned (2 ^ 60) 7 Locked (at a) NotOpened) → ⊥)
     × (IsWrittenAlone (ref.EntryShown (2 ^ 60) (of.Closing 7 (pos 1))) → ⊥) × (IsWrittenAlone (ref.LogEnds (2 ^ 60)) → ⊥)
-not_written_alone = ((λ is. is.1), (λ is. is.1), (λ is. omega (arith, is)), (λ is. let below = is.0 in omega (arith, below)), (λ is. omega (arith, is)))
+not_written_alone = (
+  (λ is. is.1),
+  (λ is. is.1),
+  (λ is. omega (arith, is)),
+  (λ is. let below = is.0 in omega (arith, below)),
+  (λ is. omega (arith, is)),
+)
 
 -- A form that writes the number of events before an event.
 abbrev count_bytes : ℕ → Event → List ℕ
@@ -121,7 +139,8 @@ abbrev took : List ℕ → ℕ → Option Output
 took bytes failures = Some (record { bytes = bytes; failures = failures })
 
 writes :
-    FormWrites (took [] 0) (took (codes "abc") 0) (codes "abc") (Ok tt) × FormWrites (took [] 0) (took (codes "ab") 1) (codes "abc") (Err Write)
+    FormWrites (took [] 0) (took (codes "abc") 0) (codes "abc") (Ok tt)
+    × FormWrites (took [] 0) (took (codes "ab") 1) (codes "abc") (Err Write)
     × FormWrites (took [] 0) (took (codes "ab") 0) (codes "abc") (Err OutOfMemory)
 writes = (refl, (2, omega arith, refl), (2, refl))
 
@@ -134,14 +153,21 @@ failures_in None = 0
 failures_in (Some taken) = taken.failures
 
 writes_not :
-    (FormWrites (took [] 0) (took (codes "ab") 0) (codes "abc") (Ok tt) → ⊥) × (FormWrites (took [] 0) (took (codes "ab") 0) (codes "abc") (Err Write) → ⊥)
+    (FormWrites (took [] 0) (took (codes "ab") 0) (codes "abc") (Ok tt) → ⊥)
+    × (FormWrites (took [] 0) (took (codes "ab") 0) (codes "abc") (Err Write) → ⊥)
     × (FormWrites (took [] 0) (took (codes "ab") 1) (codes "abc") (Err OutOfMemory) → ⊥)
-writes_not = ((λ is. let bytes = ap bytes_in is in cc), (λ is. let failures = ap failures_in is.2 in cc), (λ is. let failures = ap failures_in is.1 in cc))
+writes_not = (
+  (λ is. let bytes = ap bytes_in is in cc),
+  (λ is. let failures = ap failures_in is.2 in cc),
+  (λ is. let failures = ap failures_in is.1 in cc),
+)
 
 -- The number of open logs: an event's depth must be this number, and a log must be open to end.
 open_logs :
-    (open_after 0 (Requested a (OpensHere 0)) ≡ Some 1) × (open_after 1 (Requested a (OpensHere 0)) ≡ None) × (open_after 0 (Requested a NotOpened) ≡ Some 0)
-    × (open_after 1 (Mentioned 1 7 Made b (OpensHere 1)) ≡ Some 2) × (open_after 1 (Mentioned 1 7 Made b (OpenedBefore 1)) ≡ Some 1) × (open_after 2 (Mentioned 1 7 Made b NotOpened) ≡ None)
+    (open_after 0 (Requested a (OpensHere 0)) ≡ Some 1) × (open_after 1 (Requested a (OpensHere 0)) ≡ None)
+    × (open_after 0 (Requested a NotOpened) ≡ Some 0)
+    × (open_after 1 (Mentioned 1 7 Made b (OpensHere 1)) ≡ Some 2) × (open_after 1 (Mentioned 1 7 Made b (OpenedBefore 1)) ≡ Some 1)
+    × (open_after 2 (Mentioned 1 7 Made b NotOpened) ≡ None)
     × (open_after 2 (EntryShown 2 (Closing 7 (pos 0))) ≡ Some 2) × (open_after 1 (EntryShown 2 (Closing 7 (pos 0))) ≡ None)
     × (open_after 2 (LogEnds 2) ≡ Some 1) × (open_after 2 (LogEnds 1) ≡ None) × (open_after 0 (LogEnds 0) ≡ None)
 open_logs = (refl, refl, refl, refl, refl, refl, refl, refl, refl, refl, refl)

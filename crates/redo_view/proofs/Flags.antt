@@ -24,13 +24,16 @@ use Rattle.redo_view.proofs.Shifting.{first_log}
 -- ---- flags
 
 -- The flag with a number is the flag of the name with this number.
-pub flag_at : (names others : Names) (number : ℕ) → number < length names → is_set (flags_of names others) number ≡ is_among (name_at names number) others
+pub flag_at : (names others : Names) (number : ℕ) → number < length names
+    → is_set (flags_of names others) number ≡ is_among (name_at names number) others
 flag_at names others number below = get_or-map (λ name. is_among name others) names number [] false below
 
 -- A flag that was read.
-flag_read : (flags : List Bool) (number : ℕ) (flag : Bool) → number < length flags → flag ≡ get_or flags number flag → flag ≡ is_set flags number
+flag_read : (flags : List Bool) (number : ℕ) (flag : Bool) → number < length flags → flag ≡ get_or flags number flag
+    → flag ≡ is_set flags number
 flag_read flags number flag below read =
-    read ∙ same_Some (get_or flags number flag) (is_set flags number) (sym (slice_get-get_or flags number flag below) ∙ slice_get-get_or flags number false below)
+    read ∙ same_Some (get_or flags number flag) (is_set flags number)
+    (sym (slice_get-get_or flags number flag below) ∙ slice_get-get_or flags number false below)
 
 or_none : (b : Bool) → (b || false) ≡ b
 or_none true = refl
@@ -57,20 +60,26 @@ module _ (others : Names) where
     where
       by : (there : Bool) → is_among name (if there then others else others ++ new ∷ []) ≡ is_among name others
       by true = refl
-      by false = list_any-append (pointwise nat_eq name) others (new ∷ []) ∙ ap (λ b. is_among name others || (b || false)) differs ∙ or_none (is_among name others)
+      by false = list_any-append (pointwise nat_eq name) others (new ∷ []) ∙ ap (λ b. is_among name others || (b || false)) differs
+          ∙ or_none (is_among name others)
 
-  insert_others : (new : List ℕ) (names : Names) → AllByRecursion (λ name. pointwise nat_eq new name ≡ false) names → flags_of names (insert_name new others) ≡ flags_of names others
+  insert_others : (new : List ℕ) (names : Names) → AllByRecursion (λ name. pointwise nat_eq new name ≡ false) names
+      → flags_of names (insert_name new others) ≡ flags_of names others
   insert_others new [] differ = refl
-  insert_others new (name ∷ names) differ = λ i. insert_other new name (nat_list_eq_equiv.symm name new ∙ differ.0) i ∷ insert_others new names differ.1 i
+  insert_others new (name ∷ names) differ =
+      λ i. insert_other new name (nat_list_eq_equiv.symm name new ∙ differ.0) i ∷ insert_others new names differ.1 i
 
   -- Setting the flag of a number inserts its name.
-  pub set_flag-inserts : (names : Names) (number : ℕ) → IsDistinct (pointwise nat_eq) names → number < length names → set_flag (flags_of names others) number ≡ flags_of names (insert_name (name_at names number) others)
+  pub set_flag-inserts : (names : Names) (number : ℕ) → IsDistinct (pointwise nat_eq) names → number < length names
+      → set_flag (flags_of names others) number ≡ flags_of names (insert_name (name_at names number) others)
   unfolding IsDistinct
   set_flag-inserts [] number distinct below = absurd (omega (arith, below))
   set_flag-inserts (name ∷ names) zero distinct below = λ i. sym (insert_has name) i ∷ sym (insert_others name names distinct.0) i
   set_flag-inserts (name ∷ names) (suc number) distinct below =
       let less : number < length names = omega (arith, below) in
-      λ i. sym (insert_other (name_at names number) name (all_at (λ other. pointwise nat_eq name other ≡ false) names number distinct.0 less)) i ∷ set_flag-inserts names number distinct.1 less i
+      λ i. sym (insert_other (name_at names number) name
+      (all_at (λ other. pointwise nat_eq name other ≡ false) names number distinct.0 less)) i
+      ∷ set_flag-inserts names number distinct.1 less i
 
 -- ---- a viewer's flags
 
@@ -80,7 +89,8 @@ module _ (numbering : Numbering) where
 
   module _ (visited : Visited) (state : ViewState) (is : MatchesFlags numbering visited state) where
     -- The flag of a log states whether its target was opened.
-    pub was_opened : (target : List ℕ) (number : ℕ) → log_number target numbering.logs ≡ Some number → is_set visited.opened.items number ≡ is_among target state.opened
+    pub was_opened : (target : List ℕ) (number : ℕ) → log_number target numbering.logs ≡ Some number
+        → is_set visited.opened.items number ≡ is_among target state.opened
     was_opened target number looked_up =
         let first = first_log target numbering.logs number looked_up in
         ap (λ flags. is_set flags number) is.opened
@@ -88,29 +98,35 @@ module _ (numbering : Numbering) where
         ∙ ap (λ name. is_among name state.opened) (get_or_from_slice_get (targets_of numbering.logs) number target [] first.0)
 
     -- The same for a flag that was read.
-    pub flag_is : (target : List ℕ) (number : ℕ) (flag : Bool) → Fits numbering visited → log_number target numbering.logs ≡ Some number → flag ≡ get_or visited.opened.items number flag → flag ≡ is_among target state.opened
+    pub flag_is : (target : List ℕ) (number : ℕ) (flag : Bool) → Fits numbering visited → log_number target numbering.logs ≡ Some number
+        → flag ≡ get_or visited.opened.items number flag → flag ≡ is_among target state.opened
     flag_is target number flag fits looked_up read =
         let below = (first_log target numbering.logs number looked_up).2 in
         flag_read visited.opened.items number flag (omega (arith, below, fits.logs)) read ∙ was_opened target number looked_up
 
     module _ (fits : Fits numbering visited) where
       -- A log that wasn't opened is begun.
-      pub begins : (after : Visited) (target : List ℕ) (number name : ℕ) → log_number target numbering.logs ≡ Some number → is_set visited.opened.items number ≡ false
+      pub begins : (after : Visited) (target : List ℕ) (number name : ℕ) → log_number target numbering.logs ≡ Some number
+          → is_set visited.opened.items number ≡ false
           → name < length numbering.names → slice_get (targets_of numbering.logs) number ≡ Some (name_at numbering.names name)
-          → after.named.items ≡ set_flag visited.named.items name → after.opened.items ≡ set_flag visited.opened.items number → MatchesFlags numbering after (begin_log target state)
+          → after.named.items ≡ set_flag visited.named.items name → after.opened.items ≡ set_flag visited.opened.items number
+          → MatchesFlags numbering after (begin_log target state)
       begins after target number name looked_up new below named named_then opened_then =
           let first = first_log target numbering.logs number looked_up in
-          let target_is : name_at (targets_of numbering.logs) number ≡ target = get_or_from_slice_get (targets_of numbering.logs) number target [] first.0 in
+          let target_is : name_at (targets_of numbering.logs) number ≡ target =
+          get_or_from_slice_get (targets_of numbering.logs) number target [] first.0 in
           let name_is : name_at numbering.names name ≡ target =
           sym (get_or_from_slice_get (targets_of numbering.logs) number (name_at numbering.names name) [] named) ∙ target_is in
           let absent = sym (was_opened target number looked_up) ∙ new in
           record {
             named =
-                named_then ∙ ap (λ flags. set_flag flags name) is.named ∙ set_flag-inserts state.named numbering.names name fits.names_differ below
+                named_then ∙ ap (λ flags. set_flag flags name) is.named
+                ∙ set_flag-inserts state.named numbering.names name fits.names_differ below
                 ∙ ap (λ new. flags_of numbering.names (insert_name new state.named)) name_is;
             opened =
                 opened_then ∙ ap (λ flags. set_flag flags number) is.opened
-                ∙ set_flag-inserts state.opened (targets_of numbering.logs) number fits.table.targets_differ (omega (arith, first.2, count_targets))
+                ∙ set_flag-inserts state.opened (targets_of numbering.logs) number fits.table.targets_differ
+                (omega (arith, first.2, count_targets))
                 ∙ ap (λ new. flags_of (targets_of numbering.logs) (insert_name new state.opened)) target_is
                 ∙ ap (flags_of (targets_of numbering.logs)) (insert_name-new target state.opened absent);
           }
@@ -119,20 +135,27 @@ module _ (numbering : Numbering) where
 
       module _ (options : Options) where
         -- Whether a mention opens its target's log.
-        opening_is : (target : List ℕ) → opening_by options.recursive visited.opened.items (log_number target numbering.logs) ≡ alone.opening_after numbering.logs options target state.opened
+        opening_is : (target : List ℕ) → opening_by options.recursive visited.opened.items (log_number target numbering.logs)
+            ≡ alone.opening_after numbering.logs options target state.opened
         opening_is target = by (log_number target numbering.logs) refl
           where
-            by : (found : Option ℕ) → log_number target numbering.logs ≡ found → opening_by options.recursive visited.opened.items found ≡ opening_of options.recursive (is_among target state.opened) found
+            by : (found : Option ℕ) → log_number target numbering.logs ≡ found
+                → opening_by options.recursive visited.opened.items found
+                ≡ opening_of options.recursive (is_among target state.opened) found
             by None looked_up = refl
-            by (Some number) looked_up = ap (λ opened. opening_of options.recursive opened (Some number)) (was_opened target number looked_up)
+            by (Some number) looked_up = ap (λ opened. opening_of options.recursive opened (Some number))
+                (was_opened target number looked_up)
 
         -- What it shows.
         pub events_are : (depth : ℕ) (entry : NumberedEntry) → IsNumbered numbering.names entry
-            → own_events numbering options depth visited entry ≡ alone.own_events numbering.logs options depth state.named state.opened (numbered_value numbering.names entry)
+            → own_events numbering options depth visited entry
+            ≡ alone.own_events numbering.logs options depth state.named state.opened (numbered_value numbering.names entry)
         events_are depth (Mention pid how name) below =
             let target = name_at numbering.names name in
-            ap (λ opening. if is_mention options how then mention_line options depth pid how target opening (is_set visited.named.items name) else []) (opening_is target)
-            ∙ ap (λ was_named. if is_mention options how then mention_line options depth pid how target (alone.opening_after numbering.logs options target state.opened) was_named else [])
+            ap (λ opening. if is_mention options how then mention_line options depth pid how target opening
+            (is_set visited.named.items name) else []) (opening_is target)
+            ∙ ap (λ was_named. if is_mention options how then mention_line options depth pid how target
+            (alone.opening_after numbering.logs options target state.opened) was_named else [])
             (ap (λ flags. is_set flags name) is.named ∙ flag_at numbering.names state.named name below)
         events_are depth (Other (other.Text line)) numbered = refl
         events_are depth (Other (other.Mention pid how name)) numbered = absurd numbered
@@ -142,7 +165,8 @@ module _ (numbering : Numbering) where
 
         -- Which targets are named after it.
         pub named_is : (entry : NumberedEntry) → IsNumbered numbering.names entry
-            → named_after numbering options visited.named.items entry ≡ flags_of numbering.names (alone.named_after options state.named (numbered_value numbering.names entry))
+            → named_after numbering options visited.named.items entry
+            ≡ flags_of numbering.names (alone.named_after options state.named (numbered_value numbering.names entry))
         named_is (Mention pid how name) below = by (is_mention options how)
           where
             by : (counts : Bool) → (if counts then set_flag visited.named.items name else visited.named.items)
@@ -157,8 +181,10 @@ module _ (numbering : Numbering) where
 
         -- Which log it opens.
         pub nested_log_is : (entry : NumberedEntry) → IsNumbered numbering.names entry
-            → nested_log numbering options visited.opened.items entry ≡ alone.nested_log numbering.logs options state.opened (numbered_value numbering.names entry)
-        nested_log_is (Mention pid how name) below = ap (λ opening. if is_mention options how then log_to_open opening else None) (opening_is (name_at numbering.names name))
+            → nested_log numbering options visited.opened.items entry
+            ≡ alone.nested_log numbering.logs options state.opened (numbered_value numbering.names entry)
+        nested_log_is (Mention pid how name) below =
+            ap (λ opening. if is_mention options how then log_to_open opening else None) (opening_is (name_at numbering.names name))
         nested_log_is (Other (other.Text line)) numbered = refl
         nested_log_is (Other (other.Mention pid how name)) numbered = absurd numbered
         nested_log_is (Other (other.Done pid status name)) numbered = refl
@@ -172,18 +198,24 @@ module _ (numbering : Numbering) (options : Options) (opened : List Bool) (numbe
   abbrev pub IsNewLog : Type 0
   IsNewLog = (number < length numbering.logs) × (is_set opened number ≡ false)
 
-  new_looked_up : (target : List ℕ) (found : Option ℕ) → log_number target numbering.logs ≡ found → log_to_open (opening_by options.recursive opened found) ≡ Some number → IsNewLog
+  new_looked_up : (target : List ℕ) (found : Option ℕ) → log_number target numbering.logs ≡ found
+      → log_to_open (opening_by options.recursive opened found) ≡ Some number → IsNewLog
   new_looked_up target None looked_up is = absurd (none-some number is)
   new_looked_up target (Some other) looked_up is = by options.recursive (is_set opened other) refl is
     where
       by : (recursive was : Bool) → is_set opened other ≡ was → log_to_open (opening_of recursive was (Some other)) ≡ Some number → IsNewLog
       by recursive true was is = absurd (none-some number is)
       by true false was is =
-          let same = same_Some other number is in
-          (subst (λ n. n < length numbering.logs) same (first_log target numbering.logs other looked_up).2, subst (λ n. is_set opened n ≡ false) same was)
+          let same = same_Some other number is in (
+            subst (λ n. n < length numbering.logs) same (first_log target numbering.logs other looked_up).2,
+            subst
+                (λ n. is_set opened n ≡ false) same was,
+          )
       by false false was is = absurd (none-some number is)
 
-  new_mentioned : (target : List ℕ) (counts : Bool) → (if counts then log_to_open (opening_by options.recursive opened (log_number target numbering.logs)) else None) ≡ Some number → IsNewLog
+  new_mentioned : (target : List ℕ) (counts : Bool)
+      → (if counts then log_to_open (opening_by options.recursive opened (log_number target numbering.logs)) else None) ≡ Some number
+      → IsNewLog
   new_mentioned target true is = new_looked_up target (log_number target numbering.logs) refl is
   new_mentioned target false is = absurd (none-some number is)
 

@@ -15,28 +15,34 @@ abbrev log : List ℕ → List Entry → Log
 log target entries = record { target = target; entries = entries; state = Ended }
 
 abbrev logs : List Log
-logs = log (codes "all") (Text (codes "a") ∷ Mention 9 Made (codes "x") ∷ Text (codes "b") ∷ []) ∷ log (codes "x") (Text (codes "c") ∷ Closing 9 (pos 0) ∷ []) ∷ []
+logs = log (codes "all") (Text (codes "a") ∷ Mention 9 Made (codes "x") ∷ Text (codes "b") ∷ [])
+    ∷ log (codes "x") (Text (codes "c") ∷ Closing 9 (pos 0) ∷ []) ∷ []
 
 text_lines_are : text_lines (Text (codes "a") ∷ Mention 9 Made (codes "x") ∷ Text (codes "b") ∷ []) ≡ codes "a" ∷ codes "b" ∷ []
 text_lines_are = refl
 
-lines_of_logs_are : lines_of_log 0 logs ∷ lines_of_log 1 logs ∷ lines_of_log 2 logs ∷ [] ≡ (codes "a" ∷ codes "b" ∷ []) ∷ (codes "c" ∷ []) ∷ [] ∷ []
+lines_of_logs_are : lines_of_log 0 logs ∷ lines_of_log 1 logs ∷ lines_of_log 2 logs ∷ []
+    ≡ (codes "a" ∷ codes "b" ∷ []) ∷ (codes "c" ∷ []) ∷ [] ∷ []
 lines_of_logs_are = refl
 
-after_lines_are : after_line (codes "a") ((codes "a" ∷ codes "b" ∷ []) ∷ []) ∷ after_line (codes "b") ((codes "a" ∷ codes "b" ∷ []) ∷ []) ∷ after_line (codes "a") ([] ∷ []) ∷ after_line (codes "a") [] ∷ []
+after_lines_are : after_line (codes "a") ((codes "a" ∷ codes "b" ∷ []) ∷ []) ∷ after_line (codes "b") ((codes "a" ∷ codes "b" ∷ []) ∷ [])
+    ∷ after_line (codes "a") ([] ∷ []) ∷ after_line (codes "a") [] ∷ []
     ≡ Some ((codes "b" ∷ []) ∷ []) ∷ None ∷ None ∷ None ∷ []
 after_lines_are = refl
 
-after_ends_are : after_end [] ∷ after_end ([] ∷ (codes "a" ∷ []) ∷ []) ∷ after_end ((codes "a" ∷ []) ∷ []) ∷ [] ≡ None ∷ Some ((codes "a" ∷ []) ∷ []) ∷ None ∷ []
+after_ends_are : after_end [] ∷ after_end ([] ∷ (codes "a" ∷ []) ∷ []) ∷ after_end ((codes "a" ∷ []) ∷ []) ∷ []
+    ≡ None ∷ Some ((codes "a" ∷ []) ∷ []) ∷ None ∷ []
 after_ends_are = refl
 
-after_openings_are : after_opening logs NotOpened [] ∷ after_opening logs (OpenedBefore 1) [] ∷ after_opening logs (OpensHere 1) [] ∷ [] ≡ [] ∷ [] ∷ ((codes "c" ∷ []) ∷ []) ∷ []
+after_openings_are : after_opening logs NotOpened [] ∷ after_opening logs (OpenedBefore 1) [] ∷ after_opening logs (OpensHere 1) [] ∷ []
+    ≡ [] ∷ [] ∷ ((codes "c" ∷ []) ∷ []) ∷ []
 after_openings_are = refl
 
 -- A line of another log in between would be refused.
 abbrev events : List ℕ → List Event
 events line =
-    Requested (codes "all") (OpensHere 0) ∷ EntryShown 1 (Text (codes "a")) ∷ Mentioned 1 9 Made (codes "x") (OpensHere 1) ∷ EntryShown 2 (Text line) ∷ EntryShown 2 (Closing 9 (pos 0)) ∷ LogEnds 2
+    Requested (codes "all") (OpensHere 0) ∷ EntryShown 1 (Text (codes "a")) ∷ Mentioned 1 9 Made (codes "x") (OpensHere 1)
+    ∷ EntryShown 2 (Text line) ∷ EntryShown 2 (Closing 9 (pos 0)) ∷ LogEnds 2
     ∷ EntryShown 1 (Text (codes "b")) ∷ LogEnds 1 ∷ []
 
 events_are : lines_left_after logs [] (events (codes "c")) ∷ lines_left_after logs [] (events (codes "b")) ∷ [] ≡ Some [] ∷ None ∷ []

@@ -36,22 +36,27 @@ module _ (options : Options) (how : How) (name : List ℕ) (depth pid : ℕ) (op
     events = state.events ++ cond (not known) line [];
   }
 
-  mention_by : (known : Bool) → options.debug_locks ≡ false → is_among name state.named ≡ known → show_mention_line options depth pid how name opening state ≡ mentioned_by known
+  mention_by : (known : Bool) → options.debug_locks ≡ false → is_among name state.named ≡ known
+      → show_mention_line options depth pid how name opening state ≡ mentioned_by known
   mention_by known quiet is = λ i. record {
     named = cond (is i) state.named (state.named ++ name ∷ []);
     opened = state.opened;
-    events = state.events ++ (ap (λ (locks : Bool). cond (locks || not (is_among name state.named)) line []) quiet ∙ ap (λ (b : Bool). cond (not b) line []) is) i;
+    events = state.events ++ (ap (λ (locks : Bool). cond (locks || not (is_among name state.named)) line []) quiet
+        ∙ ap (λ (b : Bool). cond (not b) line []) is) i;
   }
 
-  line_text : options.debug_locks ≡ false → event_text options (Mentioned depth pid how name opening) ≡ redo_line options depth (Some pid) name
+  line_text : options.debug_locks ≡ false
+      → event_text options (Mentioned depth pid how name opening) ≡ redo_line options depth (Some pid) name
   line_text quiet = ap (λ (locks : Bool). redo_line options depth (Some pid) (cond locks (name ++ mention_suffix how) name)) quiet
 
 pub named_first : (options : Options) (how : How) (name : List ℕ) → NamedFirst options how name
-named_first options how name depth pid opening state quiet new = (mention_by options how name depth pid opening state false quiet new, line_text options how name depth pid opening state quiet)
+named_first options how name depth pid opening state quiet new =
+    (mention_by options how name depth pid opening state false quiet new, line_text options how name depth pid opening state quiet)
 
 pub named_again : (options : Options) (how : How) (name : List ℕ) → NamedAgain options how name
 named_again options how name depth pid opening state quiet known =
-    mention_by options how name depth pid opening state true quiet known ∙ (λ i. record { named = state.named; opened = state.opened; events = append-nil state.events i })
+    mention_by options how name depth pid opening state true quiet known
+    ∙ (λ i. record { named = state.named; opened = state.opened; events = append-nil state.events i })
 
 -- ---- a name that is appended
 
@@ -67,7 +72,8 @@ is_named_by name names false is other = (
   ]),
 )
 
-is_named : (name : List ℕ) (names : Names) (other : List ℕ) → (is_among other (insert_name name names) ≡ true) ↔ ((is_among other names ≡ true) ⊎ (other ≡ name))
+is_named : (name : List ℕ) (names : Names) (other : List ℕ)
+    → (is_among other (insert_name name names) ≡ true) ↔ ((is_among other names ≡ true) ⊎ (other ≡ name))
 is_named name names other = is_named_by name names (is_among name names) refl other
 
 -- A name that isn't among more names isn't among fewer.
@@ -108,11 +114,13 @@ module _ (logs : List Log) (options : Options) where
         by false known = inr (target, known, is, names)
 
   no_log : (state after : ViewState) (name : List ℕ) → after.opened ≡ state.opened → Between state after name → ⊥
-  no_log state after name same (target, new, is, names) = both_ways (is_among target state.opened) new (ap (is_among target) (sym same) ∙ is)
+  no_log state after name same (target, new, is, names) =
+      both_ways (is_among target state.opened) new (ap (is_among target) (sym same) ∙ is)
 
   -- ---- nothing is done, or two steps
 
-  unchanged : (these : List ℕ → Type 0) (before after : ViewState) → ((name : List ℕ) → these name → ⊥) → after.named ≡ before.named → after.opened ≡ before.opened → Naming these before after
+  unchanged : (these : List ℕ → Type 0) (before after : ViewState) → ((name : List ℕ) → these name → ⊥) → after.named ≡ before.named
+      → after.opened ≡ before.opened → Naming these before after
   unchanged these before after none named opened = record {
     keeps = λ name is. ap (is_among name) opened ∙ is;
     are = λ name. (
@@ -125,7 +133,8 @@ module _ (logs : List Log) (options : Options) where
     );
   }
 
-  naming-both : (first second : List ℕ → Type 0) (before between after : ViewState) → Naming first before between → Naming second between after → Naming (λ name. first name ⊎ second name) before after
+  naming-both : (first second : List ℕ → Type 0) (before between after : ViewState) → Naming first before between
+      → Naming second between after → Naming (λ name. first name ⊎ second name) before after
   naming-both first second before between after one other = record {
     keeps = λ name is. other.keeps name (one.keeps name is);
     are = λ name. (
@@ -151,7 +160,8 @@ module _ (logs : List Log) (options : Options) where
   }
 
   -- The same names, described by another predicate.
-  naming-as : (these others : List ℕ → Type 0) (before after : ViewState) → ((name : List ℕ) → these name ↔ others name) → Naming these before after → Naming others before after
+  naming-as : (these others : List ℕ → Type 0) (before after : ViewState) → ((name : List ℕ) → these name ↔ others name)
+      → Naming these before after → Naming others before after
   naming-as these others before after same naming = record {
     keeps = naming.keeps;
     are = λ name. (
@@ -172,9 +182,11 @@ module _ (logs : List Log) (options : Options) where
 
   -- Opening a log that wasn't opened before names only what the logs that are opened name.
   abbrev NamesItsOwn : ShowLog → Type 0
-  NamesItsOwn inner = (target : List ℕ) (depth : ℕ) (state : ViewState) → is_among target state.opened ≡ false → Naming Nothing state (inner target depth state)
+  NamesItsOwn inner = (target : List ℕ) (depth : ℕ) (state : ViewState) → is_among target state.opened ≡ false
+      → Naming Nothing state (inner target depth state)
 
-  mention_names : (depth pid : ℕ) (how : How) (name : List ℕ) (opening : Opening) (state : ViewState) → Naming (λ other. other ≡ name) state (show_mention_line options depth pid how name opening state)
+  mention_names : (depth pid : ℕ) (how : How) (name : List ℕ) (opening : Opening) (state : ViewState)
+      → Naming (λ other. other ≡ name) state (show_mention_line options depth pid how name opening state)
   mention_names depth pid how name opening state = record {
     keeps = λ other is. is;
     are = λ other. (
@@ -189,41 +201,56 @@ module _ (logs : List Log) (options : Options) where
 
   module _ (inner : ShowLog) (own : NamesItsOwn inner) where
     -- The log that a mention opens, or doesn't.
-    show_log_if_names : (name : List ℕ) (depth : ℕ) (state : ViewState) (opening : Bool) → should_open logs options name state ≡ opening → Naming Nothing state (show_log_if logs options opening inner name depth state)
-    show_log_if_names name depth state true is = own name depth state (not-true (is_among name state.opened) (should_open-parts logs options name state is).2)
+    show_log_if_names : (name : List ℕ) (depth : ℕ) (state : ViewState) (opening : Bool) → should_open logs options name state ≡ opening
+        → Naming Nothing state (show_log_if logs options opening inner name depth state)
+    show_log_if_names name depth state true is =
+        own name depth state (not-true (is_among name state.opened) (should_open-parts logs options name state is).2)
     show_log_if_names name depth state false is = unchanged Nothing state state (λ other no. no) refl refl
 
-    show_mention_if_names : (depth pid : ℕ) (how : How) (name : List ℕ) (state : ViewState) (counts : Bool) → is_mention options how ≡ counts
-        → Naming (λ other. mentions_target options other (Mention pid how name) ≡ true) state (show_mention_if logs options counts inner depth pid how name state)
+    show_mention_if_names : (depth pid : ℕ) (how : How) (name : List ℕ) (state : ViewState) (counts : Bool)
+        → is_mention options how ≡ counts
+        → Naming (λ other. mentions_target options other (Mention pid how name) ≡ true) state
+        (show_mention_if logs options counts inner depth pid how name state)
     show_mention_if_names depth pid how name state true counts =
         let opening = mention_opening logs options name state in
         let named = show_mention_line options depth pid how name opening state in
         let after = show_log_if logs options (should_open logs options name named) inner name (depth + 1) named in
-        naming-as (λ other. (other ≡ name) ⊎ Nothing other) (λ other. mentions_target options other (Mention pid how name) ≡ true) state after (λ other. (
+        naming-as (λ other. (other ≡ name) ⊎ Nothing other)
+        (λ other. mentions_target options other (Mention pid how name) ≡ true) state after (λ other. (
           (λ either. elim either [
-            | inl same ↦ and_from (is_mention options how) (pointwise nat_eq other name) counts (ap (λ n. pointwise nat_eq n name) same ∙ nat_list_eq_equiv.refl name)
+            | inl same ↦ and_from (is_mention options how) (pointwise nat_eq other name) counts
+                (ap (λ n. pointwise nat_eq n name) same ∙ nat_list_eq_equiv.refl name)
             | inr never ↦ absurd never
           ]),
           (λ is. inl (same_text other name (sym (and_parts (is_mention options how) (pointwise nat_eq other name) is).1))),
         ))
-        (naming-both (λ other. other ≡ name) Nothing state named after (mention_names depth pid how name opening state) (show_log_if_names name (depth + 1) named (should_open logs options name named) refl))
+        (naming-both (λ other. other ≡ name) Nothing state named after (mention_names depth pid how name opening state)
+        (show_log_if_names name (depth + 1) named (should_open logs options name named) refl))
     show_mention_if_names depth pid how name state false counts =
         unchanged (λ other. mentions_target options other (Mention pid how name) ≡ true) state state
-        (λ other is. both_ways (is_mention options how) counts (and_parts (is_mention options how) (pointwise nat_eq other name) is).0) refl refl
+        (λ other is. both_ways (is_mention options how) counts (and_parts (is_mention options how) (pointwise nat_eq other name) is).0)
+        refl refl
 
-    entry_names : (depth : ℕ) (entry : Entry) (state : ViewState) → Naming (λ other. mentions_target options other entry ≡ true) state (show_entry logs options inner depth entry state)
-    entry_names depth (Text line) state = unchanged _ state (show_entry logs options inner depth (Text line) state) (λ other is. cc) refl refl
+    entry_names : (depth : ℕ) (entry : Entry) (state : ViewState)
+        → Naming (λ other. mentions_target options other entry ≡ true) state (show_entry logs options inner depth entry state)
+    entry_names depth (Text line) state =
+        unchanged _ state (show_entry logs options inner depth (Text line) state) (λ other is. cc) refl refl
     entry_names depth (Mention pid how name) state = show_mention_if_names depth pid how name state (is_mention options how) refl
-    entry_names depth (Done pid status name) state = unchanged _ state (show_entry logs options inner depth (Done pid status name) state) (λ other is. cc) refl refl
-    entry_names depth (Closing pid status) state = unchanged _ state (show_entry logs options inner depth (Closing pid status) state) (λ other is. cc) refl refl
-    entry_names depth (Note pid kind text) state = unchanged _ state (show_entry logs options inner depth (Note pid kind text) state) (λ other is. cc) refl refl
+    entry_names depth (Done pid status name) state =
+        unchanged _ state (show_entry logs options inner depth (Done pid status name) state) (λ other is. cc) refl refl
+    entry_names depth (Closing pid status) state =
+        unchanged _ state (show_entry logs options inner depth (Closing pid status) state) (λ other is. cc) refl refl
+    entry_names depth (Note pid kind text) state =
+        unchanged _ state (show_entry logs options inner depth (Note pid kind text) state) (λ other is. cc) refl refl
 
-    entries_name : (depth : ℕ) (entries : List Entry) (state : ViewState) → Naming (λ other. mentioned_in options other entries ≡ true) state (show_entries logs options inner depth entries state)
+    entries_name : (depth : ℕ) (entries : List Entry) (state : ViewState)
+        → Naming (λ other. mentioned_in options other entries ≡ true) state (show_entries logs options inner depth entries state)
     entries_name depth [] state = unchanged _ state state (λ other is. cc) refl refl
     entries_name depth (entry ∷ entries) state =
         let between = show_entry logs options inner depth entry state in
         let after = show_entries logs options inner depth entries between in
-        naming-as (λ other. (mentions_target options other entry ≡ true) ⊎ (mentioned_in options other entries ≡ true)) (λ other. mentioned_in options other (entry ∷ entries) ≡ true) state after
+        naming-as (λ other. (mentions_target options other entry ≡ true) ⊎ (mentioned_in options other entries ≡ true))
+        (λ other. mentioned_in options other (entry ∷ entries) ≡ true) state after
         (λ other. (
           (λ either. elim either [
             | inl here ↦ or_left (mentions_target options other entry) (mentioned_in options other entries) here
@@ -236,7 +263,8 @@ module _ (logs : List Log) (options : Options) where
   -- ---- a log
 
   -- What a log names, after it was begun and its entries were shown.
-  module _ (target : List ℕ) (state after : ViewState) (gone : Naming (λ name. mentioned_in options name (entries_of_target target logs) ≡ true) (begin_log target state) after) where
+  module _ (target : List ℕ) (state after : ViewState)
+      (gone : Naming (λ name. mentioned_in options name (entries_of_target target logs) ≡ true) (begin_log target state) after) where
     still : Keeps state.opened (begin_log target state).opened
     still name is = more-keeps target state.opened name is
 
@@ -295,7 +323,8 @@ module _ (logs : List Log) (options : Options) where
   within_names (suc levels) target depth state new =
       let entries = entries_of_target target logs in
       let after = show_entries logs options (show_log_within logs options levels) depth entries (begin_log target state) in
-      let naming = new_log_names target state after (entries_name (show_log_within logs options levels) (within_names levels) depth entries (begin_log target state)) new in
+      let naming = new_log_names target state after
+      (entries_name (show_log_within logs options levels) (within_names levels) depth entries (begin_log target state)) new in
       record { keeps = naming.keeps; are = naming.are }
 
   show_log_names : NamesItsOwn (show_log logs options)
@@ -307,13 +336,16 @@ module _ (logs : List Log) (options : Options) where
 
   pub named_by_log : (target : List ℕ) → NamedByLog logs options target
   named_by_log target depth state =
-      subst (λ (after : ViewState). AreNamed logs options (IsNamedIn logs options target) state after) (sym (show_log_equation logs options target depth state))
-      (log_names target state (show_entries logs options (show_log logs options) depth (entries_of_target target logs) (begin_log target state))
+      subst (λ (after : ViewState). AreNamed logs options (IsNamedIn logs options target) state after)
+      (sym (show_log_equation logs options target depth state))
+      (log_names target state (show_entries logs options (show_log logs options) depth (entries_of_target target logs)
+      (begin_log target state))
       (entries_name (show_log logs options) show_log_names depth (entries_of_target target logs) (begin_log target state))).are
 
   -- ---- requested targets
 
-  target_names : (known : Bool) (target : List ℕ) (state : ViewState) → is_among target state.opened ≡ known → Naming Nothing state (show_target_unless logs options known target state)
+  target_names : (known : Bool) (target : List ℕ) (state : ViewState) → is_among target state.opened ≡ known
+      → Naming Nothing state (show_target_unless logs options known target state)
   target_names true target state is = unchanged Nothing state state (λ other no. no) refl refl
   target_names false target state is =
       let naming = show_log_names target 1 (append_event (request_event logs target) state) is in
@@ -323,8 +355,10 @@ module _ (logs : List Log) (options : Options) where
   targets_name [] state = unchanged Nothing state state (λ other no. no) refl refl
   targets_name (target ∷ targets) state =
       let between = show_target_unless logs options (is_among target state.opened) target state in
-      naming-as (λ other. Nothing other ⊎ Nothing other) Nothing state (show_targets logs options targets between) (λ other. ((λ either. elim either [ inl never ↦ never | inr never ↦ never ]), (λ no. absurd no)))
-      (naming-both Nothing Nothing state between (show_targets logs options targets between) (target_names (is_among target state.opened) target state refl) (targets_name targets between))
+      naming-as (λ other. Nothing other ⊎ Nothing other) Nothing state (show_targets logs options targets between)
+      (λ other. ((λ either. elim either [ inl never ↦ never | inr never ↦ never ]), (λ no. absurd no)))
+      (naming-both Nothing Nothing state between (show_targets logs options targets between)
+      (target_names (is_among target state.opened) target state refl) (targets_name targets between))
 
   pub named_finally : (requested : Names) → NamedFinally logs options requested
   named_finally requested name =

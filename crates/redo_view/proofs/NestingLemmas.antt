@@ -24,12 +24,15 @@ use Rattle.redo_view.proofs.Unopened.{left}
 -- ---- the number of open logs
 
 -- Two lists of events, one after the other.
-open-append : (first others : List Event) (count : ℕ) → open_after_all count (first ++ others) ≡ option_and_then (λ (next : ℕ). open_after_all next others) (open_after_all count first)
+open-append : (first others : List Event) (count : ℕ)
+    → open_after_all count (first ++ others) ≡ option_and_then (λ (next : ℕ). open_after_all next others) (open_after_all count first)
 open-append [] others count = refl
 open-append (event ∷ first) others count = by (λ next. open-append first others next) (open_after count event)
   where
-    by : ((next : ℕ) → open_after_all next (first ++ others) ≡ option_and_then (λ (n : ℕ). open_after_all n others) (open_after_all next first))
-        → (next : Option ℕ) → option_and_then (λ (n : ℕ). open_after_all n (first ++ others)) next ≡ option_and_then (λ (n : ℕ). open_after_all n others) (option_and_then (λ (n : ℕ). open_after_all n first) next)
+    by : ((next : ℕ) → open_after_all next (first ++ others)
+        ≡ option_and_then (λ (n : ℕ). open_after_all n others) (open_after_all next first))
+        → (next : Option ℕ) → option_and_then (λ (n : ℕ). open_after_all n (first ++ others)) next
+        ≡ option_and_then (λ (n : ℕ). open_after_all n others) (option_and_then (λ (n : ℕ). open_after_all n first) next)
     by later None = refl
     by later (Some next) = later next
 
@@ -51,7 +54,8 @@ one_event count next event is = ap (option_and_then (λ (n : ℕ). open_after_al
 module _ (logs : List Log) (options : Options) where
   -- Whether a target is opened if it is named, has a log, and logs are opened recursively.
   abbrev pub IsSettled : ViewState → List ℕ → Type 0
-  IsSettled state name = options.recursive ≡ true → is_among name (targets_of logs) ≡ true → is_among name state.named ≡ true → is_among name state.opened ≡ true
+  IsSettled state name = options.recursive ≡ true → is_among name (targets_of logs) ≡ true → is_among name state.named ≡ true
+      → is_among name state.opened ≡ true
 
   -- Whether this holds for all targets.
   abbrev pub Settled : ViewState → Type 0
@@ -61,10 +65,12 @@ module _ (logs : List Log) (options : Options) where
   abbrev pub SettledBut : List ℕ → ViewState → Type 0
   SettledBut target state = (name : List ℕ) → (name ≡ target) ⊎ IsSettled state name
 
-  inserted : (name target : List ℕ) (names : List (List ℕ)) → is_among name (insert_name target names) ≡ true → (is_among name names ≡ true) ⊎ (name ≡ target)
+  inserted : (name target : List ℕ) (names : List (List ℕ)) → is_among name (insert_name target names) ≡ true
+      → (is_among name names ≡ true) ⊎ (name ≡ target)
   inserted name target names = by (is_among target names)
     where
-      by : (there : Bool) → is_among name (if there then names else names ++ target ∷ []) ≡ true → (is_among name names ≡ true) ⊎ (name ≡ target)
+      by : (there : Bool) → is_among name (if there then names else names ++ target ∷ []) ≡ true
+          → (is_among name names ≡ true) ⊎ (name ≡ target)
       by true is = inl is
       by false is = more-only name target names is
 
@@ -93,16 +99,20 @@ module _ (logs : List Log) (options : Options) where
   nests-none : (count : ℕ) (state : ViewState) → Settled state → Nests count count state state
   nests-none count state settled = record { shown = []; is = sym (append-nil state.events); nested = refl; settled = settled }
 
-  nests-both : (from between to : ℕ) (before middle after : ViewState) → Nests from between before middle → Nests between to middle after → Nests from to before after
+  nests-both : (from between to : ℕ) (before middle after : ViewState) → Nests from between before middle → Nests between to middle after
+      → Nests from to before after
   nests-both from between to before middle after first second = record {
     shown = first.shown ++ second.shown;
     is = second.is ∙ ap (λ events. events ++ second.shown) first.is ∙ append_assoc before.events first.shown second.shown;
-    nested = open-append first.shown second.shown from ∙ ap (option_and_then (λ (n : ℕ). open_after_all n second.shown)) first.nested ∙ second.nested;
+    nested = open-append first.shown second.shown from ∙ ap (option_and_then (λ (n : ℕ). open_after_all n second.shown)) first.nested
+        ∙ second.nested;
     settled = second.settled;
   }
 
-  nests-one : (from to : ℕ) (event : Event) (state : ViewState) → open_after from event ≡ Some to → Settled state → Nests from to state (append_event event state)
-  nests-one from to event state is settled = record { shown = event ∷ []; is = refl; nested = one_event from to event is; settled = settled }
+  nests-one : (from to : ℕ) (event : Event) (state : ViewState) → open_after from event ≡ Some to → Settled state
+      → Nests from to state (append_event event state)
+  nests-one from to event state is settled =
+      record { shown = event ∷ []; is = refl; nested = one_event from to event is; settled = settled }
 
   -- ---- a mention's line
 
@@ -124,18 +134,23 @@ module _ (logs : List Log) (options : Options) where
         by false named = refl
         by true named =
             let parts = should_open-parts logs options name state opens in
-            absurd (both_ways (is_among name state.opened) (not-true (is_among name state.opened) parts.2) (settled name parts.0 parts.1 named))
+            absurd (both_ways (is_among name state.opened) (not-true (is_among name state.opened) parts.2)
+            (settled name parts.0 parts.1 named))
 
-    line_opens : opens_here opening ≡ true → open_after_all depth (mention_events options depth pid how name opening state.named) ≡ Some (suc depth)
+    line_opens : opens_here opening ≡ true
+        → open_after_all depth (mention_events options depth pid how name opening state.named) ≡ Some (suc depth)
     line_opens opens =
         ap (λ (b : Bool). open_after_all depth (if b then line ∷ [] else [])) (shows_line opens)
-        ∙ one_event depth (suc depth) line (at_depth depth depth (with_opening opening depth) refl ∙ ap Some (opens_one opening depth opens))
+        ∙ one_event depth (suc depth) line
+        (at_depth depth depth (with_opening opening depth) refl ∙ ap Some (opens_one opening depth opens))
 
-    line_stays : opens_here opening ≡ false → open_after_all depth (mention_events options depth pid how name opening state.named) ≡ Some depth
+    line_stays : opens_here opening ≡ false
+        → open_after_all depth (mention_events options depth pid how name opening state.named) ≡ Some depth
     line_stays opens = by (options.debug_locks || not (is_among name state.named))
       where
         by : (shows : Bool) → open_after_all depth (if shows then line ∷ [] else []) ≡ Some depth
-        by true = one_event depth depth line (at_depth depth depth (with_opening opening depth) refl ∙ ap Some (opens_none opening depth opens))
+        by true = one_event depth depth line
+            (at_depth depth depth (with_opening opening depth) refl ∙ ap Some (opens_none opening depth opens))
         by false = refl
 
     -- Only the mentioned target may not be opened yet.
@@ -168,17 +183,22 @@ module _ (logs : List Log) (options : Options) where
 
   abbrev NestsBelow : ShowLog → ℕ → Type 0
   NestsBelow inner bound =
-      (name : List ℕ) (depth outer : ℕ) (state : ViewState) → depth ≡ suc outer → left_after logs options name state < bound → SettledBut name state → Nests depth outer state (inner name depth state)
+      (name : List ℕ) (depth outer : ℕ) (state : ViewState) → depth ≡ suc outer → left_after logs options name state < bound
+      → SettledBut name state → Nests depth outer state (inner name depth state)
 
   module _ (inner : ShowLog) (keeps : Keeping inner) (bound : ℕ) (nests : NestsBelow inner bound) where
-    mention_nests : (depth pid : ℕ) (how : How) (name : List ℕ) (state : ViewState) (settled : Settled state) → left logs state.opened ≤ bound → (opens : Bool) → should_open logs options name state ≡ opens
-        → Nests depth depth state (show_log_if logs options opens inner name (depth + 1) (show_mention_line options depth pid how name (mention_opening logs options name state) state))
+    mention_nests : (depth pid : ℕ) (how : How) (name : List ℕ) (state : ViewState) (settled : Settled state)
+        → left logs state.opened ≤ bound → (opens : Bool) → should_open logs options name state ≡ opens
+        → Nests depth depth state (show_log_if logs options opens inner name (depth + 1)
+        (show_mention_line options depth pid how name (mention_opening logs options name state) state))
     mention_nests depth pid how name state settled fits true is =
         let between = show_mention_line options depth pid how name (mention_opening logs options name state) state in
         let less = should_open-left logs options name state is in
-        let log = nests name (depth + 1) depth between (omega arith) (omega (arith, less, fits)) (settled_but depth pid how name state settled) in record {
+        let log = nests name (depth + 1) depth between (omega arith) (omega (arith, less, fits))
+        (settled_but depth pid how name state settled) in record {
           shown = mention_events options depth pid how name (mention_opening logs options name state) state.named ++ log.shown;
-          is = log.is ∙ append_assoc state.events (mention_events options depth pid how name (mention_opening logs options name state) state.named) log.shown;
+          is = log.is ∙ append_assoc state.events
+              (mention_events options depth pid how name (mention_opening logs options name state) state.named) log.shown;
           nested =
               open-append (mention_events options depth pid how name (mention_opening logs options name state) state.named) log.shown depth
               ∙ ap (option_and_then (λ (n : ℕ). open_after_all n log.shown)) (line_opens depth pid how name state settled is)
@@ -192,24 +212,31 @@ module _ (logs : List Log) (options : Options) where
       settled = settled_line depth pid how name state settled is;
     }
 
-    entry_nests : (depth : ℕ) (entry : Entry) (state : ViewState) → Settled state → left logs state.opened ≤ bound → Nests depth depth state (show_entry logs options inner depth entry state)
-    entry_nests depth (Text line) state settled fits = nests-one depth depth (EntryShown depth (Text line)) state (at_depth depth depth depth refl) settled
+    entry_nests : (depth : ℕ) (entry : Entry) (state : ViewState) → Settled state → left logs state.opened ≤ bound
+        → Nests depth depth state (show_entry logs options inner depth entry state)
+    entry_nests depth (Text line) state settled fits =
+        nests-one depth depth (EntryShown depth (Text line)) state (at_depth depth depth depth refl) settled
     entry_nests depth (Mention pid how name) state settled fits = by (is_mention options how)
       where
         by : (counts : Bool) → Nests depth depth state (show_mention_if logs options counts inner depth pid how name state)
         by true = mention_nests depth pid how name state settled fits (should_open logs options name state) refl
         by false = nests-none depth state settled
-    entry_nests depth (Done pid status name) state settled fits = nests-one depth depth (EntryShown depth (Done pid status name)) state (at_depth depth depth depth refl) settled
-    entry_nests depth (Closing pid status) state settled fits = nests-one depth depth (EntryShown depth (Closing pid status)) state (at_depth depth depth depth refl) settled
-    entry_nests depth (Note pid kind text) state settled fits = nests-one depth depth (EntryShown depth (Note pid kind text)) state (at_depth depth depth depth refl) settled
+    entry_nests depth (Done pid status name) state settled fits =
+        nests-one depth depth (EntryShown depth (Done pid status name)) state (at_depth depth depth depth refl) settled
+    entry_nests depth (Closing pid status) state settled fits =
+        nests-one depth depth (EntryShown depth (Closing pid status)) state (at_depth depth depth depth refl) settled
+    entry_nests depth (Note pid kind text) state settled fits =
+        nests-one depth depth (EntryShown depth (Note pid kind text)) state (at_depth depth depth depth refl) settled
 
-    entries_nest : (depth : ℕ) (entries : List Entry) (state : ViewState) → Settled state → left logs state.opened ≤ bound → Nests depth depth state (show_entries logs options inner depth entries state)
+    entries_nest : (depth : ℕ) (entries : List Entry) (state : ViewState) → Settled state → left logs state.opened ≤ bound
+        → Nests depth depth state (show_entries logs options inner depth entries state)
     entries_nest depth [] state settled fits = nests-none depth state settled
     entries_nest depth (entry ∷ entries) state settled fits =
         let after = show_entry logs options inner depth entry state in
         let first = entry_nests depth entry state settled fits in
         nests-both depth depth depth state after (show_entries logs options inner depth entries after) first
-        (entries_nest depth entries after first.settled (omega (arith, left-le logs state.opened after.opened (entry_keeps logs options inner keeps entry depth state), fits)))
+        (entries_nest depth entries after first.settled
+        (omega (arith, left-le logs state.opened after.opened (entry_keeps logs options inner keeps entry depth state), fits)))
 
   -- ---- a log
 
@@ -219,19 +246,23 @@ module _ (logs : List Log) (options : Options) where
   log_nests_at : (bound : ℕ) → NestsBelow (show_log logs options) bound → NestsBelow (show_log logs options) (suc bound)
   log_nests_at bound nests name depth outer state same fits settled =
       subst (λ (after : ViewState). Nests depth outer state after) (sym (show_log_equation logs options name depth state))
-      (nests-both depth depth outer state after (end_log depth after) (record { shown = inside.shown; is = inside.is; nested = inside.nested; settled = inside.settled }) (nests-one depth outer (LogEnds depth) after (ends_one depth outer same) inside.settled))
+      (nests-both depth depth outer state after (end_log depth after)
+      (record { shown = inside.shown; is = inside.is; nested = inside.nested; settled = inside.settled })
+      (nests-one depth outer (LogEnds depth) after (ends_one depth outer same) inside.settled))
     where
       after : ViewState
       after = show_entries logs options (show_log logs options) depth (entries_of_target name logs) (begin_log name state)
 
       inside : Nests depth depth (begin_log name state) after
       inside =
-          entries_nest (show_log logs options) (log_keeps logs options) bound nests depth (entries_of_target name logs) (begin_log name state)
+          entries_nest (show_log logs options) (log_keeps logs options) bound nests depth (entries_of_target name logs)
+          (begin_log name state)
           (begin_settles name state settled) (omega (arith, fits))
 
   log_nests_below : (bound : ℕ) → NestsBelow (show_log logs options) bound
   log_nests_below zero name depth outer state same fits settled = absurd (omega (arith, fits))
-  log_nests_below (suc bound) name depth outer state same fits settled = log_nests_at bound (log_nests_below bound) name depth outer state same fits settled
+  log_nests_below (suc bound) name depth outer state same fits settled =
+      log_nests_at bound (log_nests_below bound) name depth outer state same fits settled
 
   log_nests : (name : List ℕ) (state : ViewState) → SettledBut name state → Nests 1 0 state (show_log logs options name 1 state)
   log_nests name state settled = log_nests_below (suc (left_after logs options name state)) name 1 0 state refl (omega arith) settled
@@ -245,19 +276,26 @@ module _ (logs : List Log) (options : Options) where
       by None is = absurd (cc)
       by (Some number) is = refl
 
-  target_nests : (known : Bool) (name : List ℕ) (state : ViewState) → is_among name (targets_of logs) ≡ true → Settled state → Nests 0 0 state (show_target_unless logs options known name state)
+  target_nests : (known : Bool) (name : List ℕ) (state : ViewState) → is_among name (targets_of logs) ≡ true → Settled state
+      → Nests 0 0 state (show_target_unless logs options known name state)
   target_nests true name state listed settled = nests-none 0 state settled
   target_nests false name state listed settled =
       let requested = append_event (request_event logs name) state in
       nests-both 0 1 0 state requested (show_log logs options name 1 requested)
-      (nests-one 0 1 (request_event logs name) state (request_opens name listed) settled) (log_nests name requested (λ other. inr (settled other)))
+      (nests-one 0 1 (request_event logs name) state (request_opens name listed) settled)
+      (log_nests name requested (λ other. inr (settled other)))
 
-  targets_nest : (requested : List (List ℕ)) (from : ℕ) (state : ViewState) → position_from (λ name. not (is_among name (targets_of logs))) from requested ≡ None → Settled state → Nests 0 0 state (show_targets logs options requested state)
+  targets_nest : (requested : List (List ℕ)) (from : ℕ) (state : ViewState)
+      → position_from (λ name. not (is_among name (targets_of logs))) from requested ≡ None → Settled state
+      → Nests 0 0 state (show_targets logs options requested state)
   targets_nest [] from state none settled = nests-none 0 state settled
-  targets_nest (name ∷ requested) from state none settled = by (not (is_among name (targets_of logs))) refl none (λ next rest nested. targets_nest requested (from + 1) next rest nested)
+  targets_nest (name ∷ requested) from state none settled =
+      by (not (is_among name (targets_of logs))) refl none (λ next rest nested. targets_nest requested (from + 1) next rest nested)
     where
-      by : (b : Bool) → not (is_among name (targets_of logs)) ≡ b → cond b (Some from) (position_from (λ name. not (is_among name (targets_of logs))) (from + 1) requested) ≡ None
-          → ((next : ViewState) → position_from (λ name. not (is_among name (targets_of logs))) (from + 1) requested ≡ None → Settled next → Nests 0 0 next (show_targets logs options requested next))
+      by : (b : Bool) → not (is_among name (targets_of logs)) ≡ b
+          → cond b (Some from) (position_from (λ name. not (is_among name (targets_of logs))) (from + 1) requested) ≡ None
+          → ((next : ViewState) → position_from (λ name. not (is_among name (targets_of logs))) (from + 1) requested ≡ None → Settled next
+          → Nests 0 0 next (show_targets logs options requested next))
           → Nests 0 0 state (show_targets logs options (name ∷ requested) state)
       by true is found others = absurd (cc)
       by false is rest others =
@@ -267,5 +305,7 @@ module _ (logs : List Log) (options : Options) where
 
 pub are_nested : (logs : List Log) (options : Options) (requested : List (List ℕ)) → AreNested logs options requested
 are_nested logs options requested known =
-    let all = targets_nest logs options requested 0 (record { named = []; opened = []; events = [] }) (sym (position_from-zero (λ name. not (is_among name (targets_of logs))) requested) ∙ known) (λ name recursive listed named. absurd (cc)) in
+    let all = targets_nest logs options requested 0 (record { named = []; opened = []; events = [] })
+    (sym (position_from-zero (λ name. not (is_among name (targets_of logs))) requested) ∙ known)
+    (λ name recursive listed named. absurd (cc)) in
     ap (open_after_all 0) all.is ∙ all.nested

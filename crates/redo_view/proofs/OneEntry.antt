@@ -34,11 +34,16 @@ named_after options named (Note pid kind text) = named
 -- The number of the log that an entry opens, if it opens one.
 abbrev pub nested_log : List Log → Options → List (List ℕ) → Entry → Option ℕ
 nested_log logs options opened (Text line) = None
-nested_log logs options opened (Mention pid how name) = if is_mention options how then log_to_open (opening_after logs options name opened) else None
+nested_log logs options opened (Mention pid how name) =
+    if is_mention options how then log_to_open (opening_after logs options name opened) else None
 nested_log logs options opened (Done pid status name) = None
 nested_log logs options opened (Closing pid status) = None
 nested_log logs options opened (Note pid kind text) = None
 
 -- The state after an entry, without the log that it opens.
 abbrev pub mid : List Log → Options → ℕ → Entry → ViewState → ViewState
-mid logs options depth entry s = record { named = named_after options s.named entry; opened = s.opened; events = s.events ++ own_events logs options depth s.named s.opened entry }
+mid logs options depth entry s = record {
+  named = named_after options s.named entry;
+  opened = s.opened;
+  events = s.events ++ own_events logs options depth s.named s.opened entry;
+}

@@ -17,7 +17,8 @@ use Rattle.redo_view.specs.Private.EntryEffect.{log_to_open}
 pub looked_up-listed : (name : List ℕ) (logs : List Log) → is_some (log_number name logs) ≡ is_among name (targets_of logs)
 looked_up-listed name logs = some_place (pointwise nat_eq name) (targets_of logs)
 
-opens_if : (may_open was_opened : Bool) (found : Option ℕ) → opens_here (opening_of may_open was_opened found) ≡ (may_open && is_some found && not was_opened)
+opens_if : (may_open was_opened : Bool) (found : Option ℕ)
+    → opens_here (opening_of may_open was_opened found) ≡ (may_open && is_some found && not was_opened)
 opens_if true true None = refl
 opens_if true false None = refl
 opens_if false was_opened None = refl
@@ -33,7 +34,8 @@ none_opens (OpenedBefore number) none = refl
 none_opens (OpensHere number) none = absurd (none-some number (sym none))
 
 -- With a number, the log with this number is opened.
-pub some_opens : (may_open was_opened : Bool) (found : Option ℕ) (number : ℕ) → log_to_open (opening_of may_open was_opened found) ≡ Some number
+pub some_opens : (may_open was_opened : Bool) (found : Option ℕ) (number : ℕ)
+    → log_to_open (opening_of may_open was_opened found) ≡ Some number
     → (found ≡ Some number) × (was_opened ≡ false) × (opens_here (opening_of may_open was_opened found) ≡ true)
 some_opens may_open was_opened None number is = absurd (none-some number is)
 some_opens may_open true (Some found) number is = absurd (none-some number is)
@@ -44,7 +46,8 @@ module _ (logs : List Log) (options : Options) where
   abbrev pub should_open : List ℕ → ViewState → Bool
   should_open name state = opens_here (mention_opening logs options name state)
 
-  pub should_open-is : (name : List ℕ) (state : ViewState) → should_open name state ≡ (options.recursive && is_among name (targets_of logs) && not (is_among name state.opened))
+  pub should_open-is : (name : List ℕ) (state : ViewState)
+      → should_open name state ≡ (options.recursive && is_among name (targets_of logs) && not (is_among name state.opened))
   should_open-is name state =
       opens_if options.recursive (is_among name state.opened) (log_number name logs)
       ∙ ap (λ listed. options.recursive && listed && not (is_among name state.opened)) (looked_up-listed name logs)
@@ -53,6 +56,7 @@ module _ (logs : List Log) (options : Options) where
   pub should_open-parts : (name : List ℕ) (state : ViewState) → should_open name state ≡ true
       → (options.recursive ≡ true) × (is_among name (targets_of logs) ≡ true) × (not (is_among name state.opened) ≡ true)
   should_open-parts name state is =
-      let both = and_parts (options.recursive && is_among name (targets_of logs)) (not (is_among name state.opened)) (sym (should_open-is name state) ∙ is) in
+      let both = and_parts (options.recursive && is_among name (targets_of logs)) (not (is_among name state.opened))
+      (sym (should_open-is name state) ∙ is) in
       let first = and_parts options.recursive (is_among name (targets_of logs)) both.0 in
       (first.0, first.1, both.1)

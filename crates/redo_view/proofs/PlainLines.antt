@@ -22,25 +22,33 @@ plain_state form [] = refl
 plain_state form (event ∷ events) = plain_state form events
 
 -- So the text of events is the text of each.
-pub plain_text : (form : PlainText) (events : List Event) → bytes_of plain_bytes plain_after form events ≡ flat_map (event_text form.options) events
+pub plain_text : (form : PlainText) (events : List Event)
+    → bytes_of plain_bytes plain_after form events ≡ flat_map (event_text form.options) events
 plain_text form [] = refl
 plain_text form (event ∷ events) = ap (λ text. event_text form.options event ++ text) (plain_text form events)
 
 -- The text of text lines.
 module _ (form : PlainText) (depth : ℕ) where
-  texts_text : (texts : List (List ℕ)) → (if form.options.details then flat_map with_line_feed texts else []) ≡ bytes_of plain_bytes plain_after form (text_events depth texts)
+  texts_text : (texts : List (List ℕ))
+      → (if form.options.details then flat_map with_line_feed texts else [])
+      ≡ bytes_of plain_bytes plain_after form (text_events depth texts)
   texts_text [] = none form.options.details
     where
       none : (details : Bool) → (if details then flat_map with_line_feed [] else []) ≡ []
       none true = refl
       none false = refl
-  texts_text (text ∷ texts) = one form.options.details ∙ ap (λ (rest : List ℕ). (if form.options.details then with_line_feed text else []) ++ rest) (texts_text texts)
+  texts_text (text ∷ texts) = one form.options.details
+      ∙ ap (λ (rest : List ℕ). (if form.options.details then with_line_feed text else []) ++ rest) (texts_text texts)
     where
-      one : (details : Bool) → (if details then flat_map with_line_feed (text ∷ texts) else []) ≡ (if details then with_line_feed text else []) ++ (if details then flat_map with_line_feed texts else [])
+      one : (details : Bool) → (if details then flat_map with_line_feed (text ∷ texts) else [])
+          ≡ (if details then with_line_feed text else []) ++ (if details then flat_map with_line_feed texts else [])
       one true = refl
       one false = refl
 
-  pub lines_text : (lines : List ℕ) → rest lines ≡ [] → (if form.options.details then lines else []) ≡ bytes_of plain_bytes plain_after form (text_events depth (ended lines))
+  pub lines_text : (lines : List ℕ) → rest lines ≡ []
+      → (if form.options.details then lines else []) ≡ bytes_of plain_bytes plain_after form (text_events depth (ended lines))
   lines_text lines none =
-      ap (λ (bytes : List ℕ). if form.options.details then bytes else []) ((are_lines lines).whole ∙ ap (λ last. flat_map with_line_feed (ended lines) ++ last) none ∙ append-nil (flat_map with_line_feed (ended lines)))
+      ap (λ (bytes : List ℕ). if form.options.details then bytes else [])
+      ((are_lines lines).whole ∙ ap (λ last. flat_map with_line_feed (ended lines) ++ last) none
+      ∙ append-nil (flat_map with_line_feed (ended lines)))
       ∙ texts_text (ended lines)

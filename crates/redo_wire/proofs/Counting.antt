@@ -28,11 +28,13 @@ not_among number [] apart among = among
 not_among number (other ∷ others) apart (inl same) = apart.0 same
 not_among number (other ∷ others) apart (inr among) = not_among number others apart.1 among
 
-no_hit : (item : Item) (number : ℕ) (others : List Met) → item.sender ≡ number → AllByRecursion (λ other. other.0 ≢ number) others → hits item others ≡ 0
+no_hit : (item : Item) (number : ℕ) (others : List Met) → item.sender ≡ number → AllByRecursion (λ other. other.0 ≢ number) others
+    → hits item others ≡ 0
 no_hit item number [] is apart = refl
 no_hit item number (other ∷ others) is apart = elim (eqb_tells item.sender other.0) [
   | inl same ↦ absurd (apart.0 (sym same.1 ∙ is))
-  | inr differ ↦ let behind : 0 + hits item others ≡ 0 = omega (arith, no_hit item number others is apart.1) in ap (λ b. hit b + hits item others) differ.0 ∙ behind
+  | inr differ ↦ let behind : 0 + hits item others ≡ 0 = omega (arith, no_hit item number others is apart.1) in
+      ap (λ b. hit b + hits item others) differ.0 ∙ behind
 ]
 
 one_hit : (item : Item) (met : List Met) → AreDistinct met → hits item met ≤ 1
@@ -62,14 +64,23 @@ within [] met apart = by met
 within (item ∷ items) met apart = omega (arith, one_more item items met, one_hit item met apart, within items met apart)
 
 -- If the ends posted the items of `front`, which were taken, and then `items`, then `items` are left.
-left_total : (front items : List Item) (met : List Met) → AllByRecursion (λ (m : Met). m.1 ≡ items_of m.0 (front ++ items)) met → pending_count front met ≡ total items met
+left_total : (front items : List Item) (met : List Met) → AllByRecursion (λ (m : Met). m.1 ≡ items_of m.0 (front ++ items)) met
+    → pending_count front met ≡ total items met
 left_total front items [] are = refl
 left_total front items (met ∷ others) are =
     let behind = left_total front items others are.1 in
-    omega (arith, behind, ap length are.0, ap length (items_of-append met.0 front items), length-append (items_of met.0 front) (items_of met.0 items))
+    omega (
+      arith,
+      behind,
+      ap length are.0,
+      ap length (items_of-append met.0 front items),
+      length-append (items_of met.0 front)
+          (items_of met.0 items),
+    )
 
 -- If no end was met twice, no more is left than there are items.
-pub left_within : (front items : List Item) (met : List Met) → AreDistinct met → AllByRecursion (λ (m : Met). m.1 ≡ items_of m.0 (front ++ items)) met → pending_count front met ≤ length items
+pub left_within : (front items : List Item) (met : List Met) → AreDistinct met
+    → AllByRecursion (λ (m : Met). m.1 ≡ items_of m.0 (front ++ items)) met → pending_count front met ≤ length items
 left_within front items met apart are = omega (arith, left_total front items met are, within items met apart)
 
 -- If, besides, each item is of one of these ends, as many are left as there are items.
@@ -79,15 +90,19 @@ one_is_hit item (met ∷ others) apart (inl same) =
     let here = ap hit (eq-eqb item.sender met.0 (sym same)) in
     let none = no_hit item met.0 others (sym same) apart.0 in omega (arith, here, none)
 one_is_hit item (met ∷ others) apart (inr among) = elim (eqb_tells item.sender met.0) [
-  | inl own ↦ absurd (not_among item.sender others (subst (λ n. AllByRecursion (λ (other : Met). other.0 ≢ n) others) (sym own.1) apart.0) among)
+  | inl own ↦ absurd (not_among item.sender others
+      (subst (λ n. AllByRecursion (λ (other : Met). other.0 ≢ n) others) (sym own.1) apart.0) among)
   | inr differ ↦ let here = ap hit differ.0 in omega (arith, here, one_is_hit item others apart.1 among)
 ]
 
-each_hit : (items : List Item) (met : List Met) → AreDistinct met → AllByRecursion (λ (item : Item). IsMet item.sender met) items → total items met ≡ length items
+each_hit : (items : List Item) (met : List Met) → AreDistinct met → AllByRecursion (λ (item : Item). IsMet item.sender met) items
+    → total items met ≡ length items
 each_hit [] met apart among = let least = within [] met apart in omega (arith, least)
-each_hit (item ∷ items) met apart among = omega (arith, one_more item items met, one_is_hit item met apart among.0, each_hit items met apart among.1)
+each_hit (item ∷ items) met apart among =
+    omega (arith, one_more item items met, one_is_hit item met apart among.0, each_hit items met apart among.1)
 
-pub left_count : (front items : List Item) (met : List Met) → AreDistinct met → AllByRecursion (λ (m : Met). m.1 ≡ items_of m.0 (front ++ items)) met
+pub left_count : (front items : List Item) (met : List Met) → AreDistinct met
+    → AllByRecursion (λ (m : Met). m.1 ≡ items_of m.0 (front ++ items)) met
     → AllByRecursion (λ (item : Item). IsMet item.sender met) items → pending_count front met ≡ length items
 left_count front items met apart are among = left_total front items met are ∙ each_hit items met apart among
 
@@ -98,14 +113,19 @@ no_items [] none = refl
 no_items (item ∷ items) none = absurd (omega (arith, none))
 
 -- If nothing is left of the ends, all that they posted was taken.
-pub nothing_left : (taken : List Item) (met : List Met) → pending_count taken met < 1 → AllByRecursion (λ (m : Met). IsPrefix (items_of m.0 taken) m.1) met → AllByRecursion (λ (m : Met). m.1 ≡ items_of m.0 taken) met
+pub nothing_left : (taken : List Item) (met : List Met) → pending_count taken met < 1
+    → AllByRecursion (λ (m : Met). IsPrefix (items_of m.0 taken) m.1) met → AllByRecursion (λ (m : Met). m.1 ≡ items_of m.0 taken) met
 nothing_left taken [] less fronts = tt
 nothing_left taken (met ∷ others) less fronts =
     let behind = fronts.0.0 in
-    let none : length behind ≡ 0 = omega (arith, less, ap length fronts.0.1, length-append (items_of met.0 taken) behind) in
-    (fronts.0.1 ∙ ap (λ items. items_of met.0 taken ++ items) (no_items behind none) ∙ append-nil (items_of met.0 taken), nothing_left taken others (omega (arith, less)) fronts.1)
+    let none : length behind ≡ 0 = omega (arith, less, ap length fronts.0.1, length-append (items_of met.0 taken) behind) in (
+      fronts.0.1 ∙ ap (λ items. items_of met.0 taken ++ items) (no_items behind none)
+          ∙ append-nil (items_of met.0 taken),
+      nothing_left taken others (omega (arith, less)) fronts.1,
+    )
 
 -- The converse.
-pub none_left : (taken : List Item) (met : List Met) → AllByRecursion (λ (m : Met). m.1 ≡ items_of m.0 taken) met → pending_count taken met ≡ 0
+pub none_left : (taken : List Item) (met : List Met) → AllByRecursion (λ (m : Met). m.1 ≡ items_of m.0 taken) met
+    → pending_count taken met ≡ 0
 none_left taken [] whole = refl
 none_left taken (met ∷ others) whole = omega (arith, none_left taken others whole.1, ap length whole.0)

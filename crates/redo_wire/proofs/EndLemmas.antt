@@ -8,5 +8,7 @@ all_by_place P [] each = tt
 all_by_place P (x ∷ xs) each = (each zero x refl, all_by_place P xs (λ k other is. each (suc k) other is))
 
 -- All the ends of a mailbox have this mailbox.
-pub ends_of_one : (mailbox : Mailbox) (ends : List PostEndState) → AreEndsOf mailbox ends → AllByRecursion (λ (end : PostEndState). end.mailbox ≡ mailbox) ends
-ends_of_one mailbox ends are = all_by_place (λ (end : PostEndState). end.mailbox ≡ mailbox) ends (λ k end is. ap (λ e. e.mailbox) (are.each k end is))
+pub ends_of_one : (mailbox : Mailbox) (ends : List PostEndState) → AreEndsOf mailbox ends
+    → AllByRecursion (λ (end : PostEndState). end.mailbox ≡ mailbox) ends
+ends_of_one mailbox ends are = all_by_place (λ (end : PostEndState). end.mailbox ≡ mailbox) ends
+    (λ k end is. ap (λ e. e.mailbox) (are.each k end is))

@@ -7,7 +7,8 @@ abbrev IsSet : List Bool → ℕ → Type 0
 IsSet flags number = slice_get flags number ≡ Some true
 
 -- One more flag is set.
-set_more : (flags : List Bool) (at number : ℕ) → at < length flags → IsSet (slice_set flags at true) number ↔ ((at ≡ number) ⊎ IsSet flags number)
+set_more : (flags : List Bool) (at number : ℕ) → at < length flags
+    → IsSet (slice_set flags at true) number ↔ ((at ≡ number) ⊎ IsSet flags number)
 set_more [] at number within = absurd (omega (arith, within))
 set_more (flag ∷ flags) zero zero within = (λ is. inl refl, λ either. refl)
 set_more (flag ∷ flags) zero (suc number) within = (
@@ -40,13 +41,15 @@ set_more (flag ∷ flags) (suc at) (suc number) within =
 abbrev pub Tell : ℕ → List Bool → List Met → Type 0
 Tell senders flags met = (number : ℕ) → number < senders → IsSet flags number ↔ IsMet number met
 
-pub none_set : (senders : ℕ) (flags : List Bool) → ((number : ℕ) → number < senders → slice_get flags number ≡ Some false) → Tell senders flags []
+pub none_set : (senders : ℕ) (flags : List Bool) → ((number : ℕ) → number < senders → slice_get flags number ≡ Some false)
+    → Tell senders flags []
 none_set senders flags none number below = (λ is. same (sym (none number below) ∙ is), λ among. absurd among)
   where
     same : Some false ≡ Some true → IsMet number []
     same is = cc
 
-pub one_set : (senders : ℕ) (flags : List Bool) (met : List Met) (end : Met) → length flags ≡ senders → end.0 < senders → Tell senders flags met → Tell senders (slice_set flags end.0 true) (end ∷ met)
+pub one_set : (senders : ℕ) (flags : List Bool) (met : List Met) (end : Met) → length flags ≡ senders → end.0 < senders
+    → Tell senders flags met → Tell senders (slice_set flags end.0 true) (end ∷ met)
 one_set senders flags met end count within tell number below =
     let more = set_more flags end.0 number (omega (arith, count, within)) in
     let before = tell number below in (
@@ -68,7 +71,8 @@ all_set (true ∷ flags) =
       λ all. behind.1 (λ number below. all (suc number) (omega (arith, below))),
     )
   where
-    by : ((number : ℕ) → number < length flags → IsSet flags number) → (number : ℕ) → number < length (true ∷ flags) → IsSet (true ∷ flags) number
+    by : ((number : ℕ) → number < length flags → IsSet flags number) → (number : ℕ) → number < length (true ∷ flags)
+        → IsSet (true ∷ flags) number
     by all zero below = refl
     by all (suc number) below = all number (omega (arith, below))
 all_set (false ∷ flags) = (λ is. absurd (no is), λ all. same (all zero (omega arith)))
@@ -84,5 +88,6 @@ pub all_are_met : (senders : ℕ) (flags : List Bool) (met : List Met) → lengt
 all_are_met senders flags met count tell =
     let all = all_set flags in (
       λ is number below. (tell number below).0 (all.0 is number (omega (arith, count, below))),
-      λ among. all.1 (λ number within. let below : number < senders = omega (arith, count, within) in (tell number below).1 (among number below)),
+      λ among. all.1 (λ number within. let below : number < senders = omega (arith, count, within) in
+          (tell number below).1 (among number below)),
     )

@@ -26,26 +26,37 @@ use Rattle.redo_wire.proofs.Steps.{items_of-append}
 
 -- ---- steps
 
-pub puts_at : (room senders number pass : ℕ) (put : List Item) (item : Item) (view : View) → view ≡ Posting room senders number put → item.sender ≡ number
-    → Pushes Invariant room pass view item (λ after. (after ≡ with_put item view) × KnowsPost view item after) × Learns Invariant pass view (λ items. ⊤)
+pub puts_at : (room senders number pass : ℕ) (put : List Item) (item : Item) (view : View) → view ≡ Posting room senders number put
+    → item.sender ≡ number
+    → Pushes Invariant room pass view item (λ after. (after ≡ with_put item view) × KnowsPost view item after)
+    × Learns Invariant pass view (λ items. ⊤)
 puts_at room senders number pass put item view is own =
-    subst (λ v. Pushes Invariant room pass v item (λ after. (after ≡ with_put item v) × KnowsPost v item after) × Learns Invariant pass v (λ items. ⊤)) (sym is)
+    subst (λ v. Pushes Invariant room pass v item (λ after. (after ≡ with_put item v) × KnowsPost v item after)
+    × Learns Invariant pass v (λ items. ⊤)) (sym is)
     (puts room room senders number pass put item own refl, λ items views rules at. tt)
 
-pub gets_at : (capacity senders made pass : ℕ) (got : List Item) (met : List Met) (view : View) → view ≡ Taking capacity senders made got met
-    → Pops Invariant pass view (λ item after. (after ≡ with_got item view) × KnowsMet after × KnowsStep view item after) × Learns Invariant pass view (KnowsOf view)
+pub gets_at : (capacity senders made pass : ℕ) (got : List Item) (met : List Met) (view : View)
+    → view ≡ Taking capacity senders made got met
+    → Pops Invariant pass view (λ item after. (after ≡ with_got item view) × KnowsMet after × KnowsStep view item after)
+    × Learns Invariant pass view (KnowsOf view)
 gets_at capacity senders made pass got met view is =
-    subst (λ v. Pops Invariant pass v (λ item after. (after ≡ with_got item v) × KnowsMet after × KnowsStep v item after) × Learns Invariant pass v (KnowsOf v)) (sym is)
+    subst (λ v. Pops Invariant pass v (λ item after. (after ≡ with_got item v) × KnowsMet after × KnowsStep v item after)
+    × Learns Invariant pass v (KnowsOf v)) (sym is)
     (gets capacity senders made pass got met, learns capacity senders made pass got met)
 
-pub learns_at : (capacity senders made pass : ℕ) (got : List Item) (met : List Met) (view : View) → view ≡ Taking capacity senders made got met → Learns Invariant pass view (KnowsOf view)
-learns_at capacity senders made pass got met view is = subst (λ v. Learns Invariant pass v (KnowsOf v)) (sym is) (learns capacity senders made pass got met)
+pub learns_at : (capacity senders made pass : ℕ) (got : List Item) (met : List Met) (view : View)
+    → view ≡ Taking capacity senders made got met → Learns Invariant pass view (KnowsOf view)
+learns_at capacity senders made pass got met view is =
+    subst (λ v. Learns Invariant pass v (KnowsOf v)) (sym is) (learns capacity senders made pass got met)
 
-pub meets_at : (capacity senders made pass limit sized number other : ℕ) (got : List Item) (met : List Met) (put : List Item) (view end : View)
-    → view ≡ Taking capacity senders made got met → end ≡ Posting limit sized number put → Merges Invariant pass view other end (with_met view end) Idle
+pub meets_at : (capacity senders made pass limit sized number other : ℕ) (got : List Item) (met : List Met) (put : List Item)
+    (view end : View)
+    → view ≡ Taking capacity senders made got met → end ≡ Posting limit sized number put
+    → Merges Invariant pass view other end (with_met view end) Idle
 meets_at capacity senders made pass limit sized number other got met put view end is end_is =
     subst (λ v. Merges Invariant pass v other end (with_met v end) Idle) (sym is)
-    (subst (λ w. Merges Invariant pass (Taking capacity senders made got met) other w (with_met (Taking capacity senders made got met) w) Idle) (sym end_is)
+    (subst (λ w. Merges Invariant pass (Taking capacity senders made got met) other w
+    (with_met (Taking capacity senders made got met) w) Idle) (sym end_is)
     (meets capacity senders made pass limit sized number other got met put))
 
 -- ---- what is known
@@ -85,7 +96,8 @@ fronts_of taken (met ∷ others) whole = (([], whole.0 ∙ sym (append-nil (item
 
 fronts_with : (taken items : List Item) (met : List Met) → Whole (taken ++ items) met → Fronts taken met
 fronts_with taken items [] whole = tt
-fronts_with taken items (met ∷ others) whole = ((items_of met.0 items, whole.0 ∙ items_of-append met.0 taken items), fronts_with taken items others whole.1)
+fronts_with taken items (met ∷ others) whole =
+    ((items_of met.0 items, whole.0 ∙ items_of-append met.0 taken items), fronts_with taken items others whole.1)
 
 pub fronts_known : (view : View) (items : List Item) → KnowsOf view items → Fronts (items_in view) (met_in view)
 fronts_known Idle items knows = absurd knows
@@ -99,7 +111,8 @@ state_known Starting items knows = absurd knows
 state_known (Posting capacity senders number put) items knows = absurd knows
 state_known (Taking capacity senders made got met) items knows = knows.3
 
-pub schedule_known : (view : View) (items : List Item) → KnowsOf view items → (state : State) × IsReached (capacity_in view) (senders_in view) state × Observes (items_in view) (met_in view) state
+pub schedule_known : (view : View) (items : List Item) → KnowsOf view items
+    → (state : State) × IsReached (capacity_in view) (senders_in view) state × Observes (items_in view) (met_in view) state
 schedule_known view items knows = let known = state_known view items knows in (known.0, known.1, known.2)
 
 -- If nothing was found.
@@ -110,21 +123,26 @@ module _ (before after : View) (same : after ≡ before) (held : Held 0 (KnowsOf
   pub fronts_at_none : Fronts (items_in after) (met_in after)
   fronts_at_none = fronts_of (items_in after) (met_in after) whole_at_none
 
-  pub step_at_none : (old new : State) × IsReached (capacity_in before) (senders_in before) old × Observes (items_in before) (met_in before) old × FindsEmpty old new
+  pub step_at_none : (old new : State) × IsReached (capacity_in before) (senders_in before) old
+      × Observes (items_in before) (met_in before) old × FindsEmpty old new
       × Observes (items_in after) (met_in after) new
   step_at_none =
       let known = state_known before [] (none_held held) in
       (known.0, known.0, known.1, known.2, (known.3, refl), subst (λ v. Observes (items_in v) (met_in v) known.0) (sym same) known.2)
 
-  pub own_at_none : (capacity senders made : ℕ) (got : List Item) (met : List Met) → before ≡ Taking capacity senders made got met → Own after
+  pub own_at_none : (capacity senders made : ℕ) (got : List Item) (met : List Met) → before ≡ Taking capacity senders made got met
+      → Own after
   own_at_none capacity senders made got met is =
-      subst Own (sym (same ∙ is)) (subst (AllByRecursion (λ (item : Item). item.sender < senders)) (append-nil got) (subst (λ v. KnowsOf v []) is (none_held held)).1)
+      subst Own (sym (same ∙ is)) (subst (AllByRecursion (λ (item : Item). item.sender < senders)) (append-nil got)
+      (subst (λ v. KnowsOf v []) is (none_held held)).1)
 
 -- If an item was put.
-pub post_known : {Q M L A B : Type 0} (sender : Sending (Rows (Badge (Key Item)) (Doing Item View) Q M (Key Item) L A) B) (pass now : Pass Item View) (number : ℕ) (item : Item)
+pub post_known : {Q M L A B : Type 0} (sender : Sending (Rows (Badge (Key Item)) (Doing Item View) Q M (Key Item) L A) B)
+    (pass now : Pass Item View) (number : ℕ) (item : Item)
     → IsPoster sender pass number → KnowsPost (view pass) item (view now) → PostsByStep item (poster_of pass number) (poster_of now number)
 post_known sender pass now number item poster knows =
-    subst (λ n. (before after : State) × IsReached (capacity_in (view pass)) (senders_in (view pass)) before × IsLive n before × (items_in (view pass) ≡ before.posted n)
+    subst (λ n. (before after : State) × IsReached (capacity_in (view pass)) (senders_in (view pass)) before × IsLive n before
+    × (items_in (view pass) ≡ before.posted n)
     × Posts (capacity_in (view pass)) n item before after × (items_in (view now) ≡ after.posted n)) (ap number_in poster.view_is) knows
 
 -- ---- an end that was met
@@ -135,14 +153,17 @@ apart_known Starting items knows = absurd knows
 apart_known (Posting capacity senders number put) items knows = absurd knows
 apart_known (Taking capacity senders made got met) items knows = knows.2
 
-pub first_met : (view : View) (number : ℕ) (put : List Item) (others : List Met) → met_in view ≡ (number, put) ∷ others → (items : List Item) × KnowsOf view items → IsMet number others → ⊥
+pub first_met : (view : View) (number : ℕ) (put : List Item) (others : List Met) → met_in view ≡ (number, put) ∷ others
+    → (items : List Item) × KnowsOf view items → IsMet number others → ⊥
 first_met view number put others is knows = not_among number others (subst AreDistinct is (apart_known view knows.0 knows.1)).0
 
 module _ {Q M L A B : Type 0} (sender : Sending (Rows (Badge (Key Item)) (Doing Item View) Q M (Key Item) L A) B)
-    (receiver : Receiving (Rows (Badge (Key Item)) (Doing Item View) Q M (Key Item) L A) B) (pass end : Pass Item View) (number : ℕ) (flags : List Bool)
+    (receiver : Receiving (Rows (Badge (Key Item)) (Doing Item View) Q M (Key Item) L A) B) (pass end : Pass Item View) (number : ℕ)
+    (flags : List Bool)
     (collector : IsCollector receiver pass flags) (poster : IsPoster sender end number) where
   pub with_met_is : with_met (view pass) (view end)
-      ≡ Taking (capacity_in (view pass)) (senders_in (view pass)) (senders_in (view pass)) (items_in (view pass)) ((number, items_in (view end)) ∷ met_in (view pass))
+      ≡ Taking (capacity_in (view pass)) (senders_in (view pass)) (senders_in (view pass)) (items_in (view pass))
+      ((number, items_in (view end)) ∷ met_in (view pass))
   with_met_is = λ i. with_met (collector.view_is i) (poster.view_is i)
 
   module _ (now : Pass Item View) (is : view now ≡ with_met (view pass) (view end)) (seat : IsSeatAt (sends_on sender) now) where

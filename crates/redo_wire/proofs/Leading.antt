@@ -7,7 +7,8 @@ use Rattle.redo_wire.specs.Machine.{IsStep, IsLive, Meets, Posts, AddsEnd, State
 use Rattle.redo_wire.proofs.Steps.{items_of-other, items_of-own}
 
 module _ (capacity senders : ℕ) where
-  pub can_split : (before : State) → before.made < senders → before.posted before.made ≡ [] → (after : State) × (after.made ≡ before.made + 1) × IsStep capacity senders before after
+  pub can_split : (before : State) → before.made < senders → before.posted before.made ≡ []
+      → (after : State) × (after.made ≡ before.made + 1) × IsStep capacity senders before after
   can_split before unmade none = (
     record { taken = before.taken; queued = before.queued; posted = before.posted; made = before.made + 1; met = before.met },
     refl,
@@ -15,12 +16,19 @@ module _ (capacity senders : ℕ) where
   )
 
   pub can_post : (item : Item) (before : State) → item.sender < senders → IsLive item.sender before → length before.queued < capacity
-      → (after : State) × (after.queued ≡ before.queued ++ item ∷ []) × (after.posted item.sender ≡ before.posted item.sender ++ item ∷ []) × IsStep capacity senders before after
+      → (after : State) × (after.queued ≡ before.queued ++ item ∷ []) × (after.posted item.sender ≡ before.posted item.sender ++ item ∷ [])
+      × IsStep capacity senders before after
   can_post item before below there room = (
     after,
     refl,
     posted,
-    inr (inl (item.sender, item, below, there, record { own = refl; room = room; taken = refl; queued = refl; posted = posted; others = others; ends = (refl, refl) })),
+    inr (inl (
+      item.sender,
+      item,
+      below,
+      there,
+      record { own = refl; room = room; taken = refl; queued = refl; posted = posted; others = others; ends = (refl, refl) },
+    )),
   )
     where
       after : State
@@ -36,7 +44,8 @@ module _ (capacity senders : ℕ) where
       posted = ap (λ items. before.posted item.sender ++ items) (items_of-own item.sender item refl)
 
       others : (other : ℕ) → (other ≡ item.sender → ⊥) → after.posted other ≡ before.posted other
-      others other differ = ap (λ items. before.posted other ++ items) (items_of-other other item (λ is. differ (sym is))) ∙ append-nil (before.posted other)
+      others other differ = ap (λ items. before.posted other ++ items) (items_of-other other item (λ is. differ (sym is)))
+          ∙ append-nil (before.posted other)
 
   pub can_take : (item : Item) (behind : List Item) (before : State) → before.queued ≡ item ∷ behind
       → (after : State) × (after.taken ≡ before.taken ++ item ∷ []) × (after.queued ≡ behind) × IsStep capacity senders before after
@@ -50,7 +59,8 @@ module _ (capacity senders : ℕ) where
   pub can_find_nothing : (before : State) → before.queued ≡ [] → IsStep capacity senders before before
   can_find_nothing before none = inr (inr (inr (inl (none, refl))))
 
-  pub can_meet : (sender : ℕ) (before : State) → IsLive sender before → (after : State) × (after.met ≡ sender ∷ before.met) × IsStep capacity senders before after
+  pub can_meet : (sender : ℕ) (before : State) → IsLive sender before
+      → (after : State) × (after.met ≡ sender ∷ before.met) × IsStep capacity senders before after
   can_meet sender before there = (
     record { taken = before.taken; queued = before.queued; posted = before.posted; made = before.made; met = sender ∷ before.met },
     refl,
@@ -68,7 +78,8 @@ one_split senders before one other first second = λ i. record {
   met = (first.met ∙ sym second.met) i;
 }
 
-pub one_post : (capacity sender : ℕ) (item : Item) (before one other : State) → Posts capacity sender item before one → Posts capacity sender item before other → one ≡ other
+pub one_post : (capacity sender : ℕ) (item : Item) (before one other : State) → Posts capacity sender item before one
+    → Posts capacity sender item before other → one ≡ other
 one_post capacity sender item before one other first second = λ i. record {
   taken = (first.taken ∙ sym second.taken) i;
   queued = (first.queued ∙ sym second.queued) i;
@@ -124,9 +135,11 @@ module _ (capacity senders : ℕ) where
   nothing_queued state (inr (inr (inr (inl nothing)))) = nothing.0
   nothing_queued state (inr (inr (inr (inr meets)))) = absurd (no_longer meets.0 state.met meets.1.met)
 
-  pub posts_while_there : (sender : ℕ) (before after : State) → IsStep capacity senders before after → (IsLive sender before → ⊥) → after.posted sender ≡ before.posted sender
+  pub posts_while_there : (sender : ℕ) (before after : State) → IsStep capacity senders before after → (IsLive sender before → ⊥)
+      → after.posted sender ≡ before.posted sender
   posts_while_there sender before after (inl splits) away = splits.items.2 sender
-  posts_while_there sender before after (inr (inl posts)) away = posts.4.others sender (λ same. away (subst (λ number. IsLive number before) (sym same) posts.3))
+  posts_while_there sender before after (inr (inl posts)) away =
+      posts.4.others sender (λ same. away (subst (λ number. IsLive number before) (sym same) posts.3))
   posts_while_there sender before after (inr (inr (inl takes))) away = takes.1.posted sender
   posts_while_there sender before after (inr (inr (inr (inl nothing)))) away = ap (λ state. state.posted sender) nothing.1
   posts_while_there sender before after (inr (inr (inr (inr meets)))) away = meets.1.items.2 sender

@@ -115,7 +115,15 @@ first_post = inr (inl (
   a,
   omega arith,
   (omega arith, tt),
-  record { own = refl; room = omega arith; taken = refl; queued = refl; posted = refl; others = none_else [] [] (a ∷ []); ends = (refl, refl) },
+  record {
+    own = refl;
+    room = omega arith;
+    taken = refl;
+    queued = refl;
+    posted = refl;
+    others = none_else [] [] (a ∷ []);
+    ends = (refl, refl);
+  },
 ))
 
 first_take : IsStep 1 2 one_posted one_taken
@@ -127,7 +135,15 @@ second_post = inr (inl (
   b,
   omega arith,
   (omega arith, tt),
-  record { own = refl; room = omega arith; taken = refl; queued = refl; posted = refl; others = nor_else (a ∷ []) [] (b ∷ []); ends = (refl, refl) },
+  record {
+    own = refl;
+    room = omega arith;
+    taken = refl;
+    queued = refl;
+    posted = refl;
+    others = nor_else (a ∷ []) [] (b ∷ []);
+    ends = (refl, refl);
+  },
 ))
 
 second_take : IsStep 1 2 two_posted two_taken
@@ -137,23 +153,41 @@ second_look : IsStep 1 2 two_taken two_taken
 second_look = inr (inr (inr (inl (refl, refl))))
 
 first_meeting : IsStep 1 2 two_taken one_met
-first_meeting = inr (inr (inr (inr (1, record { there = (omega arith, tt); made = refl; met = refl; items = (refl, refl, λ number. refl) }))))
+first_meeting = inr (inr (inr (inr (
+  1,
+  record { there = (omega arith, tt); made = refl; met = refl; items = (refl, refl, λ number. refl) },
+))))
 
 second_meeting : IsStep 1 2 one_met two_met
-second_meeting = inr (inr (inr (inr (0, record { there = (omega arith, ((λ same. omega (arith, same)), tt)); made = refl; met = refl; items = (refl, refl, λ number. refl) }))))
+second_meeting = inr (inr (inr (inr (
+  0,
+  record { there = (omega arith, ((λ same. omega (arith, same)), tt)); made = refl; met = refl; items = (refl, refl, λ number. refl) },
+))))
 
 abbrev states : List State
 states = one_end ∷ two_ends ∷ one_posted ∷ one_taken ∷ two_posted ∷ two_taken ∷ two_taken ∷ one_met ∷ two_met ∷ []
 
 schedule : IsSchedule 1 2 opened states
-schedule = (first_split, (second_split, (first_post, (first_take, (second_post, (second_take, (second_look, (first_meeting, (second_meeting, tt)))))))))
+schedule = (
+  first_split,
+  (
+    second_split,
+    (first_post, (first_take, (second_post, (second_take, (second_look, (first_meeting, (second_meeting, tt))))))),
+  ),
+)
 
 pub reached_opened : IsReached 1 2 opened
 reached_opened = record { first = opened; states = []; opens = opens; schedule = tt; last = refl }
 
 -- Both ends are split off.
 pub reached_ends : IsReached 1 2 two_ends
-reached_ends = record { first = opened; states = one_end ∷ two_ends ∷ []; opens = opens; schedule = (first_split, (second_split, tt)); last = refl }
+reached_ends = record {
+  first = opened;
+  states = one_end ∷ two_ends ∷ [];
+  opens = opens;
+  schedule = (first_split, (second_split, tt));
+  last = refl;
+}
 
 pub reached : IsReached 1 2 two_met
 reached = record { first = opened; states = states; opens = opens; schedule = schedule; last = refl }
@@ -165,11 +199,25 @@ second_first = inr (inl (
   b,
   omega arith,
   (omega arith, tt),
-  record { own = refl; room = omega arith; taken = refl; queued = refl; posted = refl; others = nor_else [] [] (b ∷ []); ends = (refl, refl) },
+  record {
+    own = refl;
+    room = omega arith;
+    taken = refl;
+    queued = refl;
+    posted = refl;
+    others = nor_else [] [] (b ∷ []);
+    ends = (refl, refl);
+  },
 ))
 
 reached_second_first : IsReached 1 2 (state [] (b ∷ []) (posted [] (b ∷ [])) 2 [])
-reached_second_first = record { first = opened; states = one_end ∷ two_ends ∷ state [] (b ∷ []) (posted [] (b ∷ [])) 2 [] ∷ []; opens = opens; schedule = (first_split, (second_split, (second_first, tt))); last = refl }
+reached_second_first = record {
+  first = opened;
+  states = one_end ∷ two_ends ∷ state [] (b ∷ []) (posted [] (b ∷ [])) 2 [] ∷ [];
+  opens = opens;
+  schedule = (first_split, (second_split, (second_first, tt)));
+  last = refl;
+}
 
 other_post : IsStep 1 2 two_ends (state [] (c ∷ []) (posted (c ∷ []) []) 2 [])
 other_post = inr (inl (
@@ -177,17 +225,37 @@ other_post = inr (inl (
   c,
   omega arith,
   (omega arith, tt),
-  record { own = refl; room = omega arith; taken = refl; queued = refl; posted = refl; others = none_else [] [] (c ∷ []); ends = (refl, refl) },
+  record {
+    own = refl;
+    room = omega arith;
+    taken = refl;
+    queued = refl;
+    posted = refl;
+    others = none_else [] [] (c ∷ []);
+    ends = (refl, refl);
+  },
 ))
 
 other_take : IsStep 1 2 (state [] (c ∷ []) (posted (c ∷ []) []) 2 []) (state (c ∷ []) [] (posted (c ∷ []) []) 2 [])
 other_take = inr (inr (inl (c, record { queued = refl; taken = refl; posted = λ number. refl; ends = (refl, refl) })))
 
 reached_other : IsReached 1 2 (state (c ∷ []) [] (posted (c ∷ []) []) 2 [])
-reached_other = record { first = opened; states = one_end ∷ two_ends ∷ state [] (c ∷ []) (posted (c ∷ []) []) 2 [] ∷ state (c ∷ []) [] (posted (c ∷ []) []) 2 [] ∷ []; opens = opens; schedule = (first_split, (second_split, (other_post, (other_take, tt)))); last = refl }
+reached_other = record {
+  first = opened;
+  states = one_end ∷ two_ends ∷ state [] (c ∷ []) (posted (c ∷ []) []) 2 [] ∷ state (c ∷ []) [] (posted (c ∷ []) []) 2 [] ∷ [];
+  opens = opens;
+  schedule = (first_split, (second_split, (other_post, (other_take, tt))));
+  last = refl;
+}
 
 reached_two : IsReached 1 2 two_posted
-reached_two = record { first = opened; states = one_end ∷ two_ends ∷ one_posted ∷ one_taken ∷ two_posted ∷ []; opens = opens; schedule = (first_split, (second_split, (first_post, (first_take, (second_post, tt))))); last = refl }
+reached_two = record {
+  first = opened;
+  states = one_end ∷ two_ends ∷ one_posted ∷ one_taken ∷ two_posted ∷ [];
+  opens = opens;
+  schedule = (first_split, (second_split, (first_post, (first_take, (second_post, tt)))));
+  last = refl;
+}
 
 -- In a mailbox for two items, an end is met while both of its items are queued.
 abbrev pub two_left : State
@@ -208,7 +276,15 @@ reached_two_left = record {
           a,
           omega arith,
           (omega arith, tt),
-          record { own = refl; room = omega arith; taken = refl; queued = refl; posted = refl; others = none_else [] [] (a ∷ []); ends = (refl, refl) },
+          record {
+            own = refl;
+            room = omega arith;
+            taken = refl;
+            queued = refl;
+            posted = refl;
+            others = none_else [] [] (a ∷ []);
+            ends = (refl, refl);
+          },
         )),
         (
           inr (inl (
@@ -216,9 +292,28 @@ reached_two_left = record {
             c,
             omega arith,
             (omega arith, tt),
-            record { own = refl; room = omega arith; taken = refl; queued = refl; posted = refl; others = none_else (a ∷ []) [] (a ∷ c ∷ []); ends = (refl, refl) },
+            record {
+              own = refl;
+              room = omega arith;
+              taken = refl;
+              queued = refl;
+              posted = refl;
+              others = none_else (a ∷ []) [] (a ∷ c ∷ []);
+              ends = (refl, refl);
+            },
           )),
-          (inr (inr (inr (inr (0, record { there = (omega arith, tt); made = refl; met = refl; items = (refl, refl, λ number. refl) })))), tt),
+          (
+            inr (inr (inr (inr (
+              0,
+              record {
+                there = (omega arith, tt);
+                made = refl;
+                met = refl;
+                items = (refl, refl, λ number. refl);
+              },
+            )))),
+            tt,
+          ),
         ),
       ),
     ),
@@ -249,9 +344,18 @@ third_split : IsStep 1 3 two_ends three_ends
 third_split = inl (record { unmade = omega arith; none_posted = refl; made = refl; met = refl; items = (refl, refl, λ number. refl) })
 
 pub third_posts : Posts 1 2 third three_ends (state [] (third ∷ []) (posted_by_third (third ∷ [])) 3 [])
-third_posts = record { own = refl; room = omega arith; taken = refl; queued = refl; posted = refl; others = third_else; ends = (refl, refl) }
+third_posts = record {
+  own = refl;
+  room = omega arith;
+  taken = refl;
+  queued = refl;
+  posted = refl;
+  others = third_else;
+  ends = (refl, refl);
+}
 
-pub third_taken : Takes third (state [] (third ∷ []) (posted_by_third (third ∷ [])) 3 []) (state (third ∷ []) [] (posted_by_third (third ∷ [])) 3 [])
+pub third_taken : Takes third (state [] (third ∷ []) (posted_by_third (third ∷ [])) 3 [])
+    (state (third ∷ []) [] (posted_by_third (third ∷ [])) 3 [])
 third_taken = record { queued = refl; taken = refl; posted = λ number. refl; ends = (refl, refl) }
 
 pub reached_three_ends : IsReached 1 3 three_ends
@@ -287,7 +391,8 @@ reached_third_posted = record {
 pub reached_third_taken : IsReached 1 3 (state (third ∷ []) [] (posted_by_third (third ∷ [])) 3 [])
 reached_third_taken = record {
   first = opened;
-  states = one_end ∷ two_ends ∷ three_ends ∷ state [] (third ∷ []) (posted_by_third (third ∷ [])) 3 [] ∷ state (third ∷ []) [] (posted_by_third (third ∷ [])) 3 [] ∷ [];
+  states = one_end ∷ two_ends ∷ three_ends ∷ state [] (third ∷ []) (posted_by_third (third ∷ [])) 3 []
+      ∷ state (third ∷ []) [] (posted_by_third (third ∷ [])) 3 [] ∷ [];
   opens = opens;
   schedule = (
     inl (record { unmade = omega arith; none_posted = refl; made = refl; met = refl; items = (refl, refl, λ number. refl) }),
@@ -339,34 +444,42 @@ not_opened_so opens = let is = ap length opens.4 in omega (arith, is)
 -- ---- impossible steps
 
 -- Only a post makes the queue longer, and only a take makes it shorter.
-grows : (capacity senders : ℕ) (before after : State) → IsStep capacity senders before after → length after.queued ≡ length before.queued + 1
+grows : (capacity senders : ℕ) (before after : State) → IsStep capacity senders before after
+    → length after.queued ≡ length before.queued + 1
     → (sender : ℕ) × (item : Item) × (sender < senders) × IsLive sender before × Posts capacity sender item before after
 grows capacity senders before after (inl splits) more = absurd (omega (arith, more, ap length splits.items.1))
 grows capacity senders before after (inr (inl posts)) more = posts
 grows capacity senders before after (inr (inr (inl takes))) more = absurd (omega (arith, more, ap length takes.1.queued))
-grows capacity senders before after (inr (inr (inr (inl nothing)))) more = absurd (omega (arith, more, ap (λ (state : State). length state.queued) nothing.1))
+grows capacity senders before after (inr (inr (inr (inl nothing)))) more =
+    absurd (omega (arith, more, ap (λ (state : State). length state.queued) nothing.1))
 grows capacity senders before after (inr (inr (inr (inr meets)))) more = absurd (omega (arith, more, ap length meets.1.items.1))
 
-shrinks : (capacity senders : ℕ) (before after : State) → IsStep capacity senders before after → length before.queued ≡ length after.queued + 1 → (item : Item) × Takes item before after
+shrinks : (capacity senders : ℕ) (before after : State) → IsStep capacity senders before after
+    → length before.queued ≡ length after.queued + 1 → (item : Item) × Takes item before after
 shrinks capacity senders before after (inl splits) less = absurd (omega (arith, less, ap length splits.items.1))
-shrinks capacity senders before after (inr (inl posts)) less = absurd (omega (arith, less, ap length posts.4.queued, length-append before.queued (posts.1 ∷ [])))
+shrinks capacity senders before after (inr (inl posts)) less =
+    absurd (omega (arith, less, ap length posts.4.queued, length-append before.queued (posts.1 ∷ [])))
 shrinks capacity senders before after (inr (inr (inl takes))) less = takes
-shrinks capacity senders before after (inr (inr (inr (inl nothing)))) less = absurd (omega (arith, less, ap (λ (state : State). length state.queued) nothing.1))
+shrinks capacity senders before after (inr (inr (inr (inl nothing)))) less =
+    absurd (omega (arith, less, ap (λ (state : State). length state.queued) nothing.1))
 shrinks capacity senders before after (inr (inr (inr (inr meets)))) less = absurd (omega (arith, less, ap length meets.1.items.1))
 
 -- Only splitting off makes an end, and only meeting one adds a met end.
-splits_off : (capacity senders : ℕ) (before after : State) → IsStep capacity senders before after → (after.made ≡ before.made → ⊥) → AddsEnd senders before after
+splits_off : (capacity senders : ℕ) (before after : State) → IsStep capacity senders before after → (after.made ≡ before.made → ⊥)
+    → AddsEnd senders before after
 splits_off capacity senders before after (inl splits) more = splits
 splits_off capacity senders before after (inr (inl posts)) more = absurd (more posts.4.ends.0)
 splits_off capacity senders before after (inr (inr (inl takes))) more = absurd (more takes.1.ends.0)
 splits_off capacity senders before after (inr (inr (inr (inl nothing)))) more = absurd (more (ap (λ (state : State). state.made) nothing.1))
 splits_off capacity senders before after (inr (inr (inr (inr meets)))) more = absurd (more meets.1.made)
 
-is_met : (capacity senders : ℕ) (before after : State) → IsStep capacity senders before after → length after.met ≡ length before.met + 1 → (sender : ℕ) × Meets sender before after
+is_met : (capacity senders : ℕ) (before after : State) → IsStep capacity senders before after → length after.met ≡ length before.met + 1
+    → (sender : ℕ) × Meets sender before after
 is_met capacity senders before after (inl splits) more = absurd (omega (arith, more, ap length splits.met))
 is_met capacity senders before after (inr (inl posts)) more = absurd (omega (arith, more, ap length posts.4.ends.1))
 is_met capacity senders before after (inr (inr (inl takes))) more = absurd (omega (arith, more, ap length takes.1.ends.1))
-is_met capacity senders before after (inr (inr (inr (inl nothing)))) more = absurd (omega (arith, more, ap (λ (state : State). length state.met) nothing.1))
+is_met capacity senders before after (inr (inr (inr (inl nothing)))) more =
+    absurd (omega (arith, more, ap (λ (state : State). length state.met) nothing.1))
 is_met capacity senders before after (inr (inr (inr (inr meets)))) more = meets
 
 the_last : (x y : Item) → x ∷ [] ≡ y ∷ [] → x ≡ y
@@ -451,7 +564,8 @@ not_met_again step = let meets = is_met 1 2 two_met _ step refl in meets.1.there
 
 -- A step posts, takes and meets one at most, and no end that was met comes back.
 by_one : (capacity senders : ℕ) (before after : State) → IsStep capacity senders before after
-    → (length after.queued ≤ length before.queued + 1) × (length before.queued ≤ length after.queued + 1) × (length after.met ≤ length before.met + 1) × (length before.met ≤ length after.met)
+    → (length after.queued ≤ length before.queued + 1) × (length before.queued ≤ length after.queued + 1)
+    × (length after.met ≤ length before.met + 1) × (length before.met ≤ length after.met)
 by_one capacity senders before after (inl splits) =
     let queued = ap length splits.items.1 in let met = ap length splits.met in
     (omega (arith, queued), omega (arith, queued), omega (arith, met), omega (arith, met))
@@ -470,7 +584,8 @@ by_one capacity senders before after (inr (inr (inr (inr meets)))) =
 
 -- No step is two at once.
 no_two_splits : IsStep 1 2 opened two_ends → ⊥
-no_two_splits step = let splits = splits_off 1 2 opened two_ends step (λ same. omega (arith, same)) in let made = splits.made in omega (arith, made)
+no_two_splits step = let splits = splits_off 1 2 opened two_ends step (λ same. omega (arith, same)) in let made = splits.made in
+    omega (arith, made)
 
 no_two_posts : IsStep 2 2 two_ends (state [] (a ∷ c ∷ []) (posted (a ∷ c ∷ []) []) 2 []) → ⊥
 no_two_posts step = let few = (by_one 2 2 _ _ step).0 in omega (arith, few)
@@ -491,7 +606,8 @@ no_take_and_post (inr (inr (inr (inr meets)))) = omega (arith, ap length meets.1
 
 -- No end goes away that was made or met.
 no_end_unmade : IsStep 1 2 two_ends one_end → ⊥
-no_end_unmade step = let splits = splits_off 1 2 two_ends one_end step (λ same. omega (arith, same)) in let made = splits.made in omega (arith, made)
+no_end_unmade step = let splits = splits_off 1 2 two_ends one_end step (λ same. omega (arith, same)) in let made = splits.made in
+    omega (arith, made)
 
 no_end_unmet : IsStep 1 2 one_met two_taken → ⊥
 no_end_unmet step = let still = (by_one 1 2 one_met two_taken step).3 in omega (arith, still)

@@ -15,7 +15,8 @@ use Rattle.redo_wire.proofs.Steps.{lawful_reached, lawful_takes, made_reached, i
 abbrev both : List Met
 both = (1, b ∷ []) ∷ (0, a ∷ c ∷ []) ∷ []
 
-left : (pending_count [] both ≡ 3) × (pending_count (a ∷ []) both ≡ 2) × (pending_count (a ∷ b ∷ []) both ≡ 1) × (pending_count (a ∷ b ∷ c ∷ []) both ≡ 0) × (pending_count [] [] ≡ 0)
+left : (pending_count [] both ≡ 3) × (pending_count (a ∷ []) both ≡ 2) × (pending_count (a ∷ b ∷ []) both ≡ 1)
+    × (pending_count (a ∷ b ∷ c ∷ []) both ≡ 0) × (pending_count [] [] ≡ 0)
 left = (refl, refl, refl, refl, refl)
 
 -- If more was taken of an end than it posted, nothing is left of it, and as much as before of the others.
@@ -85,7 +86,12 @@ abbrev mailbox : ℕ → Mailbox
 mailbox capacity =
     record {
       table = record { words = 0; slots = 0; views_name = 0; atom = 0; block = 0; offset = 0; slot_names = [] };
-      key = record { marker = record {}; table_id = record { words = 0; slots = 0; views_name = 0; atom = 0; block = 0; offset = 0; slot_names = [] }; id = 0; views = [] };
+      key = record {
+        marker = record {};
+        table_id = record { words = 0; slots = 0; views_name = 0; atom = 0; block = 0; offset = 0; slot_names = [] };
+        id = 0;
+        views = [];
+      };
       capacity = capacity;
       senders = 2;
     }
@@ -96,7 +102,8 @@ poster number posted = record { mailbox = mailbox 2; number = number; posted = p
 abbrev collector : ℕ → List Item → List Met → TakeEndState
 collector capacity taken met = record { mailbox = mailbox capacity; taken = taken; met = met }
 
-calls : (after_post c (poster 0 (a ∷ [])) ≡ poster 0 (a ∷ c ∷ [])) × (after_take b (collector 2 (a ∷ []) both) ≡ collector 2 (a ∷ b ∷ []) both)
+calls : (after_post c (poster 0 (a ∷ [])) ≡ poster 0 (a ∷ c ∷ []))
+    × (after_take b (collector 2 (a ∷ []) both) ≡ collector 2 (a ∷ b ∷ []) both)
     × (after_meet (poster 1 (b ∷ [])) (collector 2 (a ∷ []) ((0, a ∷ c ∷ []) ∷ [])) ≡ collector 2 (a ∷ []) both)
 calls = (refl, refl, refl)
 
@@ -263,7 +270,8 @@ of_within : (sender : ℕ) (items : List Item) → length (items_of sender items
 of_within sender [] = omega arith
 of_within sender (item ∷ items) = by (nat_eq item.sender sender) (of_within sender items)
   where
-    by : (own : Bool) → length (items_of sender items) ≤ length items → length (if own then item ∷ items_of sender items else items_of sender items) ≤ length (item ∷ items)
+    by : (own : Bool) → length (items_of sender items) ≤ length items
+        → length (if own then item ∷ items_of sender items else items_of sender items) ≤ length (item ∷ items)
     by true within = let more : suc (length (items_of sender items)) ≤ suc (length items) = omega (arith, within) in more
     by false within = let more : length (items_of sender items) ≤ suc (length items) = omega (arith, within) in more
 
@@ -287,7 +295,8 @@ once_after before after (inr (inr (inl takes))) once = subst IsEachOnce (sym tak
 once_after before after (inr (inr (inr (inl nothing)))) once = subst (λ (state : State). IsEachOnce state.met) (sym nothing.1) once
 once_after before after (inr (inr (inr (inr meets)))) once = subst IsEachOnce (sym meets.1.met) (meets.1.there.1, once)
 
-once_last : (first : State) (states : List State) → IsEachOnce first.met → IsSchedule 1 2 first states → IsEachOnce (last_of first states).met
+once_last : (first : State) (states : List State) → IsEachOnce first.met → IsSchedule 1 2 first states
+    → IsEachOnce (last_of first states).met
 once_last first [] once schedule = once
 once_last first (after ∷ states) once schedule = once_last after states (once_after first after schedule.0 once) schedule.1
 
@@ -329,7 +338,8 @@ no_step_with_an_end_twice step = no_end_twice (step.0, step.2, step.3)
 no_step_of_a_stranger : MakesStep (Takes third) (collector 1 [] []) (collector 1 (third ∷ []) []) → ⊥
 no_step_of_a_stranger step =
     let lawful = lawful_takes 1 2 third step.0 step.1 step.4 (lawful_reached 1 2 step.0 step.2) in
-    let all = subst (λ taken. AllByRecursion (λ (item : Item). item.sender < 2) (taken ++ step.1.queued)) (sym step.5.0) lawful.of_senders in
+    let all = subst (λ taken. AllByRecursion (λ (item : Item). item.sender < 2) (taken ++ step.1.queued))
+    (sym step.5.0) lawful.of_senders in
     let one = all.0 in omega (arith, one)
 
 -- The first post end of a mailbox for one item.
@@ -343,18 +353,29 @@ posts_one = (
   reached_ends,
   (omega arith, tt),
   refl,
-  record { own = refl; room = omega arith; taken = refl; queued = refl; posted = refl; others = none_else [] [] (a ∷ []); ends = (refl, refl) },
+  record {
+    own = refl;
+    room = omega arith;
+    taken = refl;
+    queued = refl;
+    posted = refl;
+    others = none_else [] [] (a ∷ []);
+    ends = (refl, refl);
+  },
   refl,
 )
 
 not_two_at_once : PostsByStep a (poster_of_one []) (poster_of_one (a ∷ a ∷ [])) → ⊥
-not_two_at_once post = let before = post.4 in let is = ap length (post.6 ∙ post.5.posted) in omega (arith, is, ap length before, length-append (post.0.posted 0) (a ∷ []))
+not_two_at_once post = let before = post.4 in let is = ap length (post.6 ∙ post.5.posted) in
+    omega (arith, is, ap length before, length-append (post.0.posted 0) (a ∷ []))
 
-not_by_a_stranger : (item : Item) → PostsByStep item (record { mailbox = mailbox 1; number = 2; posted = [] }) (record { mailbox = mailbox 1; number = 2; posted = item ∷ [] }) → ⊥
+not_by_a_stranger : (item : Item) → PostsByStep item (record { mailbox = mailbox 1; number = 2; posted = [] })
+    (record { mailbox = mailbox 1; number = 2; posted = item ∷ [] }) → ⊥
 not_by_a_stranger item post = let below = post.3.0 in omega (arith, below, made_reached 1 2 post.0 post.2)
 
 not_after_another : PostsByStep a (poster_of_one []) (poster_of_one (c ∷ a ∷ [])) → ⊥
-not_after_another post = let before = post.4 in let is = ap length (post.6 ∙ post.5.posted) in omega (arith, is, ap length before, length-append (post.0.posted 0) (a ∷ []))
+not_after_another post = let before = post.4 in let is = ap length (post.6 ∙ post.5.posted) in
+    omega (arith, is, ap length before, length-append (post.0.posted 0) (a ∷ []))
 
 -- An end can't have posted an item of the other end.
 not_posted_before : PostsByStep a (poster_of_one (b ∷ [])) (poster_of_one (b ∷ a ∷ [])) → ⊥
@@ -373,5 +394,6 @@ reached_without_room = record {
   last = refl;
 }
 
-not_without_room : PostsByStep a (record { mailbox = mailbox 0; number = 0; posted = [] }) (record { mailbox = mailbox 0; number = 0; posted = a ∷ [] }) → ⊥
+not_without_room : PostsByStep a (record { mailbox = mailbox 0; number = 0; posted = [] })
+    (record { mailbox = mailbox 0; number = 0; posted = a ∷ [] }) → ⊥
 not_without_room post = let room = post.5.room in omega (arith, room)

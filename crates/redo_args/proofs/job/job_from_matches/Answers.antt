@@ -7,23 +7,31 @@ use Rattle.redo_args.specs.Private.Matches.{IsJob}
 use Rattle.redo_args.proofs.Getters.{number_is, targets_are, text_is}
 use Rattle.redo_args.proofs.job.job_from_matches.Goals as goal
 
-senders : (c : goal.In_ok-bytes_of) → let n = number_or 4 (codes "senders") (rows_of (found_of c.args.matches.now)) in (c.unwrap_or-senders.result ≡ n) × (1 ≤ n) × (n ≤ 64)
+senders : (c : goal.In_ok-bytes_of) → let n = number_or 4 (codes "senders") (rows_of (found_of c.args.matches.now)) in
+    (c.unwrap_or-senders.result ≡ n) × (1 ≤ n) × (n ≤ 64)
 senders c =
-    let read = number_is _ (λ text read. ParsesUnsigned 32 10 text read × ExplainsUnsignedError 10 text read × HasUnsignedDigitsIfOk text read) (found_of c.args.matches.now)
-    (codes "senders") 64 4 c.get_one.result (λ text read g. g.0) (omega arith) (omega arith) (omega arith) c.requires.senders_are c.get_one.ensures.none c.get_one.ensures.value in
+    let read = number_is _ (λ text read. ParsesUnsigned 32 10 text read × ExplainsUnsignedError 10 text read
+    × HasUnsignedDigitsIfOk text read) (found_of c.args.matches.now)
+    (codes "senders") 64 4 c.get_one.result (λ text read g. g.0) (omega arith) (omega arith)
+    (omega arith) c.requires.senders_are c.get_one.ensures.none c.get_one.ensures.value in
     (c.unwrap_or-senders.ensures ∙ read.0, read.1, read.2)
 
-capacity : (c : goal.In_ok-bytes_of) → let n = number_or 64 (codes "capacity") (rows_of (found_of c.args.matches.now)) in (c.unwrap_or-capacity.result ≡ n) × (1 ≤ n) × (n ≤ 65536)
+capacity : (c : goal.In_ok-bytes_of) → let n = number_or 64 (codes "capacity") (rows_of (found_of c.args.matches.now)) in
+    (c.unwrap_or-capacity.result ≡ n) × (1 ≤ n) × (n ≤ 65536)
 capacity c =
-    let read = number_is _ (λ text read. ParsesUnsigned 32 10 text read × ExplainsUnsignedError 10 text read × HasUnsignedDigitsIfOk text read) (found_of c.args.matches.now)
-    (codes "capacity") 65536 64 c.get_one-2.result (λ text read g. g.0) (omega arith) (omega arith) (omega arith) c.requires.capacity_is c.get_one-2.ensures.none c.get_one-2.ensures.value in
+    let read = number_is _ (λ text read. ParsesUnsigned 32 10 text read × ExplainsUnsignedError 10 text read
+    × HasUnsignedDigitsIfOk text read) (found_of c.args.matches.now)
+    (codes "capacity") 65536 64 c.get_one-2.result (λ text read g. g.0) (omega arith) (omega arith)
+    (omega arith) c.requires.capacity_is c.get_one-2.ensures.none c.get_one-2.ensures.value in
     (c.unwrap_or-capacity.ensures ∙ read.0, read.1, read.2)
 
 pub returns : goal.returns
 returns c =
     let found = found_of c.args.matches.now in
-    let dir = c.in_ok-from_str.ensures.ok ∙ text_is found (codes "dir") c.get_str.result c.unwrap_or-dir.result _ c.unwrap_or-dir.ensures c.get_str.ensures in
-    let targets = c.in_ok-bytes_of.ensures ∙ targets_are found c.get_strs.result c.unwrap_or-targets.result _ c.unwrap_or-targets.ensures refl c.get_strs.ensures in
+    let dir = c.in_ok-from_str.ensures.ok
+    ∙ text_is found (codes "dir") c.get_str.result c.unwrap_or-dir.result _ c.unwrap_or-dir.ensures c.get_str.ensures in
+    let targets = c.in_ok-bytes_of.ensures
+    ∙ targets_are found c.get_strs.result c.unwrap_or-targets.result _ c.unwrap_or-targets.ensures refl c.get_strs.ensures in
     rw (c.options_of-options.ensures, (senders c).0, (capacity c).0, dir, targets) refl
 
 pub invariant_of-result : goal.invariant_of-result

@@ -9,4 +9,6 @@ redo_log_is = refl
 
 pub returns : goal.returns
 returns c =
-    IfOk-weaker c.command_line.result _ _ (λ command is. is ∙ ap (λ rules. with_rules rules (plain (codes "redo-log"))) c.in_ok-arguments.ensures.0 ∙ redo_log_is) c.command_line.ensures
+    IfOk-weaker c.command_line.result _ _
+    (λ command is. is ∙ ap (λ rules. with_rules rules (plain (codes "redo-log"))) c.in_ok-arguments.ensures.0 ∙ redo_log_is)
+    c.command_line.ensures

@@ -16,4 +16,5 @@ returns-clause-axis c = λ logs nodes window callers recipes marks.
     let first = timeline_of window max_caller_lanes callers in
     let second = timeline_of window max_recipe_lanes recipes in
     let third = timeline_of window max_mark_lanes marks in
-    no_bars (height_of first.lane_count second.lane_count third.lane_count - 4) window.width (tick_step_of window.width) (range_with_len 0 (last_tick window.width + 1))
+    no_bars (height_of first.lane_count second.lane_count third.lane_count - 4) window.width (tick_step_of window.width)
+    (range_with_len 0 (last_tick window.width + 1))

@@ -8,8 +8,10 @@ returns-clause-callers c = λ logs nodes window callers recipes marks. group_dra
 
 pub returns-clause-recipes : goal.returns-clause-recipes
 returns-clause-recipes c = λ logs nodes window callers recipes marks.
-    group_drawn logs nodes window (recipes_band ((timeline_of window max_caller_lanes callers).lane_count) ((timeline_of window max_recipe_lanes recipes).lane_count)) max_recipe_lanes recipes
+    group_drawn logs nodes window (recipes_band ((timeline_of window max_caller_lanes callers).lane_count)
+    ((timeline_of window max_recipe_lanes recipes).lane_count)) max_recipe_lanes recipes
 
 pub returns-clause-marks : goal.returns-clause-marks
 returns-clause-marks c = λ logs nodes window callers recipes marks.
-    group_drawn logs nodes window (marks_band ((timeline_of window max_caller_lanes callers).lane_count) ((timeline_of window max_recipe_lanes recipes).lane_count)) max_mark_lanes marks
+    group_drawn logs nodes window (marks_band ((timeline_of window max_caller_lanes callers).lane_count)
+    ((timeline_of window max_recipe_lanes recipes).lane_count)) max_mark_lanes marks

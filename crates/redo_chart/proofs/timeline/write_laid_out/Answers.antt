@@ -23,23 +23,28 @@ returns-in_err-mark_items g c = no_memory _ _ _ c.from_residual-in_err-mark_item
 
 pub bar_items-requires-clause-fit : goal.bar_items-requires-clause-fit
 bar_items-requires-clause-fit g c =
-    all_fit c.callers-callers_band.result callers_band c.bars-4.result.now c.args.callers.now 24 c.callers-callers_band.ensures c.bars-4.ensures (omega arith) (omega arith) (omega arith) (omega arith) c.requires.callers
+    all_fit c.callers-callers_band.result callers_band c.bars-4.result.now c.args.callers.now 24 c.callers-callers_band.ensures
+    c.bars-4.ensures (omega arith) (omega arith) (omega arith) (omega arith) c.requires.callers
 
 pub bar_items-requires-2-clause-fit : goal.bar_items-requires-2-clause-fit
 bar_items-requires-2-clause-fit g c =
     let callers = c.args.callers.now in
     let recipes = c.args.recipes.now in
     all_fit c.recipes-recipes_band.result (recipes_band callers.lane_count recipes.lane_count) c.bars-5.result.now recipes 96
-    (c.recipes-recipes_band.ensures ∙ (λ i. recipes_band (c.lane_count.ensures i) (c.lane_count-2.ensures i))) c.bars-5.ensures (omega arith) (omega arith)
-    (recipes_top callers.lane_count recipes.lane_count (c.requires.callers (omega arith)).0) (low_lanes recipes.lane_count) c.requires.recipes
+    (c.recipes-recipes_band.ensures ∙ (λ i. recipes_band (c.lane_count.ensures i) (c.lane_count-2.ensures i))) c.bars-5.ensures
+    (omega arith) (omega arith)
+    (recipes_top callers.lane_count recipes.lane_count (c.requires.callers (omega arith)).0)
+    (low_lanes recipes.lane_count) c.requires.recipes
 
 pub bar_items-requires-3-clause-fit : goal.bar_items-requires-3-clause-fit
 bar_items-requires-3-clause-fit g c =
     let callers = c.args.callers.now in
     let recipes = c.args.recipes.now in
     all_fit c.marks-marks_band.result (marks_band callers.lane_count recipes.lane_count) c.bars-6.result.now c.args.marks.now 1
-    (c.marks-marks_band.ensures ∙ (λ i. marks_band (c.lane_count-3.ensures i) (c.lane_count-4.ensures i))) c.bars-6.ensures (omega arith) (omega arith)
-    (marks_top callers.lane_count recipes.lane_count (c.requires.callers (omega arith)).0 (c.requires.recipes (omega arith)).0) (omega arith) c.requires.marks
+    (c.marks-marks_band.ensures ∙ (λ i. marks_band (c.lane_count-3.ensures i) (c.lane_count-4.ensures i))) c.bars-6.ensures (omega arith)
+    (omega arith)
+    (marks_top callers.lane_count recipes.lane_count (c.requires.callers (omega arith)).0 (c.requires.recipes (omega arith)).0)
+    (omega arith) c.requires.marks
 
 pub returns : goal.returns
 returns g c =
@@ -51,15 +56,21 @@ returns g c =
     let upper = c.callers-callers_band.result in
     let middle = c.recipes-recipes_band.result in
     let lower = c.marks-marks_band.result in
-    subst (λ (drawing : Drawing). FormWrites (g.W.Sink.written c.args.out.now) (g.W.Sink.written c.write_groups.new.out) (part_html (ChartPart drawing)) c.write_groups.result)
-    (same_drawing logs nodes c.args.width callers recipes marks c.below-height.result c.lane_count-6.result c.saturating_sub.result upper middle lower
-    (map shape_of c.deref-5.result.now) (map shape_of c.deref-6.result.now) (map shape_of c.deref-7.result.now) (map shape_of c.deref-8.result.now)
+    subst (λ (drawing : Drawing). FormWrites (g.W.Sink.written c.args.out.now) (g.W.Sink.written c.write_groups.new.out)
+    (part_html (ChartPart drawing)) c.write_groups.result)
+    (same_drawing logs nodes c.args.width callers recipes marks c.below-height.result c.lane_count-6.result c.saturating_sub.result upper
+    middle lower
+    (map shape_of c.deref-5.result.now) (map shape_of c.deref-6.result.now) (map shape_of c.deref-7.result.now)
+    (map shape_of c.deref-8.result.now)
     c.callers-callers_band.ensures
     (c.recipes-recipes_band.ensures ∙ (λ i. recipes_band (c.lane_count.ensures i) (c.lane_count-2.ensures i)))
     (c.marks-marks_band.ensures ∙ (λ i. marks_band (c.lane_count-3.ensures i) (c.lane_count-4.ensures i)))
     (c.below-height.ensures ∙ ap (λ (n : ℕ). below lower n) c.lane_count-5.ensures) c.saturating_sub.ensures c.lane_count-6.ensures
     (ap (map shape_of) c.deref-5.ensures.value ∙ c.in_ok-axis.ensures)
-    (ap (map shape_of) c.deref-6.ensures.value ∙ c.in_ok-caller_items.ensures ∙ ap (λ (bars : List Bar). bar_shapes logs nodes upper bars) c.bars-4.ensures)
-    (ap (map shape_of) c.deref-7.ensures.value ∙ c.in_ok-recipe_items.ensures ∙ ap (λ (bars : List Bar). bar_shapes logs nodes middle bars) c.bars-5.ensures)
-    (ap (map shape_of) c.deref-8.ensures.value ∙ c.in_ok-mark_items.ensures ∙ ap (λ (bars : List Bar). bar_shapes logs nodes lower bars) c.bars-6.ensures))
+    (ap (map shape_of) c.deref-6.ensures.value ∙ c.in_ok-caller_items.ensures
+    ∙ ap (λ (bars : List Bar). bar_shapes logs nodes upper bars) c.bars-4.ensures)
+    (ap (map shape_of) c.deref-7.ensures.value ∙ c.in_ok-recipe_items.ensures
+    ∙ ap (λ (bars : List Bar). bar_shapes logs nodes middle bars) c.bars-5.ensures)
+    (ap (map shape_of) c.deref-8.ensures.value ∙ c.in_ok-mark_items.ensures
+    ∙ ap (λ (bars : List Bar). bar_shapes logs nodes lower bars) c.bars-6.ensures))
     c.write_groups.ensures

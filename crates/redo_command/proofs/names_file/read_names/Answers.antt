@@ -35,7 +35,8 @@ returns-then-n-len-clause-unreadable g c _ =
     file_is_long byte_limit _ _ _ _ c.pull.new.buf holds.2 holds.1 c.in-Ok.n over c.in-Ok.ensures.bound c.in-Ok.ensures.gives
 
 -- One more read, of at least one byte.
-size : (g : Over) (c : goal.In_ok-extend_from_slice-in-Ok g) → length c.extend_from_slice.new.self.items ≡ length c.reads.bytes.items + c.in-Ok.n
+size : (g : Over) (c : goal.In_ok-extend_from_slice-in-Ok g)
+    → length c.extend_from_slice.new.self.items ≡ length c.reads.bytes.items + c.in-Ok.n
 size g c =
     ap length c.in_ok-extend_from_slice-in-Ok.ensures.items ∙ length-append c.reads.bytes.items (take c.in-Ok.n c.pull.new.buf)
     ∙ ap (λ n. length c.reads.bytes.items + n) (length-take-le c.in-Ok.n c.pull.new.buf c.in-Ok.ensures.bound)
@@ -55,5 +56,6 @@ reads-preserved g c =
     let gave = Gave-more _ _ _ c.reads.bytes.items c.in-Ok.n c.pull.new.buf (some g c) holds.2 c.in-Ok.ensures.gives in (
       omega (arith, c.pull.auto.buf, holds.0),
       within g c,
-      subst (λ (b : List ℕ). Gave (g.R.Feed.contents c.args.reader.now) b (g.R.Feed.contents c.pull.new.self)) (sym c.in_ok-extend_from_slice-in-Ok.ensures.items) gave,
+      subst (λ (b : List ℕ). Gave (g.R.Feed.contents c.args.reader.now) b (g.R.Feed.contents c.pull.new.self))
+          (sym c.in_ok-extend_from_slice-in-Ok.ensures.items) gave,
     )

@@ -23,27 +23,42 @@ returns g t c =
     let others = c.run_next_sender.ensures in record {
       mailbox = ap (λ (m : TakeEndState). m.mailbox) met ∙ others.mailbox;
       holds = λ names holds.
-          subst (λ (at : List Item × List Log × Bool). StoresAllTaken names at.0 at.1 at.2) (λ i. (ap (λ (m : TakeEndState). m.taken) (sym met) i, sym stays.0 i, sym stays.1 i))
+          subst (λ (at : List Item × List Log × Bool). StoresAllTaken names at.0 at.1 at.2)
+          (λ i. (ap (λ (m : TakeEndState). m.taken) (sym met) i, sym stays.0 i, sym stays.1 i))
           (others.holds names holds);
       expected = λ given ready expected.
           let shares_are = ap (map (λ s. s.items)) c.in-Some-Some.ensures'.items ∙ map_push (λ s. s.items) c.pop-2.new.self.items share in
-          let all = subst (AreReady contents senders given (ends ++ end ∷ [])) shares_are (subst (λ es. AreReady contents senders given es (map (λ s. s.items) c.args.shares.items)) c.in-Some-Some.ensures.items ready) in
-          let sent = subst (λ sender. HasSent sender.max_bytes (map (numbered_source contents) sender.share.items) sender.end c.join-end.result) c.in-Ok.ensures c.join-end.ensures in
-          subst (AllByRecursion (PostedExpected c.args.max_bytes senders given)) (sym (ap (λ (m : TakeEndState). m.met) met))
-          (last_expected contents senders given ends end shares share.items all c.args.max_bytes c.join-end.result sent, others.expected given (others_ready contents senders given ends end shares share.items all) expected);
+          let all = subst (AreReady contents senders given (ends ++ end ∷ [])) shares_are
+          (subst (λ es. AreReady contents senders given es (map (λ s. s.items) c.args.shares.items)) c.in-Some-Some.ensures.items ready) in
+          let sent = subst (λ sender. HasSent sender.max_bytes
+          (map (numbered_source contents) sender.share.items) sender.end c.join-end.result) c.in-Ok.ensures c.join-end.ensures in
+          subst (AllByRecursion (PostedExpected c.args.max_bytes senders given)) (sym (ap (λ (m : TakeEndState). m.met) met)) (
+            last_expected contents senders given ends end shares share.items all c.args.max_bytes c.join-end.result sent,
+            others.expected given (others_ready contents senders given ends end shares share.items all) expected,
+          );
     }
 
 pub returns-in_default : goal.returns-in_default
 returns-in_default g t c =
     let took = c.take.ensures in
     let senders = c.args.collector.now.take_end.mailbox.senders in
-    record { mailbox = took.unchanged.0; holds = took.holds; expected = λ given ready expected. subst (AllByRecursion (PostedExpected c.args.max_bytes senders given)) (sym took.unchanged.1) expected }
+    record {
+      mailbox = took.unchanged.0;
+      holds = took.holds;
+      expected = λ given ready expected.
+          subst (AllByRecursion (PostedExpected c.args.max_bytes senders given)) (sym took.unchanged.1) expected;
+    }
 
 pub returns-in_default-spawn_sender : goal.returns-in_default-spawn_sender
 returns-in_default-spawn_sender g t c =
     let took = c.take-in_default-spawn_sender.ensures in
     let senders = c.args.collector.now.take_end.mailbox.senders in
-    record { mailbox = took.unchanged.0; holds = took.holds; expected = λ given ready expected. subst (AllByRecursion (PostedExpected c.args.max_bytes senders given)) (sym took.unchanged.1) expected }
+    record {
+      mailbox = took.unchanged.0;
+      holds = took.holds;
+      expected = λ given ready expected.
+          subst (AllByRecursion (PostedExpected c.args.max_bytes senders given)) (sym took.unchanged.1) expected;
+    }
 
 pub invariant_of-sender : goal.invariant_of-sender
 invariant_of-sender g t c = record { at_least = c.requires.limit.0; at_most = c.requires.limit.1 }
@@ -51,7 +66,8 @@ invariant_of-sender g t c = record { at_least = c.requires.limit.0; at_most = c.
 pub run_next_sender-requires-clause-one : goal.run_next_sender-requires-clause-one
 run_next_sender-requires-clause-one g t c κs within =
     let mailbox = c.args.collector.now.take_end.mailbox in
-    (all_but_last mailbox c.pop.new.self.items c.in-Some-Some.end (subst (AllByRecursion (λ (end : PostEndState). end.mailbox ≡ mailbox)) c.in-Some-Some.ensures.items c.requires.one)).0
+    (all_but_last mailbox c.pop.new.self.items c.in-Some-Some.end
+    (subst (AllByRecursion (λ (end : PostEndState). end.mailbox ≡ mailbox)) c.in-Some-Some.ensures.items c.requires.one)).0
 
 pub run_next_sender-requires-clause-limit : goal.run_next_sender-requires-clause-limit
 run_next_sender-requires-clause-limit g t c κs within = c.requires.limit
@@ -59,6 +75,8 @@ run_next_sender-requires-clause-limit g t c κs within = c.requires.limit
 pub meet-requires : goal.meet-requires
 meet-requires g t c =
     let mailbox = c.args.collector.now.take_end.mailbox in
-    let own = (all_but_last mailbox c.pop.new.self.items c.in-Some-Some.end (subst (AllByRecursion (λ (end : PostEndState). end.mailbox ≡ mailbox)) c.in-Some-Some.ensures.items c.requires.one)).1 in
-    let sent = subst (λ sender. HasSent sender.max_bytes (map (numbered_source g.R.Feed.contents) sender.share.items) sender.end c.join-end.result) c.in-Ok.ensures c.join-end.ensures in
+    let own = (all_but_last mailbox c.pop.new.self.items c.in-Some-Some.end
+    (subst (AllByRecursion (λ (end : PostEndState). end.mailbox ≡ mailbox)) c.in-Some-Some.ensures.items c.requires.one)).1 in
+    let sent = subst (λ sender. HasSent sender.max_bytes
+    (map (numbered_source g.R.Feed.contents) sender.share.items) sender.end c.join-end.result) c.in-Ok.ensures c.join-end.ensures in
     sent.unchanged.0 ∙ own ∙ sym c.run_next_sender.ensures.mailbox

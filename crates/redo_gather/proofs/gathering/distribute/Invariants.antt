@@ -10,4 +10,5 @@ abbrev pub invariant-loop-must_close : goal.invariant-loop-must_close
 invariant-loop-must_close g l =
     (l.number ≡ length l.yielded)
     × (l.fn.readers.items ≡ l.yielded ++ l.must_close-iterator.rest.items)
-    × AreDistributed g.R.Feed.contents l.senders (sources (targets_of l.table) (map (known_input g.R.Feed.contents) l.yielded)) (map (λ share. share.items) l.shares.items)
+    × AreDistributed g.R.Feed.contents l.senders (sources (targets_of l.table) (map (known_input g.R.Feed.contents) l.yielded))
+    (map (λ share. share.items) l.shares.items)

@@ -19,4 +19,5 @@ pub loop-preserved : goal.loop-preserved
 loop-preserved g c =
     let shares = c.loop.shares.items in
     ap (map (λ share. share.items)) c.in_ok-push.ensures.items ∙ map_push (λ share. share.items) shares c.new.result
-    ∙ ap (λ share. map (λ share. share.items) shares ++ share ∷ []) c.new.ensures.items ∙ ap (λ before. before ++ [] ∷ []) c.loop.invariant ∙ replicate_more c.loop.counter []
+    ∙ ap (λ share. map (λ share. share.items) shares ++ share ∷ []) c.new.ensures.items ∙ ap (λ before. before ++ [] ∷ []) c.loop.invariant
+    ∙ replicate_more c.loop.counter []

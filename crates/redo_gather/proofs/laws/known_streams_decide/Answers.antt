@@ -10,4 +10,5 @@ pub returns-clause-logs : goal.returns-clause-logs
 returns-clause-logs c max_bytes targets streams logs are = ap (logs_of max_bytes targets) (sym (all_known streams are.0 are.1)) ∙ are.2
 
 pub returns-clause-fault : goal.returns-clause-fault
-returns-clause-fault c max_bytes targets streams number fault is = ap (fault_among max_bytes targets) (sym (all_known streams is.0 is.1)) ∙ is.2
+returns-clause-fault c max_bytes targets streams number fault is =
+    ap (fault_among max_bytes targets) (sym (all_known streams is.0 is.1)) ∙ is.2

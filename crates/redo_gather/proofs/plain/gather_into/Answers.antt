@@ -25,7 +25,8 @@ gather_one-requires-clause-runs g c =
 pub overflow_add-number : goal.overflow_add-number
 overflow_add-number g c =
     let count = length-map c.args.table.now (λ (log : Log). log.target) in
-    let below = below_names (known_input g.R.Feed.contents) _ _ _ _ _ _ _ c.loop-must_close.invariant (c.requires.readers ∙ sym count) _ _ c.in-Some.ensures.steps.0 in
+    let below = below_names (known_input g.R.Feed.contents) _ _ _ _ _ _ _ c.loop-must_close.invariant
+    (c.requires.readers ∙ sym count) _ _ c.in-Some.ensures.steps.0 in
     let within : c.loop-must_close.number + 1 ≤ 1048575 = omega (arith, below, count, c.requires.size) in
     search (rules, within)
 
@@ -34,7 +35,8 @@ loop-must_close-preserved g c =
     let same = c.requires.readers ∙ sym (length-map c.args.table.now (λ (log : Log). log.target)) in
     let so_far = c.loop-must_close.invariant in
     let here = target_below (known_input g.R.Feed.contents) _ _ _ _ _ _ _ so_far same _ _ c.in-Some.ensures.steps.0 in
-    one_more_read (known_input g.R.Feed.contents) _ _ _ _ _ _ _ so_far same _ _ c.in-Some.ensures.steps.0 here.0 here.1 c.gather_one.new.table (c.in_ok-gather_one.ensures.completed here.0 here.1)
+    one_more_read (known_input g.R.Feed.contents) _ _ _ _ _ _ _ so_far same _ _ c.in-Some.ensures.steps.0 here.0 here.1
+    c.gather_one.new.table (c.in_ok-gather_one.ensures.completed here.0 here.1)
 
 pub returns-in_err-gather_one : goal.returns-in_err-gather_one
 returns-in_err-gather_one g c =
@@ -54,11 +56,13 @@ returns-in_err-gather_one g c =
         ended = tt;
         fault =
             weaker_fault (Unit {0}) (List Log) _ (IsLowestFault c.args.max_bytes names known)
-            (λ number fault is. subst (λ (n : ℕ). IsLowestFault c.args.max_bytes names known n fault) (sym is.0) (fault_read (known_input g.R.Feed.contents) _ _ _ _ _ _ _ so_far same _ _ steps here.0 here.1 fault is.1)) _
+            (λ number fault is. subst (λ (n : ℕ). IsLowestFault c.args.max_bytes names known n fault) (sym is.0)
+            (fault_read (known_input g.R.Feed.contents) _ _ _ _ _ _ _ so_far same _ _ steps here.0 here.1 fault is.1)) _
             (failed.fault here.0 here.1);
         number =
             weaker_fault (Unit {0}) (List Log) _ (λ number fault. number < length names)
-            (λ number fault is. subst (λ (n : ℕ). n < length names) (sym is.0) (below_names (known_input g.R.Feed.contents) _ _ _ _ _ _ _ so_far same _ _ steps)) _ (failed.fault here.0 here.1);
+            (λ number fault is. subst (λ (n : ℕ). n < length names) (sym is.0)
+            (below_names (known_input g.R.Feed.contents) _ _ _ _ _ _ _ so_far same _ _ steps)) _ (failed.fault here.0 here.1);
       };
       never_out_of_memory = failed.never_out_of_memory;
     })
@@ -67,7 +71,8 @@ pub returns : goal.returns
 returns g c =
     let same = c.requires.readers ∙ sym (length-map c.args.table.now (λ (log : Log). log.target)) in
     let so_far = c.loop-must_close.invariant in
-    let none : length c.loop-must_close.must_close-iterator.rest.items ≡ 0 = omega (arith, c.in-None.ensures.steps.0, c.loop-must_close.must_close-iterator.rest.ok) in record {
+    let none : length c.loop-must_close.must_close-iterator.rest.items ≡ 0 =
+    omega (arith, c.in-None.ensures.steps.0, c.loop-must_close.must_close-iterator.rest.ok) in record {
       gathered = record {
         logs = all_logs (known_input g.R.Feed.contents) _ _ _ _ _ _ _ so_far same none;
         targets = all_of_names (known_input g.R.Feed.contents) _ _ _ _ _ _ _ so_far same none;

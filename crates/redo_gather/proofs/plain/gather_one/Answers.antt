@@ -28,12 +28,14 @@ returns-in-Some-clause-fault g c target here =
     (λ other. (
       refl,
       subst (λ (of : List ℕ). HasFault max_bytes (source of c.args.must_close known) fault) same
-          (is_fault max_bytes (source c.in_ok-target.target c.args.must_close known) log.entries log.fault c.read_stream-log.ensures fault c.in-Some.is other),
+          (is_fault max_bytes (source c.in_ok-target.target c.args.must_close known) log.entries log.fault c.read_stream-log.ensures fault
+          c.in-Some.is other),
     ))
     c.of.result c.of.ensures
 
 pub returns-in-Some-clause-never_out_of_memory : goal.returns-in-Some-clause-never_out_of_memory
-returns-in-Some-clause-never_out_of_memory g c = of_stream (Unit {0}) c.args.number c.in-Some.fault _ (λ other. other) c.of.result c.of.ensures
+returns-in-Some-clause-never_out_of_memory g c =
+    of_stream (Unit {0}) c.args.number c.in-Some.fault _ (λ other. other) c.of.result c.of.ensures
 
 pub store-requires : goal.store-requires
 store-requires g c = c.requires.runs
@@ -49,7 +51,8 @@ returns-clause-completed g c target here =
     let same : c.in_ok-target.target ≡ target = cc (copied, named, here) in record {
       entries = log.entries;
       entries_are =
-          subst (λ (of : List ℕ). SomeStream known (λ stream. source_log max_bytes (source of c.args.must_close stream) ≡ Some log.entries)) same
+          subst (λ (of : List ℕ). SomeStream known
+          (λ stream. source_log max_bytes (source of c.args.must_close stream) ≡ Some log.entries)) same
           (is_log max_bytes (source c.in_ok-target.target c.args.must_close known) log.entries log.fault c.read_stream-log.ensures none);
       after_is = c.in_ok-store.ensures.stored ∙ ap (λ fault. update_log c.args.number (completed log.entries fault) c.args.table.now) none;
     }

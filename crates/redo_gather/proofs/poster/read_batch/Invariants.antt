@@ -10,7 +10,8 @@ abbrev pub invariant-lines : goal.invariant-lines
 invariant-lines l =
     (l.fn.from ≤ l.offset) × (l.offset ≤ length l.chunk)
     × (length l.batch < max_entries)
-    × ((initial : Scanned) (earlier : List Entry) → IsReadTo initial l.chunk l.fn.from l.initial.scan earlier → IsReadTo initial l.chunk l.offset l.scan (earlier ++ l.batch))
+    × ((initial : Scanned) (earlier : List Entry) → IsReadTo initial l.chunk l.fn.from l.initial.scan earlier
+    → IsReadTo initial l.chunk l.offset l.scan (earlier ++ l.batch))
 
 abbrev pub decreases-lines : goal.decreases-lines
 decreases-lines l = length l.chunk - l.offset

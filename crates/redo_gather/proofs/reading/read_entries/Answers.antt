@@ -39,7 +39,8 @@ returns-in_ok-take_last g c =
     record {
       entries = chunks.entries ++ c.in-Some.last ∷ [];
       taken = c.in_ok-take_last.ensures.taken c.args.sink.now chunks.entries chunks.taken;
-      expected = at_end _ c.args.scan _ _ chunks.ended (Some c.in-Some.last) _ (rw c.in-Some.is at c.in_ok-last.ensures.log chunks.ended.read.fault_free.not_failed) refl;
+      expected = at_end _ c.args.scan _ _ chunks.ended (Some c.in-Some.last) _
+          (rw c.in-Some.is at c.in_ok-last.ensures.log chunks.ended.read.fault_free.not_failed) refl;
     }
 
 pub returns-in_default : goal.returns-in_default
@@ -49,6 +50,7 @@ returns-in_default g c =
       entries = chunks.entries;
       taken = chunks.taken;
       expected =
-          at_end _ c.args.scan _ _ chunks.ended None chunks.entries (rw c.in_default.is at c.in_ok-last.ensures.log chunks.ended.read.fault_free.not_failed)
+          at_end _ c.args.scan _ _ chunks.ended None chunks.entries
+          (rw c.in_default.is at c.in_ok-last.ensures.log chunks.ended.read.fault_free.not_failed)
           (sym (append-nil chunks.entries));
     }

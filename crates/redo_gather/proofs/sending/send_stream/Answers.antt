@@ -15,6 +15,7 @@ returns g c =
       posted =
           last_posted c.args.poster.stream c.args.poster.end between c.post.new.end sent.entries fault sent.taken.1
           (subst (λ stream. HasPosted between c.post.new.end (singles_in between.number stream (final_what fault))) sent.taken.0
-          (subst (λ what. HasPosted between c.post.new.end (singles_in between.number c.read_entries-outcome.new.sink.stream what)) c.last_item.ensures c.post.ensures));
+          (subst (λ what. HasPosted between c.post.new.end (singles_in between.number c.read_entries-outcome.new.sink.stream what))
+          c.last_item.ensures c.post.ensures));
       expected = sent.expected;
     }

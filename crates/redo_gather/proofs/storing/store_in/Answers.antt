@@ -8,12 +8,14 @@ use Rattle.redo_gather.proofs.storing.store_in.Goals as goal
 
 pub returns-in_ok-add-in-Line : goal.returns-in_ok-add-in-Line
 returns-in_ok-add-in-Line c =
-    c.in_ok-add-in-Line.ensures.added ∙ of_running c.args.stream (Line c.in-Line.entry) (with_entry c.in-Line.entry) c.args.table.now (λ log. refl) c.requires
+    c.in_ok-add-in-Line.ensures.added ∙ of_running c.args.stream (Line c.in-Line.entry) (with_entry c.in-Line.entry) c.args.table.now
+    (λ log. refl) c.requires
     ∙ ap (λ what. update_log c.args.stream (step what) c.args.table.now) (sym c.in-Line.is)
 
 pub returns-in_ok-add_all-in-Lines : goal.returns-in_ok-add_all-in-Lines
 returns-in_ok-add_all-in-Lines c =
-    c.in_ok-add_all-in-Lines.ensures.added ∙ of_running c.args.stream (Lines c.in-Lines.entries) (with_entries c.in-Lines.entries) c.args.table.now (λ log. refl) c.requires
+    c.in_ok-add_all-in-Lines.ensures.added
+    ∙ of_running c.args.stream (Lines c.in-Lines.entries) (with_entries c.in-Lines.entries) c.args.table.now (λ log. refl) c.requires
     ∙ ap (λ what. update_log c.args.stream (step what) c.args.table.now) (sym c.in-Lines.is)
 
 pub returns-in-End : goal.returns-in-End
@@ -23,5 +25,6 @@ returns-in-End c =
 
 pub returns-in-Fail : goal.returns-in-Fail
 returns-in-Fail c =
-    c.fail.ensures ∙ of_running c.args.stream (Fail c.in-Fail.fault) (with_state (Failed c.in-Fail.fault)) c.args.table.now (λ log. refl) c.requires
+    c.fail.ensures ∙ of_running c.args.stream (Fail c.in-Fail.fault) (with_state (Failed c.in-Fail.fault)) c.args.table.now
+    (λ log. refl) c.requires
     ∙ ap (λ what. update_log c.args.stream (step what) c.args.table.now) (sym c.in-Fail.is)

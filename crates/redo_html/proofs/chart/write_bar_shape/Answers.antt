@@ -6,4 +6,6 @@ use Rattle.redo_html.proofs.chart.write_bar_shape.Goals as goal
 
 pub returns-in-None : goal.returns-in-None
 returns-in-None g c =
-    writes_as _ _ (nodes_html (bar_nodes c.args.kind (bar_of c.args.bar) None)) _ _ (ap (λ label. nodes_html (bar_nodes c.args.kind (bar_of c.args.bar) (option_map (λ text. text.now) label))) (sym c.in-None.is)) (c.write_plain_bar.ensures c.args.kind)
+    writes_as _ _ (nodes_html (bar_nodes c.args.kind (bar_of c.args.bar) None)) _ _
+    (ap (λ label. nodes_html (bar_nodes c.args.kind (bar_of c.args.bar) (option_map (λ text. text.now) label))) (sym c.in-None.is))
+    (c.write_plain_bar.ensures c.args.kind)

@@ -9,5 +9,7 @@ pub returns-in_err-write_fragment : goal.returns-in_err-write_fragment
 returns-in_err-write_fragment g c =
     let fragments = c.args.fragments.now in
     let i = c.loop-fragment.fragment-index in
-    in_middle _ (flat_map fragment_html fragments) _ _ (flat_map fragment_html (take i fragments)) _ (flat_map fragment_html (drop (suc i) fragments)) _ _
-    c.from_residual.ensures.0 c.loop-fragment.invariant c.in_err-write_fragment.ensures (one_of fragment_html fragments i _ c.loop-fragment-test.true)
+    in_middle _ (flat_map fragment_html fragments) _ _ (flat_map fragment_html (take i fragments)) _
+    (flat_map fragment_html (drop (suc i) fragments)) _ _
+    c.from_residual.ensures.0 c.loop-fragment.invariant c.in_err-write_fragment.ensures
+    (one_of fragment_html fragments i _ c.loop-fragment-test.true)

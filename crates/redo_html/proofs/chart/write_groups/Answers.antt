@@ -10,5 +10,7 @@ pub returns-in_err-write_group : goal.returns-in_err-write_group
 returns-in_err-write_group g c =
     let groups = c.args.groups.now in
     let i = c.loop-group.group-index in
-    in_middle _ (flat_map layer_html (map layer_of (groups))) _ _ (flat_map layer_html (map layer_of (take i groups))) _ (flat_map layer_html (map layer_of (drop (suc i) groups))) _ _
-    c.from_residual.ensures.0 c.loop-group.invariant c.in_err-write_group.ensures (one_among layer_html layer_of groups i _ c.loop-group-test.true)
+    in_middle _ (flat_map layer_html (map layer_of (groups))) _ _ (flat_map layer_html (map layer_of (take i groups))) _
+    (flat_map layer_html (map layer_of (drop (suc i) groups))) _ _
+    c.from_residual.ensures.0 c.loop-group.invariant c.in_err-write_group.ensures
+    (one_among layer_html layer_of groups i _ c.loop-group-test.true)

@@ -7,4 +7,5 @@ use Rattle.redo_html.proofs.chart.write_groups.Given as goal
 
 -- The groups so far were written.
 abbrev pub invariant-loop-group : goal.invariant-loop-group
-invariant-loop-group g l = g.W.Sink.written l.out ≡ append_output (g.W.Sink.written l.initial.out) (flat_map layer_html (map layer_of (take l.group-index l.groups))) 0
+invariant-loop-group g l = g.W.Sink.written l.out
+    ≡ append_output (g.W.Sink.written l.initial.out) (flat_map layer_html (map layer_of (take l.group-index l.groups))) 0

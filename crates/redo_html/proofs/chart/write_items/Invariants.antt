@@ -7,4 +7,5 @@ use Rattle.redo_html.proofs.chart.write_items.Given as goal
 
 -- The items so far were written.
 abbrev pub invariant-loop-item : goal.invariant-loop-item
-invariant-loop-item g l = g.W.Sink.written l.out ≡ append_output (g.W.Sink.written l.initial.out) (flat_map (shape_html l.kind) (map shape_of (take l.item-index l.items))) 0
+invariant-loop-item g l = g.W.Sink.written l.out
+    ≡ append_output (g.W.Sink.written l.initial.out) (flat_map (shape_html l.kind) (map shape_of (take l.item-index l.items))) 0

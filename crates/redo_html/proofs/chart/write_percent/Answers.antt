@@ -12,4 +12,5 @@ returns g c =
     let hundredths : c.last_digit_of-2.result ≡ last_digit number = c.last_digit_of-2.ensures in
     let digits : List ℕ = 46 ∷ last_digit (number / 10) ∷ last_digit number ∷ 37 ∷ [] in
     let same : 46 ∷ c.last_digit_of.result ∷ c.last_digit_of-2.result ∷ 37 ∷ [] ≡ digits = cc in
-    at_last _ (percent_text number) _ _ (number_text (number / 100)) digits _ c.in_ok-write_number.ensures (writes_as _ _ _ digits _ same c.push_all.ensures) refl
+    at_last _ (percent_text number) _ _ (number_text (number / 100)) digits _ c.in_ok-write_number.ensures
+    (writes_as _ _ _ digits _ same c.push_all.ensures) refl

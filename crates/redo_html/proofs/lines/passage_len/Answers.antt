@@ -5,7 +5,8 @@ use Rattle.redo_html.proofs.lines.passage_len.Goals as goal
 
 pub returns-then-len-gt0 : goal.returns-then-len-gt0
 returns-then-len-gt0 c =
-    begins_plain c.args.style c.args.lines.now c.plain_lines_len-len.result (plain_without_element c.args.style (sym c.has_own_element.ensures ∙ c.if-not-has_own_element.true)) c.if-len-gt0.true
+    begins_plain c.args.style c.args.lines.now c.plain_lines_len-len.result
+    (plain_without_element c.args.style (sym c.has_own_element.ensures ∙ c.if-not-has_own_element.true)) c.if-len-gt0.true
     c.plain_lines_len-len.ensures.within c.requires.complete c.plain_lines_len-len.ensures.complete c.plain_lines_len-len.ensures.no_escape
 
 pub returns-in-Some : goal.returns-in-Some

@@ -9,7 +9,8 @@ abbrev pub invariant-loop-done : goal.invariant-loop-done
 invariant-loop-done g l = record {
   within : l.done ≤ length l.lines;
   complete : rest (drop l.done l.lines) ≡ [];
-  wrote : WroteUpTo (g.W.Sink.written l.initial.out) (g.W.Sink.written l.out) (lines_html l.fn.style (ended l.lines)) (lines_html l.current (ended (drop l.done l.lines)));
+  wrote : WroteUpTo (g.W.Sink.written l.initial.out) (g.W.Sink.written l.out) (lines_html l.fn.style (ended l.lines))
+      (lines_html l.current (ended (drop l.done l.lines)));
   style_left : style_after_lines l.current (ended (drop l.done l.lines)) ≡ style_after_lines l.fn.style (ended l.lines);
 }
 

@@ -9,16 +9,19 @@ pub returns-in_err-push_all : goal.returns-in_err-push_all
 returns-in_err-push_all g c =
     let begin = c.args.begin.now in
     let number = number_text c.args.number in
-    at_first _ (begin ++ number ++ codes "\">") _ begin (number ++ codes "\">") _ _ c.from_residual.ensures.0 c.in_err-push_all.ensures (sym (append_assoc begin number (codes "\">")))
+    at_first _ (begin ++ number ++ codes "\">") _ begin (number ++ codes "\">") _ _ c.from_residual.ensures.0 c.in_err-push_all.ensures
+    (sym (append_assoc begin number (codes "\">")))
 
 pub returns-in_err-write_number : goal.returns-in_err-write_number
 returns-in_err-write_number g c =
     let begin = c.args.begin.now in
     let number = number_text c.args.number in
-    in_middle _ (begin ++ number ++ codes "\">") _ _ begin number (codes "\">") _ _ c.from_residual-in_err-write_number.ensures.0 c.in_ok-push_all.ensures c.in_err-write_number.ensures refl
+    in_middle _ (begin ++ number ++ codes "\">") _ _ begin number
+    (codes "\">") _ _ c.from_residual-in_err-write_number.ensures.0 c.in_ok-push_all.ensures c.in_err-write_number.ensures refl
 
 pub returns : goal.returns
 returns g c =
     let begin = c.args.begin.now in
     let number = number_text c.args.number in
-    at_last _ (begin ++ number ++ codes "\">") _ _ (begin ++ number) (codes "\">") _ (one_more _ _ _ begin number c.in_ok-push_all.ensures c.in_ok-write_number.ensures) c.push_all-2.ensures refl
+    at_last _ (begin ++ number ++ codes "\">") _ _ (begin ++ number) (codes "\">") _
+    (one_more _ _ _ begin number c.in_ok-push_all.ensures c.in_ok-write_number.ensures) c.push_all-2.ensures refl

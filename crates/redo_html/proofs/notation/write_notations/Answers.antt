@@ -12,7 +12,8 @@ returns-in_err-write_notation g c =
     let left = c.loop-left.left in
     let all = repeat c.args.count one in
     failed_part _ (g.W.Sink.written c.loop-left.out) _ all one (repeat (left - 1) one) _ _ c.from_residual.ensures.0
-    (subst (λ (t : List ℕ). WroteUpTo (g.W.Sink.written c.args.out.now) (g.W.Sink.written c.loop-left.out) all t) (next_notation left one c.loop-left-test.true) c.loop-left.invariant) c.in_err-write_notation.ensures
+    (subst (λ (t : List ℕ). WroteUpTo (g.W.Sink.written c.args.out.now) (g.W.Sink.written c.loop-left.out) all t)
+    (next_notation left one c.loop-left-test.true) c.loop-left.invariant) c.in_err-write_notation.ensures
 
 pub loop-left-preserved : goal.loop-left-preserved
 loop-left-preserved g c =
@@ -20,4 +21,5 @@ loop-left-preserved g c =
     let left = c.loop-left.left in
     let all = repeat c.args.count one in
     wrote_more _ (g.W.Sink.written c.loop-left.out) _ all one (repeat (left - 1) one)
-    (subst (λ (t : List ℕ). WroteUpTo (g.W.Sink.written c.args.out.now) (g.W.Sink.written c.loop-left.out) all t) (next_notation left one c.loop-left-test.true) c.loop-left.invariant) c.in_ok-write_notation.ensures
+    (subst (λ (t : List ℕ). WroteUpTo (g.W.Sink.written c.args.out.now) (g.W.Sink.written c.loop-left.out) all t)
+    (next_notation left one c.loop-left-test.true) c.loop-left.invariant) c.in_ok-write_notation.ensures

@@ -21,9 +21,11 @@ returns-in_err-next g c =
     let middle = g.W.Sink.written c.loop-done.out in
     let after = g.W.Sink.written c.write_some.new.out in
     let wrote : Writes middle after (html_from c.args.kind c.loop-done.look (drop done bytes)) (Err c.in_err-next.field-0.0) =
-    subst (λ (rest : List ℕ). Writes middle after (html_from c.args.kind c.loop-done.look rest) (Err c.in_err-next.field-0.0)) (take_rest bytes done) c.in_err-next.ensures in
+    subst (λ (rest : List ℕ). Writes middle after (html_from c.args.kind c.loop-done.look rest) (Err c.in_err-next.field-0.0))
+    (take_rest bytes done) c.in_err-next.ensures in
     passage_failed _ _ c.args.kind c.args.style bytes c.in_err-next.field-0.0 _ c.from_residual.ensures.0
-    (wrote_rest _ middle after (passage_html c.args.kind c.args.style bytes) (html_from c.args.kind c.loop-done.look (drop done bytes)) (Err c.in_err-next.field-0.0) c.loop-done.invariant.wrote wrote)
+    (wrote_rest _ middle after (passage_html c.args.kind c.args.style bytes) (html_from c.args.kind c.loop-done.look (drop done bytes))
+    (Err c.in_err-next.field-0.0) c.loop-done.invariant.wrote wrote)
 
 pub loop-done-preserved : goal.loop-done-preserved
 loop-done-preserved g c =
@@ -33,13 +35,17 @@ loop-done-preserved g c =
     let middle = g.W.Sink.written c.loop-done.out in
     let after = g.W.Sink.written c.write_some.new.out in
     let some : WroteSome middle after c.args.kind c.loop-done.look (drop done bytes) c.in_ok-next.next c.in_ok-next.len =
-    subst (λ (rest : List ℕ). WroteSome middle after c.args.kind c.loop-done.look rest c.in_ok-next.next c.in_ok-next.len) (take_rest bytes done) c.in_ok-next.ensures in
+    subst (λ (rest : List ℕ). WroteSome middle after c.args.kind c.loop-done.look rest c.in_ok-next.next c.in_ok-next.len)
+    (take_rest bytes done) c.in_ok-next.ensures in
     let within = some.within in
     let rest = length-drop done bytes in
     record {
       within = omega arith;
-      wrote = subst (λ (left : List ℕ). WroteUpTo before after (passage_html c.args.kind c.args.style bytes) (html_from c.args.kind c.in_ok-next.next left)) (drop-drop c.in_ok-next.len done bytes) (wrote_on before middle after _ _ _ c.loop-done.invariant.wrote some.wrote);
-      style_left = ap (style_in c.args.kind c.in_ok-next.next.wanted) (sym (drop-drop c.in_ok-next.len done bytes)) ∙ some.style ∙ c.loop-done.invariant.style_left;
+      wrote = subst (λ (left : List ℕ). WroteUpTo before after (passage_html c.args.kind c.args.style bytes)
+          (html_from c.args.kind c.in_ok-next.next left)) (drop-drop c.in_ok-next.len done bytes)
+          (wrote_on before middle after _ _ _ c.loop-done.invariant.wrote some.wrote);
+      style_left = ap (style_in c.args.kind c.in_ok-next.next.wanted) (sym (drop-drop c.in_ok-next.len done bytes)) ∙ some.style
+          ∙ c.loop-done.invariant.style_left;
     }
 
 pub returns-in_err-write_end : goal.returns-in_err-write_end
@@ -50,7 +56,9 @@ returns-in_err-write_end g c =
     let past : length bytes ≤ c.loop-done.done = c.loop-done-test.false in
     passage_failed before _ c.args.kind c.args.style bytes _ _ c.from_residual-in_err-write_end.ensures.0
     (wrote_rest before middle _ (passage_html c.args.kind c.args.style bytes) (html_from c.args.kind c.loop-done.look []) (Err _)
-    (subst (λ (left : List ℕ). WroteUpTo before middle (passage_html c.args.kind c.args.style bytes) (html_from c.args.kind c.loop-done.look left)) (drop_all c.loop-done.done bytes past) c.loop-done.invariant.wrote) c.in_err-write_end.ensures)
+    (subst (λ (left : List ℕ). WroteUpTo before middle (passage_html c.args.kind c.args.style bytes)
+    (html_from c.args.kind c.loop-done.look left)) (drop_all c.loop-done.done bytes past) c.loop-done.invariant.wrote)
+    c.in_err-write_end.ensures)
 
 pub returns : goal.returns
 returns g c =
@@ -59,6 +67,8 @@ returns g c =
     let middle = g.W.Sink.written c.loop-done.out in
     let past : length bytes ≤ c.loop-done.done = c.loop-done-test.false in (
       wrote_rest before middle _ (passage_html c.args.kind c.args.style bytes) (html_from c.args.kind c.loop-done.look []) (Ok tt)
-          (subst (λ (left : List ℕ). WroteUpTo before middle (passage_html c.args.kind c.args.style bytes) (html_from c.args.kind c.loop-done.look left)) (drop_all c.loop-done.done bytes past) c.loop-done.invariant.wrote) c.in_ok-write_end.ensures,
+          (subst (λ (left : List ℕ). WroteUpTo before middle (passage_html c.args.kind c.args.style bytes)
+          (html_from c.args.kind c.loop-done.look left)) (drop_all c.loop-done.done bytes past) c.loop-done.invariant.wrote)
+          c.in_ok-write_end.ensures,
       ended_style c.args.kind c.args.style c.loop-done.look.wanted bytes c.loop-done.done past c.loop-done.invariant.style_left,
     )

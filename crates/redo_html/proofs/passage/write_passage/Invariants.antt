@@ -7,7 +7,8 @@ use Rattle.redo_html.proofs.passage.write_passage.Given as goal
 abbrev pub invariant-loop-done : goal.invariant-loop-done
 invariant-loop-done g l = record {
   within : l.done ≤ length l.bytes;
-  wrote : WroteUpTo (g.W.Sink.written l.initial.out) (g.W.Sink.written l.out) (passage_html l.kind l.fn.style l.bytes) (html_from l.kind l.look (drop l.done l.bytes));
+  wrote : WroteUpTo (g.W.Sink.written l.initial.out) (g.W.Sink.written l.out) (passage_html l.kind l.fn.style l.bytes)
+      (html_from l.kind l.look (drop l.done l.bytes));
   style_left : style_in l.kind l.look.wanted (drop l.done l.bytes) ≡ style_in l.kind l.fn.style l.bytes;
 }
 

@@ -11,5 +11,7 @@ pub returns-in_err-write_piece : goal.returns-in_err-write_piece
 returns-in_err-write_piece g c =
     let pieces = c.args.pieces.now in
     let i = c.loop-piece.piece-index in
-    in_middle _ (flat_map part_html (map part_of pieces)) _ _ (flat_map part_html (map part_of (take i pieces))) (part_html (part_of (get_or pieces i (Markup Doctype)))) (flat_map part_html (map part_of (drop (suc i) pieces))) _ _
-    c.from_residual.ensures.0 c.loop-piece.invariant c.in_err-write_piece.ensures (one_among part_html part_of pieces i (Markup Doctype) c.loop-piece-test.true)
+    in_middle _ (flat_map part_html (map part_of pieces)) _ _ (flat_map part_html (map part_of (take i pieces)))
+    (part_html (part_of (get_or pieces i (Markup Doctype)))) (flat_map part_html (map part_of (drop (suc i) pieces))) _ _
+    c.from_residual.ensures.0 c.loop-piece.invariant c.in_err-write_piece.ensures
+    (one_among part_html part_of pieces i (Markup Doctype) c.loop-piece-test.true)

@@ -12,5 +12,7 @@ loop-byte-preserved c =
     let read = c.after_byte.ensures in
     record {
       bound = read.bound;
-      same = read.same (drop (i + 1) parameters) ∙ sym (at_drop_more (λ (bytes : List ℕ). fold setting_after c.loop-byte.setting (numbers_from c.loop-byte.value bytes)) parameters i 0 c.loop-byte-test.true) ∙ c.loop-byte.invariant.same;
+      same = read.same (drop (i + 1) parameters)
+          ∙ sym (at_drop_more (λ (bytes : List ℕ). fold setting_after c.loop-byte.setting (numbers_from c.loop-byte.value bytes)) parameters
+          i 0 c.loop-byte-test.true) ∙ c.loop-byte.invariant.same;
     }

@@ -8,5 +8,6 @@ use Rattle.redo_html.proofs.style.after_parameters.Given as goal
 abbrev pub invariant-loop-byte : goal.invariant-loop-byte
 invariant-loop-byte l = record {
   bound : l.value ≤ 999;
-  same : fold setting_after l.setting (numbers_from l.value (drop l.byte-index l.parameters)) ≡ fold setting_after l.initial.setting (numbers_from 0 l.parameters);
+  same : fold setting_after l.setting (numbers_from l.value (drop l.byte-index l.parameters))
+      ≡ fold setting_after l.initial.setting (numbers_from 0 l.parameters);
 }

@@ -10,5 +10,6 @@ returns-clause-plain c =
     let bytes = c.args.bytes.now in
     let len = c.plain_strides_len-len.result in
     let more = c.plain_bytes_len.result in
-    let next : list_all is_plain (take more (drop len bytes)) ≡ true = subst (λ (b : List ℕ). list_all is_plain (take more b) ≡ true) (take_rest bytes len) c.plain_bytes_len.ensures.plain in
+    let next : list_all is_plain (take more (drop len bytes)) ≡ true =
+    subst (λ (b : List ℕ). list_all is_plain (take more b) ≡ true) (take_rest bytes len) c.plain_bytes_len.ensures.plain in
     plain_more len more bytes c.plain_strides_len-len.ensures.plain next

@@ -15,7 +15,12 @@ loop-len-preserved c =
     let len = c.loop-len.len in
     let more = c.visible_len-more.result in
     let plain = c.plain_len-len-in-loop-len.result in
-    let one : IsVerbatim bytes (len + more) = more_code_points bytes len more c.loop-len.invariant (subst (λ (b : List ℕ). IsVerbatim b more) (take_rest bytes len) c.visible_len-more.ensures) in
-    let within : plain ≤ length (drop (len + more) bytes) = subst (λ (b : List ℕ). plain ≤ length b) (take_rest bytes (len + more)) c.plain_len-len-in-loop-len.ensures.within in
-    let all : list_all is_plain (take plain (drop (len + more) bytes)) ≡ true = subst (λ (b : List ℕ). list_all is_plain (take plain b) ≡ true) (take_rest bytes (len + more)) c.plain_len-len-in-loop-len.ensures.plain in
+    let one : IsVerbatim bytes (len + more) =
+    more_code_points bytes len more c.loop-len.invariant
+    (subst (λ (b : List ℕ). IsVerbatim b more) (take_rest bytes len) c.visible_len-more.ensures) in
+    let within : plain ≤ length (drop (len + more) bytes) =
+    subst (λ (b : List ℕ). plain ≤ length b) (take_rest bytes (len + more)) c.plain_len-len-in-loop-len.ensures.within in
+    let all : list_all is_plain (take plain (drop (len + more) bytes)) ≡ true =
+    subst (λ (b : List ℕ). list_all is_plain (take plain b) ≡ true)
+    (take_rest bytes (len + more)) c.plain_len-len-in-loop-len.ensures.plain in
     more_code_points bytes (len + more) plain one (plain_code_points plain (drop (len + more) bytes) within all)

@@ -8,27 +8,37 @@ use Rattle.redo_html_args.specs.Private.Matches.{IsPageJob}
 use Rattle.redo_html_args.proofs.Getters.{unsigned_is}
 use Rattle.redo_html_args.proofs.job.job_from_matches.Goals as goal
 
-senders : (c : goal.In_ok-bytes_of) → let n = number_or 4 (codes "senders") (rows_of (found_of c.args.matches.now)) in (c.unwrap_or-senders.result ≡ n) × (1 ≤ n) × (n ≤ 64)
+senders : (c : goal.In_ok-bytes_of) → let n = number_or 4 (codes "senders") (rows_of (found_of c.args.matches.now)) in
+    (c.unwrap_or-senders.result ≡ n) × (1 ≤ n) × (n ≤ 64)
 senders c =
-    let read = number_is _ (λ text read. ParsesUnsigned 32 10 text read × ExplainsUnsignedError 10 text read × HasUnsignedDigitsIfOk text read) (found_of c.args.matches.now)
-    (codes "senders") 64 4 c.get_one-2.result (λ text read g. g.0) (omega arith) (omega arith) (omega arith) c.requires.senders_are c.get_one-2.ensures.none c.get_one-2.ensures.value in
+    let read = number_is _ (λ text read. ParsesUnsigned 32 10 text read × ExplainsUnsignedError 10 text read
+    × HasUnsignedDigitsIfOk text read) (found_of c.args.matches.now)
+    (codes "senders") 64 4 c.get_one-2.result (λ text read g. g.0) (omega arith) (omega arith)
+    (omega arith) c.requires.senders_are c.get_one-2.ensures.none c.get_one-2.ensures.value in
     (c.unwrap_or-senders.ensures ∙ read.0, read.1, read.2)
 
-max_bytes : (c : goal.In_ok-bytes_of) → c.unwrap_or-max_bytes.result ≡ number_or 16000000 (codes "max-bytes") (rows_of (found_of c.args.matches.now))
+max_bytes : (c : goal.In_ok-bytes_of)
+    → c.unwrap_or-max_bytes.result ≡ number_or 16000000 (codes "max-bytes") (rows_of (found_of c.args.matches.now))
 max_bytes c =
     c.unwrap_or-max_bytes.ensures
-    ∙ unsigned_is _ (λ text read. ParsesUnsigned 64 10 text read × ExplainsUnsignedError 10 text read × HasUnsignedDigitsIfOk text read) (found_of c.args.matches.now)
-    (codes "max-bytes") 16000000 c.get_one.result (λ text read g. g.0) c.requires.max_bytes_are c.get_one.ensures.none c.get_one.ensures.value
+    ∙ unsigned_is _ (λ text read. ParsesUnsigned 64 10 text read × ExplainsUnsignedError 10 text read × HasUnsignedDigitsIfOk text read)
+    (found_of c.args.matches.now)
+    (codes "max-bytes") 16000000 c.get_one.result
+    (λ text read g. g.0) c.requires.max_bytes_are c.get_one.ensures.none c.get_one.ensures.value
 
 pub returns : goal.returns
 returns c =
     let found = found_of c.args.matches.now in
-    let dir = c.in_ok-from_str.ensures.ok ∙ text_is found (codes "dir") c.get_str.result c.unwrap_or-dir.result _ c.unwrap_or-dir.ensures c.get_str.ensures in
+    let dir = c.in_ok-from_str.ensures.ok
+    ∙ text_is found (codes "dir") c.get_str.result c.unwrap_or-dir.result _ c.unwrap_or-dir.ensures c.get_str.ensures in
     let output = c.in_ok-copy_of.ensures ∙ given_text_is found (codes "output") c.get_str-output.result c.get_str-output.ensures in
     let title = c.in_ok-copy_of-2.ensures ∙ given_text_is found (codes "title") c.get_str-title.result c.get_str-title.ensures in
-    let unchanged = flag_is found (codes "unchanged") c.get_flag-unchanged.result c.requires.unchanged_is c.get_flag-unchanged.ensures.none c.get_flag-unchanged.ensures.value c.get_flag-unchanged.ensures.other in
-    let debug_locks = flag_is found (codes "debug_locks") c.get_flag-debug_locks.result c.requires.debug_locks_are c.get_flag-debug_locks.ensures.none c.get_flag-debug_locks.ensures.value c.get_flag-debug_locks.ensures.other in
-    let targets = c.in_ok-bytes_of.ensures ∙ words_are found (codes "target") c.get_strs.result c.unwrap_or-targets.result _ c.unwrap_or-targets.ensures c.get_strs.ensures in
+    let unchanged = flag_is found (codes "unchanged") c.get_flag-unchanged.result c.requires.unchanged_is c.get_flag-unchanged.ensures.none
+    c.get_flag-unchanged.ensures.value c.get_flag-unchanged.ensures.other in
+    let debug_locks = flag_is found (codes "debug_locks") c.get_flag-debug_locks.result c.requires.debug_locks_are
+    c.get_flag-debug_locks.ensures.none c.get_flag-debug_locks.ensures.value c.get_flag-debug_locks.ensures.other in
+    let targets = c.in_ok-bytes_of.ensures
+    ∙ words_are found (codes "target") c.get_strs.result c.unwrap_or-targets.result _ c.unwrap_or-targets.ensures c.get_strs.ensures in
     rw (dir, output, title, unchanged, debug_locks, max_bytes c, (senders c).0, targets) refl
 
 pub invariant_of-result : goal.invariant_of-result

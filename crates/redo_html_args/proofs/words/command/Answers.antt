@@ -10,4 +10,6 @@ redo_log_html_is = refl
 
 pub returns : goal.returns
 returns c =
-    IfOk-weaker c.command_line.result _ _ (λ command is. is ∙ ap (λ rules. with_rules rules (plain (codes "redo-log-html"))) c.in_ok-arguments.ensures.0 ∙ redo_log_html_is) c.command_line.ensures
+    IfOk-weaker c.command_line.result _ _
+    (λ command is. is ∙ ap (λ rules. with_rules rules (plain (codes "redo-log-html"))) c.in_ok-arguments.ensures.0 ∙ redo_log_html_is)
+    c.command_line.ensures

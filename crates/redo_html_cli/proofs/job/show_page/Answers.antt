@@ -9,4 +9,5 @@ returns-clause-shown g c = inr (c.write_job-outcome.result, c.write_job-outcome.
 
 pub returns-in_err-buffer-clause-shown : goal.returns-in_err-buffer-clause-shown
 returns-in_err-buffer-clause-shown g c =
-    is_memory_failure (λ outcome. IsPageWritten opaque_logs opaque_logs c.args.job.now c.args.index.now None None outcome) c.from_residual.result c.from_residual.ensures.1
+    is_memory_failure (λ outcome. IsPageWritten opaque_logs opaque_logs c.args.job.now c.args.index.now None None outcome)
+    c.from_residual.result c.from_residual.ensures.1

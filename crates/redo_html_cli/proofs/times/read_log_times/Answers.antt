@@ -5,5 +5,6 @@ use Rattle.redo_html_cli.proofs.times.read_log_times.Goals as goal
 pub returns : goal.returns
 returns g c =
     IfOk-weaker c.read_times.result _ _
-    (λ times are. times_of_logs g.L.Log.Feed.contents (g.L.OpenLog.known c.args.logs.now) c.args.index.now c.in_ok-readers.readers.items times.items c.in_ok-readers.ensures.given are)
+    (λ times are. times_of_logs g.L.Log.Feed.contents
+    (g.L.OpenLog.known c.args.logs.now) c.args.index.now c.in_ok-readers.readers.items times.items c.in_ok-readers.ensures.given are)
     c.read_times.ensures.times

@@ -14,7 +14,8 @@ returns-else-len-eq0 c feed =
     let at = length lines - 1 in
     let front = take at lines in
     let some : at + 1 ≡ length lines = last (length lines) c.if-len-eq0.false in
-    ap rest (sym (take_all (at + 1) lines (omega (arith, some))) ∙ upto_feed lines at (omega (arith, some)) feed) ∙ rest-append front (10 ∷ []) ∙ rest-line (rest front) [] (are_lines front).rest_holds_none ∙ rest-free [] tt
+    ap rest (sym (take_all (at + 1) lines (omega (arith, some))) ∙ upto_feed lines at (omega (arith, some)) feed)
+    ∙ rest-append front (10 ∷ []) ∙ rest-line (rest front) [] (are_lines front).rest_holds_none ∙ rest-free [] tt
   where
     last : (n : ℕ) → (n ≡ 0 → ⊥) → (n - 1) + 1 ≡ n
     last zero some = absurd (some refl)

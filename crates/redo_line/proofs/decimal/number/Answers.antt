@@ -12,7 +12,8 @@ overflow_mul-number c =
 pub overflow_add-number : goal.overflow_add-number
 overflow_add-number c =
     let small = still_fits _ _ _ c.loop-digit.invariant c.requires.at_most c.loop-digit-test.true in
-    let low = digit_is (get_or c.args.digits.now c.loop-digit.digit-index 0) (digit_at c.args.digits.now c.loop-digit.digit-index c.requires.all c.loop-digit-test.true) in
+    let low = digit_is (get_or c.args.digits.now c.loop-digit.digit-index 0)
+    (digit_at c.args.digits.now c.loop-digit.digit-index c.requires.all c.loop-digit-test.true) in
     omega (arith, small, low.0, low.1, c.from.ensures)
 
 pub loop-digit-preserved : goal.loop-digit-preserved

@@ -10,4 +10,5 @@ returns-clause-part c target max_bytes must_close bytes more fails fine = entrie
 
 pub returns-clause-log : goal.returns-clause-log
 returns-clause-log c target max_bytes must_close bytes more fails fine =
-    of_log max_bytes (of_bytes target max_bytes must_close (bytes ++ more) fails) (IsPrefix (entries_so_far target max_bytes bytes)) (entries_lead_log target max_bytes bytes more fails fine)
+    of_log max_bytes (of_bytes target max_bytes must_close (bytes ++ more) fails) (IsPrefix (entries_so_far target max_bytes bytes))
+    (entries_lead_log target max_bytes bytes more fails fine)

@@ -14,11 +14,13 @@ returns-in_err-fields-clause-none c =
     let line = c.args.line.now in
     let bytes = c.in_ok-bytes.bytes.now in
     if_none c.from_residual-in_err-fields.result _
-    (behind_prefix line bytes (strips record_prefix line bytes c.in_ok-bytes.ensures.cases.0 c.in_ok-bytes.ensures.cases.1) ∙ c.in_err-fields.ensures.none)
+    (behind_prefix line bytes (strips record_prefix line bytes c.in_ok-bytes.ensures.cases.0 c.in_ok-bytes.ensures.cases.1)
+    ∙ c.in_err-fields.ensures.none)
 
 pub returns-clause-some : goal.returns-clause-some
 returns-clause-some c =
     let line = c.args.line.now in
     let bytes = c.in_ok-bytes.bytes.now in
-    ap (option_map timed_parts) (behind_prefix line bytes (strips record_prefix line bytes c.in_ok-bytes.ensures.cases.0 c.in_ok-bytes.ensures.cases.1))
+    ap (option_map timed_parts) (behind_prefix line bytes
+    (strips record_prefix line bytes c.in_ok-bytes.ensures.cases.0 c.in_ok-bytes.ensures.cases.1))
     ∙ timed_found _ _ _ _ _ c.in_ok-fields.ensures.some c.in_ok-fields.ensures.time

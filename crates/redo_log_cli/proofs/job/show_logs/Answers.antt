@@ -8,4 +8,6 @@ pub returns-clause-shown : goal.returns-clause-shown
 returns-clause-shown g c = inr (c.write_job-outcome.result, c.write_job-outcome.ensures.written, c.flush_after.ensures)
 
 pub returns-in_err-buffer-clause-shown : goal.returns-in_err-buffer-clause-shown
-returns-in_err-buffer-clause-shown g c = is_memory_failure (λ outcome. IsWriteResult (job_call c.args.job.now c.args.index.now) None None outcome) c.from_residual.result c.from_residual.ensures.1
+returns-in_err-buffer-clause-shown g c =
+    is_memory_failure (λ outcome. IsWriteResult (job_call c.args.job.now c.args.index.now) None None outcome) c.from_residual.result
+    c.from_residual.ensures.1

@@ -16,7 +16,8 @@ loop-preserved c =
     let kept = c.loop.invariant in
     let found = c.in-Some.ensures in
     let left = take_rest c.args.bytes.now c.loop.upto in (
-      (let size = length-drop c.loop.upto c.args.bytes.now in let high = found.0.high in let all = ap length left in omega (arith, kept.0, size, high, all)),
+      (let size = length-drop c.loop.upto c.args.bytes.now in let high = found.0.high in let all = ap length left in
+          omega (arith, kept.0, size, high, all)),
       next_ended c.args.bytes.now _ c.loop.upto c.in-Some.at c.loop.counter left found kept.1,
       next_rest c.args.bytes.now _ c.loop.upto c.in-Some.at left found ∙ kept.2,
     )

@@ -8,7 +8,8 @@ pub returns-then-number-before-clause-found : goal.returns-then-number-before-cl
 returns-then-number-before-clause-found c =
     let kept = c.records.invariant in
     let look = c.in-Some.ensures.lookup in
-    found_here c.args.records.now c.records.at c.records.before c.args.number c.in-Some.one.now kept.0 (ltb-true _ _ (sym look.0)) look.1 kept.1
+    found_here c.args.records.now c.records.at c.records.before c.args.number c.in-Some.one.now kept.0
+    (ltb-true _ _ (sym look.0)) look.1 kept.1
     (subst (λ n. c.args.number - c.records.before < n) c.count-count.ensures.is c.if-number-before.true)
 
 pub returns-then-number-before-clause-no_overflow : goal.returns-then-number-before-clause-no_overflow

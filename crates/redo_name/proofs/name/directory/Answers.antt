@@ -7,7 +7,8 @@ use Rattle.redo_name.proofs.name.directory.Goals as goal
 pub returns-then-begins_with_slash-clause-segments :
     goal.returns-then-begins_with_slash-clause-segments
 returns-then-begins_with_slash-clause-segments c behind =
-    no_directory behind ∙ ap (λ a. reduce_suffix ((directory_of a (option_copied c.args.target)).1 ++ behind)) c.if-begins_with_slash.ensures
+    no_directory behind ∙ ap (λ a. reduce_suffix ((directory_of a (option_copied c.args.target)).1 ++ behind))
+    c.if-begins_with_slash.ensures
 
 pub returns-in-None-clause-segments : goal.returns-in-None-clause-segments
 returns-in-None-clause-segments c behind =

@@ -10,13 +10,17 @@ segments-init c parts stands = none_yet c.args.absolute parts (segments c.args.n
 pub segments-preserved : goal.segments-preserved
 segments-preserved c parts stands =
     let found = c.in-Some.ensures in
-    let half = subst (λ (rest : List (List ℕ)). Halfway c.args.absolute parts (segments c.args.name.now) rest c.segments.path.items) found.first (c.segments.invariant parts stands) in
-    one_more c.args.absolute parts (segments c.args.name.now) _ _ c.segments.path.items c.add_segment.new.path.items found.free half c.in_ok-add_segment.ensures
+    let half = subst (λ (rest : List (List ℕ)). Halfway c.args.absolute parts (segments c.args.name.now) rest c.segments.path.items)
+    found.first (c.segments.invariant parts stands) in
+    one_more c.args.absolute parts (segments c.args.name.now) _ _ c.segments.path.items c.add_segment.new.path.items found.free half
+    c.in_ok-add_segment.ensures
 
 pub returns : goal.returns
 returns c each parts stands =
     let left = c.segments.left.now in
     let free = c.in_default.ensures.none in
-    let last = subst (λ (rest : List (List ℕ)). Halfway c.args.absolute parts (segments c.args.name.now) rest c.segments.path.items) (cut-free left free) (c.segments.invariant parts stands) in
+    let last = subst (λ (rest : List (List ℕ)). Halfway c.args.absolute parts (segments c.args.name.now) rest c.segments.path.items)
+    (cut-free left free) (c.segments.invariant parts stands) in
     all_added c.args.absolute parts (segments c.args.name.now) c.add_segment-2.new.path.items
-    (one_more c.args.absolute parts (segments c.args.name.now) [] left c.segments.path.items c.add_segment-2.new.path.items free last c.in_ok-add_segment-2.ensures)
+    (one_more c.args.absolute parts (segments c.args.name.now) [] left c.segments.path.items c.add_segment-2.new.path.items free last
+    c.in_ok-add_segment-2.ensures)

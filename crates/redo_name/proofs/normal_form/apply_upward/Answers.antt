@@ -15,7 +15,8 @@ pub returns-in-None : goal.returns-in-None
 returns-in-None c upward =
     let path = c.args.path.now.items in
     let ends = subst (λ (p : List ℕ). CanPop p None) c.deref.ensures.value c.in-None.ensures in
-    subst (λ (a : Bool). Adds a path (c.args.segment.now ∷ []) path) (sym c.if-absolute.true) (adds_at_root path c.args.segment.now ends upward)
+    subst (λ (a : Bool). Adds a path (c.args.segment.now ∷ []) path) (sym c.if-absolute.true)
+    (adds_at_root path c.args.segment.now ends upward)
 
 pub returns-in-None-2 : goal.returns-in-None-2
 returns-in-None-2 c =
@@ -24,5 +25,6 @@ returns-in-None-2 c =
     let ends = subst (λ (p : List ℕ). CanPop p None) c.deref.ensures.value c.in-None-2.ensures in
     on_ok_weaker c.push_segment.result
     (λ pushed upward. subst (λ (p : List ℕ). Adds c.args.absolute path (segment ∷ []) p) (sym pushed)
-    (subst (λ (a : Bool). Adds a path (segment ∷ []) (with_separator a path ++ segment)) (sym c.if-absolute.false) (adds_upward path segment ends upward)))
+    (subst (λ (a : Bool). Adds a path (segment ∷ []) (with_separator a path ++ segment)) (sym c.if-absolute.false)
+    (adds_upward path segment ends upward)))
     c.push_segment.ensures

@@ -12,6 +12,7 @@ returns-then-is_none c =
 
 pub returns-else-number-statuses : goal.returns-else-number-statuses
 returns-else-number-statuses c = elim c.else-number-statuses.branch [
-  | else-number-statuses-via-then-number-statuses+else-is_none w ↦ status_is_set c.args.number c.args.status c.args.statuses.now w.if-number-statuses.true (w.is_none.ensures ∙ ap not w.if-is_none.false)
+  | else-number-statuses-via-then-number-statuses+else-is_none w ↦ status_is_set c.args.number c.args.status c.args.statuses.now
+      w.if-number-statuses.true (w.is_none.ensures ∙ ap not w.if-is_none.false)
   | else-number-statuses-via-else-number-statuses w ↦ no_status c.args.number c.args.status c.args.statuses.now w.if-number-statuses.false
 ]

@@ -10,7 +10,8 @@ pub warnings-smaller : goal.warnings-smaller
 warnings-smaller c =
     let left = c.warnings.left.now in
     let at = c.in-Some.at in
-    let found = subst (λ (needle : List ℕ). NoneBefore (OccursAt left needle) 0 (length left + 1) at × OccursAt left needle at) c.new-finder.ensures c.in-Some.ensures in
+    let found = subst (λ (needle : List ℕ). NoneBefore (OccursAt left needle) 0 (length left + 1) at × OccursAt left needle at)
+    c.new-finder.ensures c.in-Some.ensures in
     subst (λ (bytes : List ℕ). length bytes < length left) (to_end left c.after_line-left.result.now at c.after_line-left.ensures)
     (counts_smaller c.args.lines.now left c.warnings.count c.warnings.invariant at found)
 
@@ -18,8 +19,10 @@ pub warnings-preserved : goal.warnings-preserved
 warnings-preserved c =
     let left = c.warnings.left.now in
     let at = c.in-Some.at in
-    let found = subst (λ (needle : List ℕ). NoneBefore (OccursAt left needle) 0 (length left + 1) at × OccursAt left needle at) c.new-finder.ensures c.in-Some.ensures in
-    subst (λ (bytes : List ℕ). Counts c.args.lines.now bytes (c.warnings.count + 1)) (to_end left c.after_line-left.result.now at c.after_line-left.ensures)
+    let found = subst (λ (needle : List ℕ). NoneBefore (OccursAt left needle) 0 (length left + 1) at × OccursAt left needle at)
+    c.new-finder.ensures c.in-Some.ensures in
+    subst (λ (bytes : List ℕ). Counts c.args.lines.now bytes (c.warnings.count + 1))
+    (to_end left c.after_line-left.result.now at c.after_line-left.ensures)
     (counts_next c.args.lines.now left c.warnings.count c.warnings.invariant at found)
 
 pub returns : goal.returns

@@ -7,7 +7,8 @@ use Rattle.redo_outline.proofs.Nodes.{no_node}
 use Rattle.redo_outline.proofs.outline.set_times.Goals as goal
 
 -- Nodes of which the first `i` were changed by a function.
-module _ (f : Node → Node) (nodes done : List Node) (i : ℕ) (below : i < length nodes) (so_far : done ≡ map f (take i nodes) ++ drop i nodes) where
+module _ (f : Node → Node) (nodes done : List Node) (i : ℕ) (below : i < length nodes)
+    (so_far : done ≡ map f (take i nodes) ++ drop i nodes) where
   abbrev changed : List Node
   changed = map f (take i nodes)
 
@@ -21,9 +22,12 @@ module _ (f : Node → Node) (nodes done : List Node) (i : ℕ) (below : i < len
   split = so_far ∙ ap (λ (r : List Node). changed ++ r) (drop-cons nodes i no_node below)
 
   pub here : get_or done i no_node ≡ get_or nodes i no_node
-  here = ap (λ (l : List Node). get_or l i no_node) split ∙ ap (λ (n : ℕ). get_or (changed ++ next ∷ drop (suc i) nodes) n no_node) (sym count) ∙ get_or-append_seam changed next (drop (suc i) nodes) no_node
+  here = ap (λ (l : List Node). get_or l i no_node) split
+      ∙ ap (λ (n : ℕ). get_or (changed ++ next ∷ drop (suc i) nodes) n no_node) (sym count)
+      ∙ get_or-append_seam changed next (drop (suc i) nodes) no_node
 
-  pub one_more : (node : Node) → node ≡ f (get_or nodes i no_node) → slice_set done i node ≡ map f (take (i + 1) nodes) ++ drop (i + 1) nodes
+  pub one_more : (node : Node) → node ≡ f (get_or nodes i no_node)
+      → slice_set done i node ≡ map f (take (i + 1) nodes) ++ drop (i + 1) nodes
   one_more node is =
       ap (λ (l : List Node). slice_set l i node) split ∙ ap (λ (n : ℕ). slice_set (changed ++ next ∷ drop (suc i) nodes) n node) (sym count)
       ∙ set-append_seam changed next (drop (suc i) nodes) node

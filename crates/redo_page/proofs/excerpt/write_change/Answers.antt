@@ -8,5 +8,7 @@ use Rattle.redo_page.proofs.excerpt.write_change.Goals as goal
 pub returns-in-LeftOut-true : goal.returns-in-LeftOut-true
 returns-in-LeftOut-true g c =
     let wrote = wrote_then c.write_left_out.ensures c.put-in-LeftOut-true.ensures in
-    subst (λ (shown : Bool). WroteParts g.W.Sink.written c.args.page.now c.put-in-LeftOut-true.new.self (change_parts c.args.position c.args.current shown)) (sym c.in-LeftOut-true.is-1)
-    (subst (λ (current : OpenStretch). WroteParts g.W.Sink.written c.args.page.now c.put-in-LeftOut-true.new.self (change_parts c.args.position current true)) (sym c.in-LeftOut-true.is-0) wrote)
+    subst (λ (shown : Bool). WroteParts g.W.Sink.written c.args.page.now c.put-in-LeftOut-true.new.self
+    (change_parts c.args.position c.args.current shown)) (sym c.in-LeftOut-true.is-1)
+    (subst (λ (current : OpenStretch). WroteParts g.W.Sink.written c.args.page.now c.put-in-LeftOut-true.new.self
+    (change_parts c.args.position current true)) (sym c.in-LeftOut-true.is-0) wrote)

@@ -16,8 +16,10 @@ lines-init g c =
     record {
       counted = sym c.new-printed.ensures.done;
       small = omega arith;
-      wrote = upto_start g.W.Sink.written c.args.page.now (excerpt_parts position lines) (parts_from position (is_kept count error) Nothing 0 c.new-printed.result.left)
-          (line_by_line position lines count error c.of-extent.ensures.count c.of-extent.ensures.error ∙ ap (parts_from position (is_kept count error) Nothing 0) (sym c.new-printed.ensures.left));
+      wrote = upto_start g.W.Sink.written c.args.page.now (excerpt_parts position lines)
+          (parts_from position (is_kept count error) Nothing 0 c.new-printed.result.left)
+          (line_by_line position lines count error c.of-extent.ensures.count c.of-extent.ensures.error
+          ∙ ap (parts_from position (is_kept count error) Nothing 0) (sym c.new-printed.ensures.left));
     }
 
 pub lines-preserved : goal.lines-preserved
@@ -37,7 +39,10 @@ lines-preserved g c =
     record {
       counted = omega (arith, done, counted);
       small = omega (arith, small, next_is);
-      wrote = upto_next g.W.Sink.written c.args.page.now c.lines.page c.write_step.new.page (excerpt_parts position lines) (parts_from position kept c.lines.current at c.lines.printed.left)
-          (step_parts position c.lines.current shown line) (parts_from position kept next (at + 1) left) c.lines.invariant.wrote c.write_step.ensures
-          (next_line position kept c.lines.current next at shown c.lines.printed.left line left c.in-Some.ensures.line c.shows-shown.ensures c.after-current.ensures);
+      wrote = upto_next g.W.Sink.written c.args.page.now c.lines.page c.write_step.new.page (excerpt_parts position lines)
+          (parts_from position kept c.lines.current at c.lines.printed.left)
+          (step_parts position c.lines.current shown line)
+          (parts_from position kept next (at + 1) left) c.lines.invariant.wrote c.write_step.ensures
+          (next_line position kept c.lines.current next at shown c.lines.printed.left line left c.in-Some.ensures.line c.shows-shown.ensures
+          c.after-current.ensures);
     }

@@ -11,5 +11,6 @@ pub returns : goal.returns
 unfolding left_out_parts
 returns g c =
     subst (λ (text : List ℕ). WroteParts g.W.Sink.written c.args.page.now c.put-2.new.self
-    (MarkupPart CutParagraph ∷ NumberPart c.args.count ∷ TextPart text ∷ (in_tree_parts c.args.position IN_ITS_LOG.now ++ MarkupPart EndParagraph ∷ [])))
+    (MarkupPart CutParagraph ∷ NumberPart c.args.count ∷ TextPart text
+    ∷ (in_tree_parts c.args.position IN_ITS_LOG.now ++ MarkupPart EndParagraph ∷ [])))
     c.plural.ensures (wrote_then c.put.ensures (wrote_then c.write_in_tree.ensures c.put-2.ensures))

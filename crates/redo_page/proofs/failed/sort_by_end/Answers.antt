@@ -10,5 +10,6 @@ pub returns : goal.returns
 returns c =
     let nodes = c.args.nodes.now in
     are_sorted nodes c.args.positions.now.items c.sort_unstable_by.new.self.items c.sort_unstable_by.ensures.permutation
-    (c.sort_unstable_by.ensures.sorted (λ position other. is_lt (failure_cmp nodes position other)) (ranks_by (failure_cmp_total nodes) (λ position. position))
+    (c.sort_unstable_by.ensures.sorted (λ position other. is_lt (failure_cmp nodes position other))
+    (ranks_by (failure_cmp_total nodes) (λ position. position))
     (always_returns_same _ (λ a r. is_lt r ≡ is_lt (failure_cmp nodes a.0.now a.1.0.now)) _ (λ a r f k. search rules)))

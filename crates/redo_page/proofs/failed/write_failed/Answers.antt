@@ -29,8 +29,12 @@ returns g c =
     let some : 0 < length (root_failures nodes) = omega (arith, differs, size) in
     wrote_if g.W.Sink.written c.args.page.now c.write_section.new.page _ _ (lt-ltb 0 (length (root_failures nodes)) some)
     (wrote_as g.W.Sink.written c.args.page.now c.write_section.new.page _ _
-    (ap (λ (positions : List ℕ). section_parts logs nodes positions c.others_of-others.result.now c.as_slice-dependents.result.now c.as_slice-unclosed.result.now) articles
-    ∙ ap (λ (positions : List ℕ). section_parts logs nodes (take max_articles (root_failures nodes)) positions c.as_slice-dependents.result.now c.as_slice-unclosed.result.now) others
-    ∙ ap (λ (positions : List ℕ). section_parts logs nodes (take max_articles (root_failures nodes)) (drop max_articles (root_failures nodes)) positions c.as_slice-unclosed.result.now) dependents
-    ∙ ap (section_parts logs nodes (take max_articles (root_failures nodes)) (drop max_articles (root_failures nodes)) (positions_where is_dependent_failure 0 nodes)) unclosed)
+    (ap (λ (positions : List ℕ). section_parts logs nodes positions c.others_of-others.result.now c.as_slice-dependents.result.now
+    c.as_slice-unclosed.result.now) articles
+    ∙ ap (λ (positions : List ℕ). section_parts logs nodes
+    (take max_articles (root_failures nodes)) positions c.as_slice-dependents.result.now c.as_slice-unclosed.result.now) others
+    ∙ ap (λ (positions : List ℕ). section_parts logs nodes (take max_articles (root_failures nodes))
+    (drop max_articles (root_failures nodes)) positions c.as_slice-unclosed.result.now) dependents
+    ∙ ap (section_parts logs nodes (take max_articles (root_failures nodes)) (drop max_articles (root_failures nodes))
+    (positions_where is_dependent_failure 0 nodes)) unclosed)
     c.write_section.ensures)

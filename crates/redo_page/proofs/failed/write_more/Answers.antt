@@ -13,5 +13,7 @@ returns g c =
     let positions = c.args.positions.now in
     let differs = eqb-false (length positions) 0 (sym c.is_empty.ensures ∙ c.if-is_empty.false) in
     let some : 0 < length positions = omega (arith, differs) in
-    let rows = wrote_as written c.put.new.self c.write_target_rows.new.page _ _ (ap (flat_map (target_row c.args.table.now c.args.nodes.now c.args.causes)) c.first_of.ensures) c.write_target_rows.ensures in
-    wrote_if written c.args.page.now c.write_more_end.new.page _ _ (lt-ltb 0 (length positions) some) (wrote_then c.put.ensures (wrote_then rows c.write_more_end.ensures))
+    let rows = wrote_as written c.put.new.self c.write_target_rows.new.page _ _
+    (ap (flat_map (target_row c.args.table.now c.args.nodes.now c.args.causes)) c.first_of.ensures) c.write_target_rows.ensures in
+    wrote_if written c.args.page.now c.write_more_end.new.page _ _ (lt-ltb 0 (length positions) some)
+    (wrote_then c.put.ensures (wrote_then rows c.write_more_end.ensures))

@@ -13,6 +13,8 @@ pub returns : goal.returns
 returns g c =
     wrote_as g.W.Sink.written c.args.page.now c.put-3.new.self _ _
     ((λ i. MarkupPart markup.MetaParagraph
-    ∷ (date_parts (date_text_of (c.in-Some.window.began / 1000)) ++ (TextPart BUILD_TOOK.now ∷ (words_parts (c.duration.ensures i) ++ MarkupPart markup.EndParagraph ∷ []))))
+    ∷ (date_parts (date_text_of (c.in-Some.window.began / 1000))
+    ++ (TextPart BUILD_TOOK.now ∷ (words_parts (c.duration.ensures i) ++ MarkupPart markup.EndParagraph ∷ []))))
     ∙ ap (λ window. began_parts window c.args.took) (sym c.in-Some.is))
-    (wrote_then c.put.ensures (wrote_then c.write_date.ensures (wrote_then c.put-2.ensures (wrote_then c.write_words.ensures c.put-3.ensures))))
+    (wrote_then c.put.ensures (wrote_then c.write_date.ensures
+    (wrote_then c.put-2.ensures (wrote_then c.write_words.ensures c.put-3.ensures))))

@@ -13,5 +13,8 @@ returns g c =
     (λ i. top_heading_parts c.args.verdict c.args.heading.now
     ++ (title_parts c.args.title.now
     ++ (flat_map (root_parts c.args.table.now) c.args.nodes.now
-    ++ (began_parts (c.window.ensures.window i) (c.took.ensures i) ++ (MarkupPart markup.EndHeader ∷ nav_parts c.args.verdict (c.has_timeline.ensures i))))))
-    (wrote_then c.write_heading.ensures (wrote_then c.write_title.ensures (wrote_then c.write_roots.ensures (wrote_then c.write_began.ensures (wrote_then c.put.ensures c.write_nav.ensures)))))
+    ++ (began_parts (c.window.ensures.window i) (c.took.ensures i)
+    ++ (MarkupPart markup.EndHeader ∷ nav_parts c.args.verdict (c.has_timeline.ensures i))))))
+    (wrote_then c.write_heading.ensures
+    (wrote_then c.write_title.ensures (wrote_then c.write_roots.ensures
+    (wrote_then c.write_began.ensures (wrote_then c.put.ensures c.write_nav.ensures)))))

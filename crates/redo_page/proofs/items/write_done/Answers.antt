@@ -6,4 +6,5 @@ use Rattle.redo_page.proofs.items.write_done.Goals as goal
 pub returns : goal.returns
 returns g c =
     let passed = to_z-of_z w32 c.args.status c.ranges.status in
-    rw (c.position_of_name.ensures, c.bytes.ensures.bytes, passed) at (wrote_then c.put.ensures (wrote_then c.write_linked.ensures (wrote_then c.write_exit.ensures c.put-2.ensures)))
+    rw (c.position_of_name.ensures, c.bytes.ensures.bytes, passed) at
+    (wrote_then c.put.ensures (wrote_then c.write_linked.ensures (wrote_then c.write_exit.ensures c.put-2.ensures)))

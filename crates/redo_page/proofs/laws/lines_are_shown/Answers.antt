@@ -32,48 +32,64 @@ pub returns-clause-complete : goal.returns-clause-complete
 returns-clause-complete c = λ request logs requested known.
     let events = page_events request logs requested in
     let have = contents_have_lines logs events (c.logs_show_their_lines.ensures logs (options_of request) requested known) in
-    all_lines logs 0 None 0 (contents_of events) have ∙ ap (flat_map event_lines) (c.events_are_in_contents.ensures logs (options_of request) requested known)
+    all_lines logs 0 None 0 (contents_of events) have
+    ∙ ap (flat_map event_lines) (c.events_are_in_contents.ensures logs (options_of request) requested known)
 
 pub returns-clause-tree : goal.returns-clause-tree
-returns-clause-tree c = λ request logs requested. tree_text logs (options_of request) (page_outline request logs requested) (page_contents request logs requested)
+returns-clause-tree c = λ request logs requested.
+    tree_text logs (options_of request) (page_outline request logs requested) (page_contents request logs requested)
 
 -- A node keeps its number.
-same_number : (times : List RunTimes) (nodes : List Node) (position : ℕ) → (node_at (map (with_times times) nodes) position).number ≡ (node_at nodes position).number
+same_number : (times : List RunTimes) (nodes : List Node) (position : ℕ)
+    → (node_at (map (with_times times) nodes) position).number ≡ (node_at nodes position).number
 same_number times [] position = refl
 same_number times (node ∷ nodes) zero = refl
 same_number times (node ∷ nodes) (suc position) = same_number times nodes position
 
 -- An article shows the lines of its log, if these are moved to it.
-moved_text : (request : Request) (logs : List Log) (requested : List (List ℕ)) → lines_left_after logs [] (page_events request logs requested) ≡ Some []
-    → (position : ℕ) → is_moved (page_build request logs requested) position ≡ true → log_bytes (page_article request logs requested position) ≡ positioned_bytes (lines_at position (page_lines request logs requested))
+moved_text : (request : Request) (logs : List Log) (requested : List (List ℕ))
+    → lines_left_after logs [] (page_events request logs requested) ≡ Some []
+    → (position : ℕ) → is_moved (page_build request logs requested) position ≡ true
+    → log_bytes (page_article request logs requested position) ≡ positioned_bytes (lines_at position (page_lines request logs requested))
 moved_text request logs requested shown position moved =
     let events = page_events request logs requested in
     let nodes = page_outline request logs requested in
     let parts = and_parts (has_article (page_build request logs requested) position) (is_short (node_at nodes position)) moved in
     article_text logs nodes position parts.1
-    ∙ ap (λ (number : ℕ). flat_map with_line_feed (texts_of (entries_at number logs))) (same_number (map run_times request.times) (outline_of logs events) position)
-    ∙ ap (flat_map with_line_feed) (lines_of_position logs (target_status logs events) (contents_of events) position (contents_have_lines logs events shown) (subst (λ (n : ℕ). position < n) (length-map (outline_of logs events) (with_times (map run_times request.times))) (among_below (length nodes) (articles nodes) position (articles_below nodes) parts.0)))
+    ∙ ap (λ (number : ℕ). flat_map with_line_feed (texts_of (entries_at number logs)))
+    (same_number (map run_times request.times) (outline_of logs events) position)
+    ∙ ap (flat_map with_line_feed) (lines_of_position logs (target_status logs events) (contents_of events) position
+    (contents_have_lines logs events shown)
+    (subst (λ (n : ℕ). position < n) (length-map (outline_of logs events) (with_times (map run_times request.times)))
+    (among_below (length nodes) (articles nodes) position (articles_below nodes) parts.0)))
 
 pub returns-clause-articles : goal.returns-clause-articles
-returns-clause-articles c = λ request logs requested known position moved. moved_text request logs requested (c.logs_show_their_lines.ensures logs (options_of request) requested known) position moved
+returns-clause-articles c = λ request logs requested known position moved.
+    moved_text request logs requested (c.logs_show_their_lines.ensures logs (options_of request) requested known) position moved
 
 pub returns-clause-has_tree : goal.returns-clause-has_tree
 returns-clause-has_tree c = page_has_tree
 
 pub returns-clause-has_articles : goal.returns-clause-has_articles
 returns-clause-has_articles c = λ request logs requested position moved.
-    page_has_article request logs requested position (and_parts (has_article (page_build request logs requested) position) (is_short (node_at (page_outline request logs requested) position)) moved).0
+    page_has_article request logs requested position
+    (and_parts (has_article (page_build request logs requested) position)
+    (is_short (node_at (page_outline request logs requested) position)) moved).0
 
 -- Nothing is left out without limits.
-unlimited : (logs : List Log) (events : List Event) (limits : List Limit) → limits ≡ [] → trim [] [] (contents_of events) ≡ contents_of events → positioned_lines None 0 (trim limits [] (contents_of events)) ≡ positioned_lines None 0 (contents_of events)
-unlimited logs events limits none same = ap (λ (l : List Limit). positioned_lines None 0 (trim l [] (contents_of events))) none ∙ ap (positioned_lines None 0) same
+unlimited : (logs : List Log) (events : List Event) (limits : List Limit) → limits ≡ []
+    → trim [] [] (contents_of events) ≡ contents_of events
+    → positioned_lines None 0 (trim limits [] (contents_of events)) ≡ positioned_lines None 0 (contents_of events)
+unlimited logs events limits none same =
+    ap (λ (l : List Limit). positioned_lines None 0 (trim l [] (contents_of events))) none ∙ ap (positioned_lines None 0) same
 
 pub returns-clause-whole : goal.returns-clause-whole
 returns-clause-whole c = λ request logs requested no_limit known.
     let events = page_events request logs requested in
     let nodes = page_outline request logs requested in
     let same = c.events_are_in_contents.ensures logs (options_of request) requested known in
-    unlimited logs events (tree_limits logs (options_of request) nodes request.max_bytes) (ap (tree_limits logs (options_of request) nodes) no_limit)
+    unlimited logs events (tree_limits logs (options_of request) nodes request.max_bytes)
+    (ap (tree_limits logs (options_of request) nodes) no_limit)
     (sym (c.trimmed_events_are_in_tree.ensures.tree [] events same) ∙ ap contents_of (c.unlimited_logs_are_whole.ensures [] events tt))
 
 pub returns-clause-fitting : goal.returns-clause-fitting
@@ -81,7 +97,8 @@ returns-clause-fitting c = λ request logs requested fit known.
     let events = page_events request logs requested in
     let nodes = page_outline request logs requested in
     let same = c.events_are_in_contents.ensures logs (options_of request) requested known in
-    unlimited logs events (tree_limits logs (options_of request) nodes request.max_bytes) (fitting_limits logs (options_of request) nodes request.max_bytes fit)
+    unlimited logs events (tree_limits logs (options_of request) nodes request.max_bytes)
+    (fitting_limits logs (options_of request) nodes request.max_bytes fit)
     (sym (c.trimmed_events_are_in_tree.ensures.tree [] events same) ∙ ap contents_of (c.unlimited_logs_are_whole.ensures [] events tt))
 
 pub returns-clause-cut : goal.returns-clause-cut
@@ -92,7 +109,10 @@ returns-clause-cut c = λ request logs requested small known position below.
     let status = target_status logs events in
     let limits = tree_limits logs options nodes request.max_bytes in
     let have = contents_have_lines logs events (c.logs_show_their_lines.ensures logs options requested known) in
-    let fit = limits_fit logs options nodes request.max_bytes small (bytes_small (map run_times request.times) (outline_of logs events) (nodes_small logs status None 0 (contents_of events))) in
-    lines_left logs limits (c.head_and_tail_are_kept.ensures.kept limits) fit status (contents_of events) have (c.trimmed_events_are_in_tree.ensures.logs limits (contents_of events)) position
+    let fit = limits_fit logs options nodes request.max_bytes small
+    (bytes_small (map run_times request.times) (outline_of logs events) (nodes_small logs status None 0 (contents_of events))) in
+    lines_left logs limits (c.head_and_tail_are_kept.ensures.kept limits) fit status (contents_of events) have
+    (c.trimmed_events_are_in_tree.ensures.logs limits (contents_of events)) position
     (subst (λ (n : ℕ). position < n) (outline_counted request logs requested) below)
-    ∙ ap (λ (number : ℕ). head_and_tail (limit_of limits number) (laws.texts_of (lines_at position (page_lines request logs requested)))) (sym (same_number (map run_times request.times) (outline_of logs events) position))
+    ∙ ap (λ (number : ℕ). head_and_tail (limit_of limits number) (laws.texts_of (lines_at position (page_lines request logs requested))))
+    (sym (same_number (map run_times request.times) (outline_of logs events) position))

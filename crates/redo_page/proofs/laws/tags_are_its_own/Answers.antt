@@ -9,7 +9,8 @@ use Rattle.redo_page.proofs.laws.tags_are_its_own.Goals as goal
 
 pub returns-clause-tags : goal.returns-clause-tags
 returns-clause-tags c = λ request logs requested.
-    subst (λ (tokens : List Token). All IsOwnTag (tags_of tokens)) (sym (c.page_is_read.ensures.parts request logs requested)) (each_own c.passages_are_read_as_shown.ensures c.charts_have_no_text_in_tags.ensures (page_parts request logs requested))
+    subst (λ (tokens : List Token). All IsOwnTag (tags_of tokens)) (sym (c.page_is_read.ensures.parts request logs requested))
+    (each_own c.passages_are_read_as_shown.ensures c.charts_have_no_text_in_tags.ensures (page_parts request logs requested))
 
 pub returns-clause-tree : goal.returns-clause-tree
 returns-clause-tree c = tree_same

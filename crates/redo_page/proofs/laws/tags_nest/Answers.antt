@@ -22,7 +22,8 @@ use Rattle.redo_page.proofs.laws.tags_nest.Goals as goal
 abbrev body : List (List ℕ)
 body = codes "body" ∷ codes "html" ∷ []
 
-top_leads : (title : List ℕ) (logs : List Log) (verdict : Verdict) (title_is heading : List ℕ) (nodes : List Node) (facts : Facts) → Leads [] (top_parts_of title logs verdict title_is heading nodes facts) (codes "main" ∷ body)
+top_leads : (title : List ℕ) (logs : List Log) (verdict : Verdict) (title_is heading : List ℕ) (nodes : List Node) (facts : Facts)
+    → Leads [] (top_parts_of title logs verdict title_is heading nodes facts) (codes "main" ∷ body)
 unfolding top_parts_of
 top_leads title logs verdict title_is heading nodes facts =
     then_lead (head_leads title_is verdict) (then_lead (lead_around body (header_leads title logs verdict heading nodes facts))
@@ -32,8 +33,10 @@ page_nests : (request : Request) (logs : List Log) (requested : List (List ℕ))
 unfolding page_parts
 page_nests request logs requested =
     let nodes = page_outline request logs requested in
-    then_lead (top_leads request.title logs (verdict_of nodes) (title_text request.title (verdict_of nodes) (heading_of nodes)) (heading_of nodes) nodes (page_facts request logs requested))
-    (then_lead (then_lead (lead_in (codes "main" ∷ body) (timeline_nests logs nodes (page_facts request logs requested))) (lead_in (codes "main" ∷ body) (tree_nests logs (options_of request) nodes (page_contents request logs requested))))
+    then_lead (top_leads request.title logs (verdict_of nodes) (title_text request.title (verdict_of nodes) (heading_of nodes))
+    (heading_of nodes) nodes (page_facts request logs requested))
+    (then_lead (then_lead (lead_in (codes "main" ∷ body) (timeline_nests logs nodes (page_facts request logs requested)))
+    (lead_in (codes "main" ∷ body) (tree_nests logs (options_of request) nodes (page_contents request logs requested))))
     (footer_leads request.dir (command request.dir (options_of request) requested) (length nodes)))
 
 pub returns : goal.returns

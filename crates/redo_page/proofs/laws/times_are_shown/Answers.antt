@@ -4,13 +4,16 @@ use Rattle.redo_page.proofs.laws.times_are_shown.Goals as goal
 
 pub returns-clause-chart : goal.returns-clause-chart
 returns-clause-chart c = λ request logs requested window has.
-    page_has_chart c.positions_are_of_nodes.ensures c.bars_lead_to_positions.ensures c.trimmed_events_are_in_tree.ensures.logs request logs requested window has.0 has.1
+    page_has_chart c.positions_are_of_nodes.ensures c.bars_lead_to_positions.ensures c.trimmed_events_are_in_tree.ensures.logs request logs
+    requested window has.0 has.1
 
 pub returns-clause-no_chart : goal.returns-clause-no_chart
-returns-clause-no_chart c = page_has_no_chart c.positions_are_of_nodes.ensures c.bars_lead_to_positions.ensures c.trimmed_events_are_in_tree.ensures.logs
+returns-clause-no_chart c = page_has_no_chart c.positions_are_of_nodes.ensures c.bars_lead_to_positions.ensures
+    c.trimmed_events_are_in_tree.ensures.logs
 
 pub returns-clause-spans : goal.returns-clause-spans
-returns-clause-spans c = λ request logs requested. c.spans_are_callers_or_recipes.ensures (page_outline request logs requested) request.times
+returns-clause-spans c = λ request logs requested.
+    c.spans_are_callers_or_recipes.ensures (page_outline request logs requested) request.times
 
 pub returns-clause-callers : goal.returns-clause-callers
 returns-clause-callers c = λ request logs requested window.

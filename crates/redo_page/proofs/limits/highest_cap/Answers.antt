@@ -9,7 +9,8 @@ caps-preserved c =
     let some : c.caps.fitting < cap = omega (arith, c.caps-test.true) in
     let below : cap ≤ c.caps.above = omega arith in
     record {
-      same = c.caps.invariant.same ∙ lower_counts budget c.args.nodes.now cap c.caps.above (sym c.fit_in.ensures ∙ c.if-fit_in.false) (omega (arith, some)) below;
+      same = c.caps.invariant.same ∙ lower_counts budget c.args.nodes.now cap c.caps.above (sym c.fit_in.ensures ∙ c.if-fit_in.false)
+          (omega (arith, some)) below;
       fits_in = c.caps.invariant.fits_in;
       ordered = omega (arith, some);
     }

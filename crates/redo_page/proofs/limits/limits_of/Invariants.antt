@@ -5,4 +5,5 @@ use Rattle.redo_page.proofs.limits.limits_of.Given as goal
 
 abbrev pub invariant-loop-number : goal.invariant-loop-number
 invariant-loop-number l =
-    l.limits.items ++ limits_from (build_value l.build) l.cap l.number (length l.build.table.now - l.number) ≡ limits_from (build_value l.build) l.cap 0 (length l.build.table.now)
+    l.limits.items ++ limits_from (build_value l.build) l.cap l.number (length l.build.table.now - l.number)
+    ≡ limits_from (build_value l.build) l.cap 0 (length l.build.table.now)

@@ -26,7 +26,8 @@ returns-in_err-write_timeline g c =
     let given = err_from_is_err_and c.from_residual.result c.from_residual.ensures.1 in
     rw (given.1, given.2) (subst (λ text. FormWrites before after text (Err fault)) (sym (flat_map-append part_html timeline tree))
     (stage_stops before after (flat_map part_html timeline) (flat_map part_html tree) fault
-    (subst (λ (ns : List Node). FormWrites before after (flat_map part_html (timeline_parts logs ns facts)) (Err fault)) c.nodes.ensures c.in_err-write_timeline.ensures)))
+    (subst (λ (ns : List Node). FormWrites before after (flat_map part_html (timeline_parts logs ns facts)) (Err fault)) c.nodes.ensures
+    c.in_err-write_timeline.ensures)))
 
 pub returns : goal.returns
 returns g c =
@@ -41,4 +42,5 @@ returns g c =
     let tree = tree_parts logs options nodes (tree_contents logs options c.args.request.now.max_bytes c.args.requested.now nodes) in
     subst (λ text. FormWrites before after text c.write_tree.result) (sym (flat_map-append part_html timeline tree))
     (after_stage before middle after (flat_map part_html timeline) (flat_map part_html tree) c.write_tree.result
-    (subst (λ (ns : List Node). middle ≡ append_output before (flat_map part_html (timeline_parts logs ns facts)) 0) c.nodes.ensures c.in_ok-write_timeline.ensures) c.write_tree.ensures)
+    (subst (λ (ns : List Node). middle ≡ append_output before (flat_map part_html (timeline_parts logs ns facts)) 0) c.nodes.ensures
+    c.in_ok-write_timeline.ensures) c.write_tree.ensures)

@@ -12,7 +12,8 @@ returns-then-count-gt0 c =
 
 pub returns-in-None : goal.returns-in-None
 returns-in-None c =
-    later_lines c.args.logs.now.logs c.args.number c.args.next c.entries.at _ c.entries.at c.entries.invariant.after c.entries.invariant.same
+    later_lines c.args.logs.now.logs c.args.number c.args.next c.entries.at _ c.entries.at c.entries.invariant.after
+    c.entries.invariant.same
     (no_lines c.args.logs.now.logs c.args.number c.entries.at (sym c.in-None.ensures.entry))
 
 pub entries-smaller : goal.entries-smaller
@@ -21,5 +22,6 @@ entries-smaller c = let low = within c.args.logs.now.logs c.args.number _ c.entr
 pub entries-preserved : goal.entries-preserved
 entries-preserved c = record {
   after = omega arith;
-  same = c.entries.invariant.same ∙ no_text c.args.logs.now.logs c.args.number _ c.entries.at (sym c.in-Some.ensures.entry) (λ text. let some = c.lines-count.ensures.nonempty text in omega (arith, some));
+  same = c.entries.invariant.same ∙ no_text c.args.logs.now.logs c.args.number _ c.entries.at (sym c.in-Some.ensures.entry)
+      (λ text. let some = c.lines-count.ensures.nonempty text in omega (arith, some));
 }

@@ -21,5 +21,7 @@ returns g c =
     ++ (badge_parts (node i).status
     ++ (MarkupPart markup.EndRowHeading ∷ MarkupPart markup.NumberCell
     ∷ (measure_parts c.args.measure rank.value
-    ++ (MarkupPart markup.EndCell ∷ MarkupPart markup.MeterCell ∷ MeterPart (c.meter_width.ensures i) ∷ MarkupPart markup.EndCell ∷ MarkupPart markup.EndTableRow ∷ []))))))
-    (wrote_then c.put.ensures (wrote_then c.write_linked.ensures (wrote_then c.write_badge.ensures (wrote_then c.put-2.ensures (wrote_then c.write_measure.ensures c.put-3.ensures)))))
+    ++ (MarkupPart markup.EndCell ∷ MarkupPart markup.MeterCell ∷ MeterPart (c.meter_width.ensures i) ∷ MarkupPart markup.EndCell
+    ∷ MarkupPart markup.EndTableRow ∷ []))))))
+    (wrote_then c.put.ensures (wrote_then c.write_linked.ensures
+    (wrote_then c.write_badge.ensures (wrote_then c.put-2.ensures (wrote_then c.write_measure.ensures c.put-3.ensures)))))

@@ -17,5 +17,6 @@ returns g c =
     wrote_if g.W.Sink.written before now _ _ (ap not (sym c.is_empty.ensures ∙ c.if-is_empty.false))
     (wrote_as g.W.Sink.written before now _ _
     (λ i. table_start c.args.heading.now
-    ++ (flat_map (rank_parts c.args.table.now c.args.nodes.now c.args.measure (c.largest_of.ensures i)) ranks ++ MarkupPart markup.EndTableBody ∷ MarkupPart markup.EndTable ∷ MarkupPart markup.EndDiv ∷ []))
+    ++ (flat_map (rank_parts c.args.table.now c.args.nodes.now c.args.measure (c.largest_of.ensures i)) ranks
+    ++ MarkupPart markup.EndTableBody ∷ MarkupPart markup.EndTable ∷ MarkupPart markup.EndDiv ∷ []))
     (wrote_then c.write_table_start.ensures (wrote_then c.write_rows.ensures c.put.ensures)))

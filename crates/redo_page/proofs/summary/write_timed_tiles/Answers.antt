@@ -13,4 +13,5 @@ returns-then-is_timed g c =
     let sum = c.duration.ensures ∙ ap duration_words c.sum.ensures in
     wrote_if g.W.Sink.written c.args.page.now c.write_at_once_tile.new.page _ _ (sym c.is_timed.ensures ∙ c.if-is_timed.true)
     (wrote_as g.W.Sink.written c.args.page.now c.write_at_once_tile.new.page _ _
-    (λ i. tile SUM_OF_TIMES.now (words_parts (sum i)) ++ tile AT_ONCE.now (at_once_parts facts)) (wrote_then c.write_words_tile.ensures c.write_at_once_tile.ensures))
+    (λ i. tile SUM_OF_TIMES.now (words_parts (sum i)) ++ tile AT_ONCE.now (at_once_parts facts))
+    (wrote_then c.write_words_tile.ensures c.write_at_once_tile.ensures))

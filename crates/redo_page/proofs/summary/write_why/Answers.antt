@@ -14,5 +14,6 @@ returns g c =
     let unknown = ap length c.marks.ensures in
     wrote_if g.W.Sink.written before now _ _ (ap not (sym c.is_timed.ensures ∙ c.if-is_timed.false))
     (wrote_as g.W.Sink.written before now _ _
-    (λ i. (MarkupPart markup.QuietParagraph ∷ []) ++ (unknown_parts (unknown i) (c.known_count.ensures i) ++ (MarkupPart markup.EndParagraph ∷ [])))
+    (λ i. (MarkupPart markup.QuietParagraph ∷ [])
+    ++ (unknown_parts (unknown i) (c.known_count.ensures i) ++ (MarkupPart markup.EndParagraph ∷ [])))
     (wrote_then c.put.ensures (wrote_then c.write_unknown.ensures c.put-2.ensures)))

@@ -11,5 +11,6 @@ use Rattle.redo_page.proofs.targets.write_took.Goals as goal
 pub returns : goal.returns
 returns g c =
     wrote_as g.W.Sink.written c.args.page.now c.put-2.new.self _ _
-    ((λ i. TextPart (codes " ") ∷ MarkupPart markup.Small ∷ (words_parts (c.duration.ensures i) ++ MarkupPart markup.EndSmall ∷ [])) ∙ ap took_parts (sym c.in-Some.is))
+    ((λ i. TextPart (codes " ") ∷ MarkupPart markup.Small ∷ (words_parts (c.duration.ensures i) ++ MarkupPart markup.EndSmall ∷ []))
+    ∙ ap took_parts (sym c.in-Some.is))
     (wrote_then c.put.ensures (wrote_then c.write_words.ensures c.put-2.ensures))

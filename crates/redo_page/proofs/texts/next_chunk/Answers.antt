@@ -8,12 +8,14 @@ use Rattle.redo_page.proofs.texts.next_chunk.Goals as goal
 
 pub first_line-size-requires-clause-complete : goal.first_line-size-requires-clause-complete
 first_line-size-requires-clause-complete c =
-    ap rest (take_rest c.args.lines.now c.lines.len) ∙ complete_after c.args.lines.now c.lines.len c.lines.invariant.0.complete c.requires.complete
+    ap rest (take_rest c.args.lines.now c.lines.len)
+    ∙ complete_after c.args.lines.now c.lines.len c.lines.invariant.0.complete c.requires.complete
 
 pub lines-preserved : goal.lines-preserved
 lines-preserved c =
     let lines = c.args.lines.now in
-    let next : IsFirstLine (drop c.lines.len lines) c.first_line-size.result = subst (λ (l : List ℕ). IsFirstLine l c.first_line-size.result) (take_rest lines c.lines.len) c.first_line-size.ensures in
+    let next : IsFirstLine (drop c.lines.len lines) c.first_line-size.result =
+    subst (λ (l : List ℕ). IsFirstLine l c.first_line-size.result) (take_rest lines c.lines.len) c.first_line-size.ensures in
     let size = next.size_is in (
       more_first lines c.first_line-first.result c.lines.len c.lines.count c.first_line-size.result c.lines.invariant.0 next,
       inr (omega (arith, size), omega (arith, size)),

@@ -10,7 +10,9 @@ abbrev pub invariant-chunks : goal.invariant-chunks
 invariant-chunks g l = record {
   within : l.done ≤ length l.lines;
   complete : rest (drop l.done l.lines) ≡ [];
-  wrote : WroteUpTo (g.W.Sink.written l.initial.out) (g.W.Sink.written l.out) (flat_map part_html (lines_parts l.fn.pending (ended l.lines))) (flat_map part_html (lines_parts l.pending (ended (drop l.done l.lines))));
+  wrote : WroteUpTo (g.W.Sink.written l.initial.out) (g.W.Sink.written l.out)
+      (flat_map part_html (lines_parts l.fn.pending (ended l.lines)))
+      (flat_map part_html (lines_parts l.pending (ended (drop l.done l.lines))));
   state : after_lines l.pending (ended (drop l.done l.lines)) ≡ after_lines l.fn.pending (ended l.lines);
 }
 

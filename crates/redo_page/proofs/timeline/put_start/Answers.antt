@@ -11,6 +11,7 @@ pub returns : goal.returns
 returns g c =
     let marks = ap length c.marks.ensures in
     wrote_as g.W.Sink.written c.args.page.now c.put-2.new.self _ _
-    (λ i. (MarkupPart markup.TimelineSection ∷ MarkupPart markup.TimelineHeading ∷ TextPart TIMELINE.now ∷ MarkupPart markup.EndHeading ∷ [])
+    (λ i. (MarkupPart markup.TimelineSection ∷ MarkupPart markup.TimelineHeading ∷ TextPart TIMELINE.now
+    ∷ MarkupPart markup.EndHeading ∷ [])
     ++ (marks_parts (marks i) (c.known_count.ensures i) ++ (MarkupPart markup.TimelineScroll ∷ [])))
     (wrote_then c.put.ensures (wrote_then c.write_marks.ensures c.put-2.ensures))

@@ -13,5 +13,7 @@ use Rattle.redo_page.proofs.timeline.write_end.Goals as goal
 pub returns : goal.returns
 returns g c =
     subst (λ (text : List ℕ). Writes (g.W.Sink.written c.args.out.now) (g.W.Sink.written c.write_pieces.new.out)
-    (flat_map part_html (MarkupPart markup.EndDiv ∷ MarkupPart markup.QuietParagraph ∷ TextPart BARS_LEAD.now ∷ TextPart text ∷ MarkupPart markup.EndParagraph ∷ MarkupPart markup.EndSection ∷ [])) c.write_pieces.result)
-    (c.pale_text.ensures ∙ ap (λ empty. pale_text (not empty)) c.is_empty.ensures ∙ ap (λ (spans : List Span). pale_text (not (length spans == 0))) c.callers.ensures) c.write_pieces.ensures
+    (flat_map part_html (MarkupPart markup.EndDiv ∷ MarkupPart markup.QuietParagraph ∷ TextPart BARS_LEAD.now ∷ TextPart text
+    ∷ MarkupPart markup.EndParagraph ∷ MarkupPart markup.EndSection ∷ [])) c.write_pieces.result)
+    (c.pale_text.ensures ∙ ap (λ empty. pale_text (not empty)) c.is_empty.ensures
+    ∙ ap (λ (spans : List Span). pale_text (not (length spans == 0))) c.callers.ensures) c.write_pieces.ensures

@@ -23,8 +23,10 @@ returns-in_err-write_events g c =
     let start = start_of (build_value c.args.build) in
     let start_is = c.new-trimmed.ensures.form ∙ c.new-form.ensures in
     let events_are = ap (λ limits. trimmed limits [] shown) c.new-trimmed.ensures.limits in
-    rw (given.1, given.2) (form_stops before after (bytes_of tree_bytes after_event start events) (flat_map part_html (end_parts (state_after after_event start events).before ++ section_end)) c.in_err-write_events.field-0.0
-    (subst (λ text. FormWrites before after text (Err c.in_err-write_events.field-0.0)) (λ i. bytes_of tree_bytes after_event (start_is i) (events_are i)) c.in_err-write_events.ensures.wrote))
+    rw (given.1, given.2) (form_stops before after (bytes_of tree_bytes after_event start events)
+    (flat_map part_html (end_parts (state_after after_event start events).before ++ section_end)) c.in_err-write_events.field-0.0
+    (subst (λ text. FormWrites before after text (Err c.in_err-write_events.field-0.0))
+    (λ i. bytes_of tree_bytes after_event (start_is i) (events_are i)) c.in_err-write_events.ensures.wrote))
 
 pub returns : goal.returns
 returns g c =
@@ -36,7 +38,9 @@ returns g c =
     let start = start_of (build_value c.args.build) in
     let start_is = c.new-trimmed.ensures.form ∙ c.new-form.ensures in
     let events_are = ap (λ limits. trimmed limits [] shown) c.new-trimmed.ensures.limits in
-    form_then before middle after (bytes_of tree_bytes after_event start events) (flat_map part_html (end_parts (state_after after_event start events).before ++ section_end)) c.end-2.result
-    (subst (λ text. WroteAll before middle text) (λ i. bytes_of tree_bytes after_event (start_is i) (events_are i)) c.in_ok-write_events.ensures.wrote)
+    form_then before middle after (bytes_of tree_bytes after_event start events)
+    (flat_map part_html (end_parts (state_after after_event start events).before ++ section_end)) c.end-2.result
+    (subst (λ text. WroteAll before middle text)
+    (λ i. bytes_of tree_bytes after_event (start_is i) (events_are i)) c.in_ok-write_events.ensures.wrote)
     (subst (λ (walk : Walk). FormWrites middle after (flat_map part_html (end_parts walk.before ++ section_end)) c.end-2.result)
     (c.into_form.ensures ∙ c.in_ok-write_events.ensures.state ∙ (λ i. state_after after_event (start_is i) (events_are i))) c.end-2.ensures)

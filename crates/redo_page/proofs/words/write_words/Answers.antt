@@ -11,4 +11,5 @@ loop-word-preserved g c =
     let i = c.loop-word.word-index in
     let before = c.args.page.now in
     wrote_as g.W.Sink.written before c.write_word.new.page _ _ (sym (one_by_one (take (i + 1) words)))
-    (wrote_next parts_of_word words i (Number 0) c.loop-word-test.true (wrote_as g.W.Sink.written before c.loop-word.page _ _ (one_by_one (take i words)) c.loop-word.invariant) c.write_word.ensures)
+    (wrote_next parts_of_word words i (Number 0) c.loop-word-test.true
+    (wrote_as g.W.Sink.written before c.loop-word.page _ _ (one_by_one (take i words)) c.loop-word.invariant) c.write_word.ensures)

@@ -10,4 +10,5 @@ returns-in-Ok c =
     ∙ looked_up (listed_targets c.args.index.now) c.args.argument.now c.in-Ok.name c.in-Ok.ensures.ok
 
 pub returns-in-Err-Empty : goal.returns-in-Err-Empty
-returns-in-Err-Empty c = empty_names_none (listed_targets c.args.index.now) c.args.argument.now (c.in-Err-Empty.ensures.empty.0 (ap Err c.in-Err-Empty.field-0-is))
+returns-in-Err-Empty c = empty_names_none (listed_targets c.args.index.now) c.args.argument.now
+    (c.in-Err-Empty.ensures.empty.0 (ap Err c.in-Err-Empty.field-0-is))

@@ -5,7 +5,8 @@ use Rattle.redo_run.proofs.running.gather_listed.Goals as goal
 
 pub gather-requires-clause-flags : goal.gather-requires-clause-flags
 gather-requires-clause-flags g c κs within =
-    ap length c.in_ok-flags.ensures ∙ length-map c.args.index.now (λ (entry : IndexEntry). entry.must_close) ∙ sym (length-map c.args.index.now (λ (entry : IndexEntry). entry.target))
+    ap length c.in_ok-flags.ensures ∙ length-map c.args.index.now (λ (entry : IndexEntry). entry.must_close)
+    ∙ sym (length-map c.args.index.now (λ (entry : IndexEntry). entry.target))
     ∙ sym (ap length c.in_ok-names.ensures.names)
 
 pub returns-clause-gathered : goal.returns-clause-gathered

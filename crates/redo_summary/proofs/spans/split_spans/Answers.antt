@@ -16,13 +16,19 @@ loop-position-preserved c =
     let recipes = c.loop-position.recipes.items in
     elim c.match-span.branch [
       | in-Some+in_ok-push-in-Some w ↦
-          split_as targets _ _ _ _ _ (ap (λ (v : Vec Span). v.items) w.callers-is ∙ w.in_ok-push-in-Some.ensures.items) (ap (λ (v : Vec Span). v.items) w.recipes-is)
-          (split_caller targets i no_target callers recipes c.loop-position-test.true c.loop-position.invariant marked c.in_ok-ran_others.ensures.marked w.in-Some.span w.in-Some.ensures
-          (sym w.if-index.true ∙ get_or_read marked i w.index.result.now (let same = c.in_ok-ran_others.ensures.length in omega (arith, same)) w.index.ensures false))
+          split_as targets _ _ _ _ _ (ap (λ (v : Vec Span). v.items) w.callers-is ∙ w.in_ok-push-in-Some.ensures.items)
+          (ap (λ (v : Vec Span). v.items) w.recipes-is)
+          (split_caller targets i no_target callers recipes c.loop-position-test.true c.loop-position.invariant marked
+          c.in_ok-ran_others.ensures.marked w.in-Some.span w.in-Some.ensures
+          (sym w.if-index.true ∙ get_or_read marked i w.index.result.now
+          (let same = c.in_ok-ran_others.ensures.length in omega (arith, same)) w.index.ensures false))
       | in-Some-2+in_ok-push-in-Some-2 w ↦
-          split_as targets _ _ _ _ _ (ap (λ (v : Vec Span). v.items) w.callers-is) (ap (λ (v : Vec Span). v.items) w.recipes-is ∙ w.in_ok-push-in-Some-2.ensures.items)
-          (split_recipe targets i no_target callers recipes c.loop-position-test.true c.loop-position.invariant marked c.in_ok-ran_others.ensures.marked w.in-Some.span w.in-Some.ensures
-          (sym w.if-index.false ∙ get_or_read marked i w.index.result.now (let same = c.in_ok-ran_others.ensures.length in omega (arith, same)) w.index.ensures false))
+          split_as targets _ _ _ _ _ (ap (λ (v : Vec Span). v.items) w.callers-is)
+          (ap (λ (v : Vec Span). v.items) w.recipes-is ∙ w.in_ok-push-in-Some-2.ensures.items)
+          (split_recipe targets i no_target callers recipes c.loop-position-test.true c.loop-position.invariant marked
+          c.in_ok-ran_others.ensures.marked w.in-Some.span w.in-Some.ensures
+          (sym w.if-index.false ∙ get_or_read marked i w.index.result.now
+          (let same = c.in_ok-ran_others.ensures.length in omega (arith, same)) w.index.ensures false))
       | in-None w ↦
           split_as targets _ _ _ _ _ (ap (λ (v : Vec Span). v.items) w.callers-is) (ap (λ (v : Vec Span). v.items) w.recipes-is)
           (split_nothing targets i no_target callers recipes c.loop-position-test.true c.loop-position.invariant w.in-None.ensures)

@@ -13,4 +13,5 @@ loop-position-preserved c =
     ∙ targets_more c.args.times.now c.args.nodes.now c.loop-position.position no_node c.loop-position-test.true
 
 pub returns-clause-positioned : goal.returns-clause-positioned
-returns-clause-positioned c = subst ArePositioned (sym c.loop-position.invariant) (positioned (take c.loop-position.position c.args.nodes.now) c.args.times.now)
+returns-clause-positioned c = subst ArePositioned (sym c.loop-position.invariant)
+    (positioned (take c.loop-position.position c.args.nodes.now) c.args.times.now)

@@ -5,7 +5,8 @@ use Rattle.std.proofs.lemmas.Option.{slice_get_within, get_or_from_slice_get}
 use Rattle.redo_test_support.proofs.targets.names_of.Goals as goal
 
 -- The names of the first targets, followed by the copy of the next one, are the names of one target more.
-one_more : (targets names after : List (List ℕ)) (i : ℕ) (target name : List ℕ) → names ≡ take i targets → slice_get targets i ≡ Some target → name ≡ target → after ≡ names ++ name ∷ [] → after ≡ take (i + 1) targets
+one_more : (targets names after : List (List ℕ)) (i : ℕ) (target name : List ℕ) → names ≡ take i targets → slice_get targets i ≡ Some target
+    → name ≡ target → after ≡ names ++ name ∷ [] → after ≡ take (i + 1) targets
 one_more targets names after i target name names_are next same pushed =
     let read : target ≡ get_or targets i target = sym (get_or_from_slice_get targets i target target next) in
     pushed

@@ -6,7 +6,8 @@ use Rattle.redo_timeline.proofs.LaneLemmas.{no_span}
 use Rattle.redo_timeline.proofs.bars.add_bars.Goals as goal
 
 pub loop-span-init : goal.loop-span-init
-loop-span-init c = drafted_first c.args.window c.args.lane c.args.bars.now.items c.args.spans.now c.in-Some.first.now c.in-Some.rest.now c.new-draft.result c.in-Some.ensures.cases.0 c.new-draft.ensures
+loop-span-init c = drafted_first c.args.window c.args.lane c.args.bars.now.items c.args.spans.now c.in-Some.first.now c.in-Some.rest.now
+    c.new-draft.result c.in-Some.ensures.cases.0 c.new-draft.ensures
 
 pub loop-span-preserved : goal.loop-span-preserved
 loop-span-preserved c =
@@ -20,10 +21,15 @@ loop-span-preserved c =
     let span = get_or rest i no_span in
     elim c.if-joins.branch [
       | then-joins w ↦
-          drafted_is window c.args.lane old all (drop (i + 1) rest) bars c.if-joins.bars.items (joined_draft span draft) c.if-joins.draft (ap (λ bars. bars.items) w.bars-is) (w.draft-is ∙ w.join.ensures)
-          (drafted_joined window c.args.lane old all rest i no_span bars draft c.loop-span-test.true (sym c.joins.ensures ∙ w.if-joins.true) c.loop-span.invariant)
+          drafted_is window c.args.lane old all (drop (i + 1) rest) bars c.if-joins.bars.items (joined_draft span draft) c.if-joins.draft
+          (ap (λ bars. bars.items) w.bars-is) (w.draft-is ∙ w.join.ensures)
+          (drafted_joined window c.args.lane old all rest i no_span bars draft c.loop-span-test.true
+          (sym c.joins.ensures ∙ w.if-joins.true) c.loop-span.invariant)
       | else-joins+in_ok-push w ↦
-          drafted_is window c.args.lane old all (drop (i + 1) rest) (bars ++ drawn_draft window c.args.lane draft ∷ []) c.if-joins.bars.items (draft_of window (span ∷ [])) c.if-joins.draft
-          (ap (λ bars. bars.items) w.bars-is ∙ w.in_ok-push.ensures.items ∙ ap (λ bar. bars ++ bar ∷ []) w.bar.ensures) (w.draft-is ∙ w.new-draft-else-joins.ensures)
-          (drafted_next window c.args.lane old all rest i no_span bars draft c.loop-span-test.true (sym c.joins.ensures ∙ w.if-joins.false) c.loop-span.invariant)
+          drafted_is window c.args.lane old all (drop (i + 1) rest)
+          (bars ++ drawn_draft window c.args.lane draft ∷ []) c.if-joins.bars.items (draft_of window (span ∷ [])) c.if-joins.draft
+          (ap (λ bars. bars.items) w.bars-is ∙ w.in_ok-push.ensures.items ∙ ap (λ bar. bars ++ bar ∷ []) w.bar.ensures)
+          (w.draft-is ∙ w.new-draft-else-joins.ensures)
+          (drafted_next window c.args.lane old all rest i no_span bars draft c.loop-span-test.true
+          (sym c.joins.ensures ∙ w.if-joins.false) c.loop-span.invariant)
     ]

@@ -9,8 +9,10 @@ use Rattle.redo_timeline.proofs.parallelism.most_at_once.Goals as goal
 pub overflow_sub-running : goal.overflow_sub-running
 overflow_sub-running c =
     let running =
-    (running_is _ c.args.spans.now c.in_ok-begins.field-0.items c.in_order-begins.result.items c.deref.result.now c.in_ok-ends.field-0.items c.in_order-ends.result.items c.deref-in-loop-span.result.now c.count_until.result c.count_until-in-loop-span.result
-    c.in_ok-begins.ensures c.in_order-begins.ensures c.deref.ensures.value c.count_until.ensures c.in_ok-ends.ensures c.in_order-ends.ensures c.deref-in-loop-span.ensures.value c.count_until-in-loop-span.ensures) in
+    (running_is _ c.args.spans.now c.in_ok-begins.field-0.items c.in_order-begins.result.items c.deref.result.now c.in_ok-ends.field-0.items
+    c.in_order-ends.result.items c.deref-in-loop-span.result.now c.count_until.result c.count_until-in-loop-span.result
+    c.in_ok-begins.ensures c.in_order-begins.ensures c.deref.ensures.value c.count_until.ensures c.in_ok-ends.ensures
+    c.in_order-ends.ensures c.deref-in-loop-span.ensures.value c.count_until-in-loop-span.ensures) in
     omega (arith, running)
 
 pub loop-span-preserved : goal.loop-span-preserved
@@ -18,8 +20,10 @@ loop-span-preserved c =
     let spans = c.args.spans.now in
     let span = get_or spans c.loop-span.span-index no_span in
     let running : c.count_until.result ≡ c.count_until-in-loop-span.result + count_by (runs_at span.began) spans =
-    running_is _ c.args.spans.now c.in_ok-begins.field-0.items c.in_order-begins.result.items c.deref.result.now c.in_ok-ends.field-0.items c.in_order-ends.result.items c.deref-in-loop-span.result.now c.count_until.result c.count_until-in-loop-span.result
-    c.in_ok-begins.ensures c.in_order-begins.ensures c.deref.ensures.value c.count_until.ensures c.in_ok-ends.ensures c.in_order-ends.ensures c.deref-in-loop-span.ensures.value c.count_until-in-loop-span.ensures in
+    running_is _ c.args.spans.now c.in_ok-begins.field-0.items c.in_order-begins.result.items c.deref.result.now c.in_ok-ends.field-0.items
+    c.in_order-ends.result.items c.deref-in-loop-span.result.now c.count_until.result c.count_until-in-loop-span.result
+    c.in_ok-begins.ensures c.in_order-begins.ensures c.deref.ensures.value c.count_until.ensures c.in_ok-ends.ensures
+    c.in_order-ends.ensures c.deref-in-loop-span.ensures.value c.count_until-in-loop-span.ensures in
     let count : c.if-span.count ≡ count_at spans span =
     elim c.if-span.branch [
       | then-span w ↦ let others = counts_others spans span w.if-span.true in let is = w.count-is in omega (arith, running, others, is)

@@ -28,13 +28,17 @@ lines-preserved c =
       range = omega (arith, kept.range, found.0.high, ap length hay, length-drop upto bytes);
       no_rest = next_rest bytes _ upto hay kept.no_rest at found;
       count = c.add_line.auto.tallies ∙ kept.count;
-      tallies = λ reports are. next_lines bytes _ upto hay kept.no_rest at found (listed_targets c.args.index.now) c.args.log.now reports c.add_line.new.tallies _ line_is (c.in_ok-add_line.ensures (reports ++ reports_in c.args.log.now (ended (take upto bytes))) (kept.tallies reports are));
+      tallies = λ reports are. next_lines bytes _ upto hay kept.no_rest at found
+          (listed_targets c.args.index.now) c.args.log.now reports c.add_line.new.tallies _ line_is
+          (c.in_ok-add_line.ensures (reports ++ reports_in c.args.log.now (ended (take upto bytes))) (kept.tallies reports are));
     }
 
 pub returns-clause-rest : goal.returns-clause-rest
-returns-clause-rest c = last_rest c.args.bytes.now _ c.lines.upto (left_is c.args.bytes.now c.lines.upto) c.lines.invariant.no_rest c.in_default.ensures
+returns-clause-rest c = last_rest c.args.bytes.now _ c.lines.upto
+    (left_is c.args.bytes.now c.lines.upto) c.lines.invariant.no_rest c.in_default.ensures
 
 pub returns-clause-tallies : goal.returns-clause-tallies
 returns-clause-tallies c reports are =
-    all_lines_after c.args.bytes.now _ c.lines.upto (left_is c.args.bytes.now c.lines.upto) c.lines.invariant.no_rest c.in_default.ensures (listed_targets c.args.index.now) c.args.log.now reports c.lines.tallies
+    all_lines_after c.args.bytes.now _ c.lines.upto (left_is c.args.bytes.now c.lines.upto) c.lines.invariant.no_rest c.in_default.ensures
+    (listed_targets c.args.index.now) c.args.log.now reports c.lines.tallies
     (c.lines.invariant.tallies reports are)

@@ -11,7 +11,8 @@ invariant-lines l = record {
   range : l.upto ≤ length l.bytes;
   no_rest : rest (take l.upto l.bytes) ≡ [];
   count : length l.tallies ≡ length l.initial.tallies;
-  tallies : (reports : List Report) → AreTallies (listed_targets l.index) reports l.initial.tallies → AreTalliesAfter (listed_targets l.index) l.log reports (take l.upto l.bytes) l.tallies;
+  tallies : (reports : List Report) → AreTallies (listed_targets l.index) reports l.initial.tallies
+      → AreTalliesAfter (listed_targets l.index) l.log reports (take l.upto l.bytes) l.tallies;
 }
 
 abbrev pub decreases-lines : goal.decreases-lines

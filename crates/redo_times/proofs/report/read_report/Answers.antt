@@ -15,5 +15,6 @@ returns-in_default-2 c =
 
 pub returns : goal.returns
 returns c =
-    is_report c.args.log.now c.args.line.now _ _ _ c.in-Some.ensures.some c.in-Some-time_value.time (Some (c.in-Some-2.stage, c.in-Some-2.target)) c.in-Some-time_value.ensures
+    is_report c.args.log.now c.args.line.now _ _ _ c.in-Some.ensures.some c.in-Some-time_value.time
+    (Some (c.in-Some-2.stage, c.in-Some-2.target)) c.in-Some-time_value.ensures
     (λ pid. sym c.in-Some-2.is ∙ c.in_ok-stage.ensures pid)

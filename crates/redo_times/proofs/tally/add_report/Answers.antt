@@ -7,9 +7,11 @@ pub returns-in-Some : goal.returns-in-Some
 returns-in-Some c reports are =
     let report = c.args.report in
     rw c.add.ensures
-    (found report.stage report.target report.time reports (listed_targets c.args.index.now) c.args.tallies.now are c.in-Some.i _ (sym c.in-Some.ensures) c.requires.index.names_differ)
+    (found report.stage report.target report.time reports (listed_targets c.args.index.now) c.args.tallies.now are c.in-Some.i _
+    (sym c.in-Some.ensures) c.requires.index.names_differ)
 
 pub returns : goal.returns
 returns c reports are =
     let report = c.args.report in
-    missing report.stage report.target report.time reports (listed_targets c.args.index.now) c.args.tallies.now are (sym c.in_default.ensures)
+    missing report.stage report.target report.time reports (listed_targets c.args.index.now) c.args.tallies.now are
+    (sym c.in_default.ensures)

@@ -10,7 +10,8 @@ pub loop-reader-init : goal.loop-reader-init
 loop-reader-init g c =
     let index = c.args.index.now in record {
       room = c.requires.room;
-      count = ap length c.requires.begins ∙ length-map (listed_targets index) (tally_of []) ∙ length-map index (λ (entry : IndexEntry). entry.target);
+      count = ap length c.requires.begins ∙ length-map (listed_targets index) (tally_of [])
+          ∙ length-map index (λ (entry : IndexEntry). entry.target);
       readers = c.into_iter-reader-iterator.ensures.into_iter_gives.0;
       number = refl;
       tallies = none_read c.args.max_bytes (listed_targets index) c.args.tallies.now c.requires.begins;
@@ -23,15 +24,21 @@ loop-reader-preserved g c =
     let reader = c.in-Some.reader in record {
       room = omega (arith, kept.room, c.add_stream.auto.chunk);
       count = c.add_stream.auto.tallies ∙ kept.count;
-      readers = append_assoc yielded (reader ∷ []) c.next.new.self.rest.items ∙ ap (λ rest. yielded ++ rest) (sym c.in-Some.ensures.steps.0) ∙ kept.readers;
+      readers = append_assoc yielded (reader ∷ []) c.next.new.self.rest.items ∙ ap (λ rest. yielded ++ rest) (sym c.in-Some.ensures.steps.0)
+          ∙ kept.readers;
       number = omega (arith, kept.number, length-append yielded (reader ∷ []));
       tallies =
-          one_more_read g.R.Feed.contents c.args.max_bytes (listed_targets c.args.index.now) yielded reader c.loop-reader.i c.name-log.result.now c.loop-reader.tallies c.add_stream.new.tallies kept.number c.name-log.ensures
+          one_more_read g.R.Feed.contents c.args.max_bytes
+          (listed_targets c.args.index.now) yielded reader c.loop-reader.i c.name-log.result.now c.loop-reader.tallies
+          c.add_stream.new.tallies kept.number c.name-log.ensures
           kept.tallies c.in_ok-add_stream.ensures.tallies;
     }
 
 pub returns : goal.returns
 returns g c =
     let kept = c.loop-reader.invariant in
-    let none : length c.loop-reader.reader-iterator.rest.items ≡ 0 = omega (arith, c.in-None.ensures.steps.0, c.loop-reader.reader-iterator.rest.ok) in
-    all_read g.R.Feed.contents c.args.max_bytes (listed_targets c.args.index.now) c.loop-reader.yielded c.args.readers.items c.loop-reader.reader-iterator.rest.items c.loop-reader.tallies kept.readers none kept.tallies
+    let none : length c.loop-reader.reader-iterator.rest.items ≡ 0 =
+    omega (arith, c.in-None.ensures.steps.0, c.loop-reader.reader-iterator.rest.ok) in
+    all_read g.R.Feed.contents c.args.max_bytes
+    (listed_targets c.args.index.now) c.loop-reader.yielded c.args.readers.items c.loop-reader.reader-iterator.rest.items
+    c.loop-reader.tallies kept.readers none kept.tallies

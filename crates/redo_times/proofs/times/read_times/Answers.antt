@@ -11,9 +11,11 @@ pub returns-clause-times : goal.returns-clause-times
 returns-clause-times g c =
     let targets = listed_targets c.args.index.now in
     let known = map g.R.Feed.contents c.args.readers.items in
-    subst (λ (times : List Times). AreTimesOfReaders c.args.max_bytes targets known times) (sym (c.in_ok-times.ensures ∙ ap (map times_from) c.deref.ensures.value))
+    subst (λ (times : List Times). AreTimesOfReaders c.args.max_bytes targets known times)
+    (sym (c.in_ok-times.ensures ∙ ap (map times_from) c.deref.ensures.value))
     (times_of_tallies c.args.max_bytes targets known c.in_ok-tallies.tallies.items c.in_ok-tallies.ensures)
 
 pub returns-clause-in_range : goal.returns-clause-in_range
 returns-clause-in_range g c =
-    all-in-range c.args.max_bytes (listed_targets c.args.index.now) (map g.R.Feed.contents c.args.readers.items) c.in_ok-times.times.items (returns-clause-times g c)
+    all-in-range c.args.max_bytes (listed_targets c.args.index.now) (map g.R.Feed.contents c.args.readers.items) c.in_ok-times.times.items
+    (returns-clause-times g c)

@@ -11,4 +11,5 @@ pub returns-clause-takes : goal.returns-clause-takes
 returns-clause-takes c = lawful_takes
 
 pub returns-clause-schedules : goal.returns-clause-schedules
-returns-clause-schedules c capacity senders first states opens = lawful_schedule capacity senders first states (lawful_opens capacity senders first opens)
+returns-clause-schedules c capacity senders first states opens =
+    lawful_schedule capacity senders first states (lawful_opens capacity senders first opens)

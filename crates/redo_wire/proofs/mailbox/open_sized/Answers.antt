@@ -11,18 +11,23 @@ another-idle-requires-clause-rule g c = sizes_at _ _ _ _ c.in_ok-sender.ensures.
 
 pub another-requires-clause-rule : goal.another-requires-clause-rule
 another-requires-clause-rule g c =
-    let below : c.loop-number.number < g.S.Size.senders = omega (arith, c.loop-number-test.true, c.requires.senders, c.loop-number.auto.number-end) in
+    let below : c.loop-number.number < g.S.Size.senders =
+    omega (arith, c.loop-number-test.true, c.requires.senders, c.loop-number.auto.number-end) in
     ends_at _ _ _ _ _ c.loop-number.invariant.view_is below
 
 pub loop-number-preserved : goal.loop-number-preserved
 loop-number-preserved g c =
-    subst (AreMade c.in_ok-sender.sender c.in_ok-sender.receiver g.S.Size.capacity g.S.Size.senders (c.loop-number.number + 1) c.another.new.pass) (sym c.in_ok-push.ensures.items)
-    (one_made _ _ _ _ _ _ _ c.another.result _ c.loop-number.invariant c.another.ensures.channel.0 c.another.ensures.channel.2 c.another.ensures.rule.0 c.another.ensures.rule.1)
+    subst (AreMade c.in_ok-sender.sender c.in_ok-sender.receiver g.S.Size.capacity g.S.Size.senders
+    (c.loop-number.number + 1) c.another.new.pass) (sym c.in_ok-push.ensures.items)
+    (one_made _ _ _ _ _ _ _ c.another.result _ c.loop-number.invariant c.another.ensures.channel.0 c.another.ensures.channel.2
+    c.another.ensures.rule.0 c.another.ensures.rule.1)
 
 pub invariant_of-result : goal.invariant_of-result
 invariant_of-result g c =
-    let all : c.loop-number.number ≡ g.S.Size.senders = omega (arith, c.loop-number-test.false, c.requires.senders, c.loop-number.auto.number-end) in
-    all_collect _ _ _ _ _ _ _ all c.loop-number.invariant _ (c.in_ok-met.ensures.items_if_clones_equal (λ x is. is) ∙ ap (λ n. replicate n false) c.requires.senders)
+    let all : c.loop-number.number ≡ g.S.Size.senders =
+    omega (arith, c.loop-number-test.false, c.requires.senders, c.loop-number.auto.number-end) in
+    all_collect _ _ _ _ _ _ _ all c.loop-number.invariant _
+    (c.in_ok-met.ensures.items_if_clones_equal (λ x is. is) ∙ ap (λ n. replicate n false) c.requires.senders)
 
 pub loop-number-init : goal.loop-number-init
 loop-number-init g c = search rules

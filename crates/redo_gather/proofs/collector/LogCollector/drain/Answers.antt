@@ -16,7 +16,8 @@ loop-preserved g c =
       ap (λ (m : TakeEndState). m.mailbox) is ∙ kept.3,
       ap (λ (m : TakeEndState). m.met) is ∙ kept.4,
       λ names holds.
-          subst (λ items. StoresAllTaken names items c.store_and_notify.new.self.table c.store_and_notify.new.self.out_of_memory) (sym (ap (λ (m : TakeEndState). m.taken) is))
+          subst (λ items. StoresAllTaken names items c.store_and_notify.new.self.table c.store_and_notify.new.self.out_of_memory)
+          (sym (ap (λ (m : TakeEndState). m.taken) is))
           (c.store_and_notify.ensures.holds names c.loop.self.take_end.taken (kept.5 names holds)),
     )
 

@@ -9,4 +9,5 @@ invariant-loop g l =
     (goal.iterator-loop g).can_next l.iterator' × (goal.iterator-loop g).is_finite l.iterator'
     × AreAllMet l.self.take_end
     × (l.self.take_end.mailbox ≡ l.initial.self.take_end.mailbox) × (l.self.take_end.met ≡ l.initial.self.take_end.met)
-    × ((names : List (List ℕ)) → StoresAllTaken names l.initial.self.take_end.taken l.initial.self.table l.initial.self.out_of_memory → StoresAllTaken names l.self.take_end.taken l.self.table l.self.out_of_memory)
+    × ((names : List (List ℕ)) → StoresAllTaken names l.initial.self.take_end.taken l.initial.self.table l.initial.self.out_of_memory
+    → StoresAllTaken names l.self.take_end.taken l.self.table l.self.out_of_memory)

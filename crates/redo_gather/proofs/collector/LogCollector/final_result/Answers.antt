@@ -26,10 +26,12 @@ returns-in-Some-clause-gathered c max_bytes names known taken =
     let settled = settled_table max_bytes names known c.args.self.now taken c.if-self.false in
     let found = sym c.first_fault.ensures ∙ c.in-Some.is in
     let count = ap length (settled-targets max_bytes names known table taken.expected.count settled) in
-    let within : number < length names = omega (arith, failed-within table number fault found, count, length-map table (λ (log : Log). log.target)) in record {
+    let within : number < length names =
+    omega (arith, failed-within table number fault found, count, length-map table (λ (log : Log). log.target)) in record {
       logs = tt;
       targets = tt;
       ended = tt;
-      fault = of_stream (List Log) number fault (IsLowestFault max_bytes names known) (λ other. settled-fault max_bytes names known table taken.expected.count settled number fault found) c.of.result c.of.ensures;
+      fault = of_stream (List Log) number fault (IsLowestFault max_bytes names known)
+          (λ other. settled-fault max_bytes names known table taken.expected.count settled number fault found) c.of.result c.of.ensures;
       number = of_stream (List Log) number fault (λ number fault. number < length names) (λ other. within) c.of.result c.of.ensures;
     }

@@ -8,8 +8,10 @@ use Rattle.redo_gather.proofs.collector.LogCollector.finish.Goals as goal
 
 pub returns : goal.returns
 returns g c = record {
-  gathered = λ max_bytes names known taken. subst (IsGathered max_bytes names known) (sym c.and.ensures) (c.finish_table.ensures.gathered max_bytes names known taken);
+  gathered = λ max_bytes names known taken.
+      subst (IsGathered max_bytes names known) (sym c.and.ensures) (c.finish_table.ensures.gathered max_bytes names known taken);
   never_out_of_memory =
       subst (λ result. IfStreamFault {A = List Log} result (λ number fault. fault ≢ OutOfMemory)) (sym c.and.ensures)
-      (fault_of_and (Unit {0}) (List Log) (λ number fault. fault ≢ OutOfMemory) c.finish_table.result c.finish_table.new.self.table c.finish_table.ensures.never_out_of_memory);
+      (fault_of_and (Unit {0}) (List Log)
+      (λ number fault. fault ≢ OutOfMemory) c.finish_table.result c.finish_table.new.self.table c.finish_table.ensures.never_out_of_memory);
 }

@@ -17,8 +17,10 @@ returns-clause-gathered g c max_bytes names known expected =
         count = expected.count;
         some = subst (λ (m : Mailbox). 0 < m.senders) (sym stays.0) expected.some;
         expected =
-            subst (λ (m : Mailbox). AllByRecursion (PostedExpected max_bytes m.senders (sources names known)) c.drain.new.self.take_end.met) (sym stays.0)
-            (subst (AllByRecursion (PostedExpected max_bytes c.args.self.now.take_end.mailbox.senders (sources names known))) (sym stays.1) expected.expected);
+            subst (λ (m : Mailbox). AllByRecursion (PostedExpected max_bytes m.senders (sources names known)) c.drain.new.self.take_end.met)
+            (sym stays.0)
+            (subst (AllByRecursion (PostedExpected max_bytes c.args.self.now.take_end.mailbox.senders (sources names known)))
+            (sym stays.1) expected.expected);
         holds = c.drain.ensures.holds names expected.holds;
       };
       met = c.drain.ensures.met;

@@ -10,7 +10,8 @@ loop-preserved g c =
       search rules,
       search rules,
       search rules,
-      λ names holds. subst (λ items. StoresAllTaken names items c.store_and_notify.new.self.table c.store_and_notify.new.self.out_of_memory) (sym taken) (c.store_and_notify.ensures.holds names c.loop.self.take_end.taken (c.loop.invariant.4 names holds)),
+      λ names holds. subst (λ items. StoresAllTaken names items c.store_and_notify.new.self.table c.store_and_notify.new.self.out_of_memory)
+          (sym taken) (c.store_and_notify.ensures.holds names c.loop.self.take_end.taken (c.loop.invariant.4 names holds)),
     )
 
 pub returns-in_default-clause-holds : goal.returns-in_default-clause-holds

@@ -15,7 +15,8 @@ lines-preserved c =
       range.1,
       λ read.
           let was = c.lines.invariant.1 read in (
-            took_to c.args.scan.now c.args.chunk.now c.lines.scan c.lines.offset was.0 c.step_into.new.self c.in-Some.end_offset forward found.taken,
+            took_to c.args.scan.now c.args.chunk.now c.lines.scan c.lines.offset was.0 c.step_into.new.self c.in-Some.end_offset forward
+                found.taken,
             lines_read c.lines.scan c.step_into.new.self _ _ _ _ c.lines.self c.step_into.new.entries found was.1 found.put,
           ),
     )
@@ -33,7 +34,8 @@ returns-in_err-end_offset-clause-taken c before earlier taken read =
       read = tt;
       refused =
           subst (λ es. IsRefused c.args.scan.now c.args.chunk.now es c.in_err-end_offset.field-0.0) (sym known.unchanged_on_err)
-          (refused_after c.args.scan.now c.args.chunk.now c.lines.scan c.lines.offset was.0 c.lines.self was.1 c.in_err-end_offset.field-0.0 (known.fault was.1.fault_free.not_failed));
+          (refused_after c.args.scan.now c.args.chunk.now c.lines.scan c.lines.offset was.0 c.lines.self was.1 c.in_err-end_offset.field-0.0
+          (known.fault was.1.fault_free.not_failed));
     })
 
 pub returns-clause-taken : goal.returns-clause-taken

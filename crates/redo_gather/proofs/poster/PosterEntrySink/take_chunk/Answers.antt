@@ -20,7 +20,8 @@ batches-preserved g c =
       kept.1,
       (
         entries,
-        entries_posted c.args.self.now.stream c.batches.self.stream c.args.self.now.end c.batches.self.end c.post_batch.new.end so_far.0 batch kept.1 so_far.1 c.in_ok-post_batch.ensures.posted,
+        entries_posted c.args.self.now.stream c.batches.self.stream c.args.self.now.end c.batches.self.end c.post_batch.new.end so_far.0
+            batch kept.1 so_far.1 c.in_ok-post_batch.ensures.posted,
         λ earlier read.
             let now = c.in_ok-end_offset.ensures.read c.args.scan.now (earlier ++ so_far.0) (so_far.2 earlier read) in
             (now.0, subst (IsRead c.read_batch-outcome.new.scan) (append_assoc earlier so_far.0 batch) now.1),
@@ -38,8 +39,10 @@ returns-in_err-end_offset-clause-taken g c before earlier taken read =
       entries = earlier ++ (so_far.0 ++ batch);
       taken = (
         kept.1 ∙ taken.0,
-        entries_posted before.stream c.args.self.now.stream before.end c.args.self.now.end c.post_batch.new.end earlier (so_far.0 ++ batch) taken.0 taken.1
-            (entries_posted c.args.self.now.stream c.batches.self.stream c.args.self.now.end c.batches.self.end c.post_batch.new.end so_far.0 batch kept.1 so_far.1 c.in_ok-post_batch.ensures.posted),
+        entries_posted before.stream c.args.self.now.stream before.end c.args.self.now.end c.post_batch.new.end earlier
+            (so_far.0 ++ batch) taken.0 taken.1
+            (entries_posted c.args.self.now.stream c.batches.self.stream c.args.self.now.end c.batches.self.end c.post_batch.new.end
+            so_far.0 batch kept.1 so_far.1 c.in_ok-post_batch.ensures.posted),
       );
       consumed = tt;
       read = tt;
@@ -59,7 +62,8 @@ returns-in_err-batch-clause-taken g c before earlier taken read =
       entries = earlier ++ so_far.0;
       taken = (
         kept.1 ∙ taken.0,
-        entries_posted before.stream c.args.self.now.stream before.end c.args.self.now.end c.batches.self.end earlier so_far.0 taken.0 taken.1 so_far.1,
+        entries_posted before.stream c.args.self.now.stream before.end c.args.self.now.end c.batches.self.end earlier so_far.0 taken.0
+            taken.1 so_far.1,
       );
       consumed = tt;
       read = tt;
@@ -77,8 +81,10 @@ returns-in_err-post_batch-clause-taken g c before earlier taken read =
       entries = earlier ++ so_far.0;
       taken = (
         kept.1 ∙ taken.0,
-        subst (λ end. HasPosted before.end end (map (entry_item before.end.number before.stream) (earlier ++ so_far.0))) (sym c.in_err-post_batch.ensures.unchanged_on_err)
-            (entries_posted before.stream c.args.self.now.stream before.end c.args.self.now.end c.batches.self.end earlier so_far.0 taken.0 taken.1 so_far.1),
+        subst (λ end. HasPosted before.end end (map (entry_item before.end.number before.stream) (earlier ++ so_far.0)))
+            (sym c.in_err-post_batch.ensures.unchanged_on_err)
+            (entries_posted before.stream c.args.self.now.stream before.end c.args.self.now.end c.batches.self.end earlier so_far.0 taken.0
+            taken.1 so_far.1),
       );
       consumed = tt;
       read = tt;
@@ -95,7 +101,8 @@ returns-clause-taken g c before earlier taken read =
       entries = earlier ++ so_far.0;
       taken = (
         kept.1 ∙ taken.0,
-        entries_posted before.stream c.args.self.now.stream before.end c.args.self.now.end c.batches.self.end earlier so_far.0 taken.0 taken.1 so_far.1,
+        entries_posted before.stream c.args.self.now.stream before.end c.args.self.now.end c.batches.self.end earlier so_far.0 taken.0
+            taken.1 so_far.1,
       );
       consumed = now.0 ∙ ap (λ p. consume p c.args.scan.now) (ap (λ n. take n c.args.chunk.now) all ∙ take-length c.args.chunk.now);
       read = now.1;

@@ -10,7 +10,8 @@ abbrev pub invariant-batches : goal.invariant-batches
 invariant-batches g l =
     (l.offset ≤ length l.chunk)
     × (l.self.stream ≡ l.initial.self.stream)
-    × ((entries : List Entry) × HasPosted l.initial.self.end l.self.end (map (entry_item l.initial.self.end.number l.initial.self.stream) entries)
+    × ((entries : List Entry) × HasPosted l.initial.self.end l.self.end
+    (map (entry_item l.initial.self.end.number l.initial.self.stream) entries)
     × ((earlier : List Entry) → IsRead l.initial.scan earlier → IsReadTo l.initial.scan l.chunk l.offset l.scan (earlier ++ entries)))
 
 abbrev pub decreases-batches : goal.decreases-batches

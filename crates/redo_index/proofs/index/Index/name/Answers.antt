@@ -15,5 +15,6 @@ unreachable-requires c =
 pub returns : goal.returns
 returns c =
     let entries = c.self.inside.targets.entries in
-    ap (λ names. slice_get names c.args.i) (index_facts _ _ c.self.view_is c.self.invariant).names_are ∙ slice_get-map (λ entry. entry.0) entries c.args.i
+    ap (λ names. slice_get names c.args.i) (index_facts _ _ c.self.view_is c.self.invariant).names_are
+    ∙ slice_get-map (λ entry. entry.0) entries c.args.i
     ∙ ap (option_map (λ (entry : List ℕ × TargetLog). entry.0)) (sym (rw c.in-Some.is at c.get_index.ensures.entry))

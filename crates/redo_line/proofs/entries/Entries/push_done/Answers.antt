@@ -6,13 +6,15 @@ use Rattle.redo_line.proofs.entries.Entries.push_done.Goals as goal
 
 pub invariant_of-self-in_err-push : goal.invariant_of-self-in_err-push
 invariant_of-self-in_err-push c =
-    same_counted c.args.self.now c.self.inside.bytes.items c.self.inside.names.items c.self.inside.places.items c.self.inside.count c.self.view_is c.self.invariant _ _ _
+    same_counted c.args.self.now c.self.inside.bytes.items c.self.inside.names.items c.self.inside.places.items c.self.inside.count
+    c.self.view_is c.self.invariant _ _ _
     (front_same _ _ refl) (front_put _ c.args.name.now _ c.in_ok-start.ensures.put) c.in_err-push.ensures.items
 
 pub returns-in_err-push-clause-unchanged_on_err : goal.returns-in_err-push-clause-unchanged_on_err
 returns-in_err-push-clause-unchanged_on_err c =
     MatchResult-from_err c.from_residual-in_err-push.result _ _ c.from_residual-in_err-push.ensures.0
-    (λ fault. same_seen c.args.self.now c.self.inside.bytes.items c.self.inside.names.items c.self.inside.places.items c.self.inside.count c.self.view_is c.self.invariant _ _ _
+    (λ fault. same_seen c.args.self.now c.self.inside.bytes.items c.self.inside.names.items c.self.inside.places.items c.self.inside.count
+    c.self.view_is c.self.invariant _ _ _
     (front_same _ _ refl) (front_put _ c.args.name.now _ c.in_ok-start.ensures.put) c.in_err-push.ensures.items)
 
 pub invariant_of-self-2 : goal.invariant_of-self-2
@@ -20,8 +22,10 @@ invariant_of-self-2 c =
     let start = c.in_ok-start.ensures in
     let name = range_put _ c.args.name.now _ start.put _ _ start.start start.end in
     let status : to_z w32 (of_z w32 c.args.status) ≡ c.args.status = search rules in
-    more_counted c.args.self.now c.self.inside.bytes.items c.self.inside.names.items c.self.inside.places.items c.self.inside.count c.self.view_is c.self.invariant _ _ _
-    (front_same _ _ refl) (front_put _ c.args.name.now _ start.put) _ (entry.Done c.args.pid c.args.status c.args.name.now ∷ []) c.in_ok-push.ensures.items
+    more_counted c.args.self.now c.self.inside.bytes.items c.self.inside.names.items c.self.inside.places.items c.self.inside.count
+    c.self.view_is c.self.invariant _ _ _
+    (front_same _ _ refl) (front_put _ c.args.name.now _ start.put) _
+    (entry.Done c.args.pid c.args.status c.args.name.now ∷ []) c.in_ok-push.ensures.items
     (λ i. entry.Done c.args.pid (status i) (name i) ∷ [])
     (name_within _ c.args.name.now _ start.put _ _ start.start start.end c.requires) _ refl (omega arith)
 
@@ -30,6 +34,8 @@ returns-clause-pushed c =
     let start = c.in_ok-start.ensures in
     let name = range_put _ c.args.name.now _ start.put _ _ start.start start.end in
     let status : to_z w32 (of_z w32 c.args.status) ≡ c.args.status = search rules in
-    more_are_seen c.args.self.now c.self.inside.bytes.items c.self.inside.names.items c.self.inside.places.items c.self.inside.count c.self.view_is c.self.invariant _ _ _
-    (front_same _ _ refl) (front_put _ c.args.name.now _ start.put) _ (entry.Done c.args.pid c.args.status c.args.name.now ∷ []) c.in_ok-push.ensures.items
+    more_are_seen c.args.self.now c.self.inside.bytes.items c.self.inside.names.items c.self.inside.places.items c.self.inside.count
+    c.self.view_is c.self.invariant _ _ _
+    (front_same _ _ refl) (front_put _ c.args.name.now _ start.put) _
+    (entry.Done c.args.pid c.args.status c.args.name.now ∷ []) c.in_ok-push.ensures.items
     (λ i. entry.Done c.args.pid (status i) (name i) ∷ [])

@@ -8,13 +8,15 @@ use Rattle.redo_line.proofs.entries.Entries.push_lines.Goals as goal
 
 pub invariant_of-self-in_err-push : goal.invariant_of-self-in_err-push
 invariant_of-self-in_err-push c =
-    same_counted c.args.self.now c.self.inside.bytes.items c.self.inside.names.items c.self.inside.places.items c.self.inside.count c.self.view_is c.self.invariant _ _ _
+    same_counted c.args.self.now c.self.inside.bytes.items c.self.inside.names.items c.self.inside.places.items c.self.inside.count
+    c.self.view_is c.self.invariant _ _ _
     (front_put _ c.args.lines.now _ c.in_ok-start.ensures.put) (front_same _ _ refl) c.in_err-push.ensures.items
 
 pub returns-in_err-push-clause-unchanged_on_err : goal.returns-in_err-push-clause-unchanged_on_err
 returns-in_err-push-clause-unchanged_on_err c =
     MatchResult-from_err c.from_residual-in_err-push.result _ _ c.from_residual-in_err-push.ensures.0
-    (λ fault. same_seen c.args.self.now c.self.inside.bytes.items c.self.inside.names.items c.self.inside.places.items c.self.inside.count c.self.view_is c.self.invariant _ _ _
+    (λ fault. same_seen c.args.self.now c.self.inside.bytes.items c.self.inside.names.items c.self.inside.places.items c.self.inside.count
+    c.self.view_is c.self.invariant _ _ _
     (front_put _ c.args.lines.now _ c.in_ok-start.ensures.put) (front_same _ _ refl) c.in_err-push.ensures.items)
 
 pub invariant_of-self-2 : goal.invariant_of-self-2
@@ -22,7 +24,8 @@ invariant_of-self-2 c =
     let put = c.in_ok-start.ensures in
     let lines = c.args.lines.now in
     let count : length (map Text (ended lines)) ≡ c.args.count = length-map (ended lines) Text ∙ c.requires.count_is in
-    more_counted c.args.self.now c.self.inside.bytes.items c.self.inside.names.items c.self.inside.places.items c.self.inside.count c.self.view_is c.self.invariant _ _ _
+    more_counted c.args.self.now c.self.inside.bytes.items c.self.inside.names.items c.self.inside.places.items c.self.inside.count
+    c.self.view_is c.self.invariant _ _ _
     (front_put _ lines _ put.put) (front_same _ _ refl) _ (map Text (ended lines)) c.in_ok-push.ensures.items
     (texts_are _ lines _ put.put _ _ c.args.count put.start put.end c.requires)
     (texts_within _ lines _ put.put _ _ c.args.count put.start put.end c.requires) _ (ap (λ n. c.self.inside.count + n) (sym count))
@@ -32,6 +35,7 @@ pub returns-clause-pushed : goal.returns-clause-pushed
 returns-clause-pushed c =
     let put = c.in_ok-start.ensures in
     let lines = c.args.lines.now in
-    more_are_seen c.args.self.now c.self.inside.bytes.items c.self.inside.names.items c.self.inside.places.items c.self.inside.count c.self.view_is c.self.invariant _ _ _
+    more_are_seen c.args.self.now c.self.inside.bytes.items c.self.inside.names.items c.self.inside.places.items c.self.inside.count
+    c.self.view_is c.self.invariant _ _ _
     (front_put _ lines _ put.put) (front_same _ _ refl) _ (map Text (ended lines)) c.in_ok-push.ensures.items
     (texts_are _ lines _ put.put _ _ c.args.count put.start put.end c.requires)

@@ -5,7 +5,8 @@ use Rattle.redo_line.proofs.CutLemmas.{holds_none, line_in, no_feed, none_in}
 use Rattle.redo_line.proofs.partial_line.PartialLine.next_line.Goals as goal
 
 pub returns-in_ok-line-in-Some-clause-line : goal.returns-in_ok-line-in-Some-clause-line
-returns-in_ok-line-in-Some-clause-line c = line_in c.args.self.now _ c.args.chunk.now c.in-Some.at c.in-Some.ensures c.in_ok-line-in-Some.ensures.line
+returns-in_ok-line-in-Some-clause-line c =
+    line_in c.args.self.now _ c.args.chunk.now c.in-Some.at c.in-Some.ensures c.in_ok-line-in-Some.ensures.line
 
 pub returns-in_ok-extend_from_slice-in-None-clause-found : goal.returns-in_ok-extend_from_slice-in-None-clause-found
 returns-in_ok-extend_from_slice-in-None-clause-found c = (λ is. cc, λ there. absurd (no_feed c.args.chunk.now c.in-None.ensures there))

@@ -25,9 +25,18 @@ at_most old new chunk from most first all result some one = record {
   max_bytes = one.max_bytes;
 }
   where
-    by : (before : List ℕ) (result : Result (Option ℕ) StreamFault) → IfOk result (λ found. IfSome found (λ end_offset. FindsEntries old new before (slice_range chunk from end_offset) 1 first all))
+    by : (before : List ℕ) (result : Result (Option ℕ) StreamFault)
+        → IfOk result (λ found. IfSome found (λ end_offset. FindsEntries old new before (slice_range chunk from end_offset) 1 first all))
         → IfOk result (λ found. IfSome found (λ end_offset. FindsEntries old new before (slice_range chunk from end_offset) most first all))
-    by before (Ok (Some end_offset)) found = record { more = found.more; finds = found.finds; some = found.some; few = let few = found.few in omega (arith, few, some); put = found.put }
+    by before (Ok (Some end_offset)) found =
+        record {
+          more = found.more;
+          finds = found.finds;
+          some = found.some;
+          few = let few = found.few in
+              omega (arith, few, some);
+          put = found.put;
+        }
     by before (Ok None) found = tt
     by before (Err fault) found = tt
 
@@ -47,7 +56,9 @@ returns-in_err-push_lines c =
       entries_unchanged = tt;
       fault = λ before after. inl refl;
       immediate = λ fault first.
-          absurd (none-some fault (sym (texts_at_once c.args.self.now _ c.self.view_is c.requires.after.0 c.requires.after.1 c.args.chunk.now _ c.args.from (take_rest c.args.chunk.now c.args.from) c.leading_text_lines-length.result.0 c.leading_text_lines-length.result.1
+          absurd (none-some fault (sym (texts_at_once c.args.self.now _ c.self.view_is c.requires.after.0 c.requires.after.1
+          c.args.chunk.now _ c.args.from (take_rest c.args.chunk.now c.args.from) c.leading_text_lines-length.result.0
+          c.leading_text_lines-length.result.1
           told.lines told.range told.in_limit some (told.no_partial_line some) (told.not_closed some)) ∙ first));
       unchanged_on_err = c.in_err-push_lines.ensures.unchanged_on_err;
       target = search rules;
@@ -56,22 +67,26 @@ returns-in_err-push_lines c =
 
 pub overflow_add-self-2 : goal.overflow_add-self-2
 overflow_add-self-2 c =
-    next_lines_fit c.args.self.now _ c.self.view_is c.requires.after.0 c.requires.after.1 c.requires.limit c.leading_text_lines-length.result.1 (omega (arith, c.leading_text_lines-length.ensures.most, c.ranges.most.fits))
+    next_lines_fit c.args.self.now _ c.self.view_is c.requires.after.0 c.requires.after.1 c.requires.limit
+    c.leading_text_lines-length.result.1 (omega (arith, c.leading_text_lines-length.ensures.most, c.ranges.most.fits))
 
 pub returns : goal.returns
 returns c =
     let told = c.leading_text_lines-length.ensures in
     let some : 0 < c.leading_text_lines-length.result.1 = let none = c.if-count-eq0.false in omega (arith, none) in
-    let bytes = texts_bytes c.args.self.now _ c.self.view_is c.requires.after.0 c.requires.after.1 c.args.chunk.now _ c.args.from (take_rest c.args.chunk.now c.args.from) c.leading_text_lines-length.result.0 c.leading_text_lines-length.result.1
+    let bytes = texts_bytes c.args.self.now _ c.self.view_is c.requires.after.0 c.requires.after.1 c.args.chunk.now _ c.args.from
+    (take_rest c.args.chunk.now c.args.from) c.leading_text_lines-length.result.0 c.leading_text_lines-length.result.1
     told.lines told.range told.in_limit some (told.no_partial_line some) (told.not_closed some) in
     record {
       range = (omega (arith, bytes), let within = told.range in omega (arith, within, c.requires.from));
       found = λ before after.
-          let count = texts_count c.args.self.now _ c.self.view_is before after c.args.chunk.now _ c.args.from (take_rest c.args.chunk.now c.args.from) c.leading_text_lines-length.result.0 c.leading_text_lines-length.result.1
+          let count = texts_count c.args.self.now _ c.self.view_is before after c.args.chunk.now _ c.args.from
+          (take_rest c.args.chunk.now c.args.from) c.leading_text_lines-length.result.0 c.leading_text_lines-length.result.1
           told.lines told.range told.in_limit some (told.no_partial_line some) (told.not_closed some) in
           record {
             more = _;
-            finds = texts_found c.args.self.now _ c.self.view_is before after c.args.chunk.now _ c.args.from (take_rest c.args.chunk.now c.args.from) c.leading_text_lines-length.result.0 c.leading_text_lines-length.result.1
+            finds = texts_found c.args.self.now _ c.self.view_is before after c.args.chunk.now _ c.args.from
+                (take_rest c.args.chunk.now c.args.from) c.leading_text_lines-length.result.0 c.leading_text_lines-length.result.1
                 told.lines told.range told.in_limit some (told.no_partial_line some) (told.not_closed some);
             some = omega (arith, count, some);
             few = omega (arith, count, told.most);
@@ -81,7 +96,9 @@ returns c =
       entries_unchanged = tt;
       fault = λ before after. tt;
       immediate = λ fault first.
-          absurd (none-some fault (sym (texts_at_once c.args.self.now _ c.self.view_is c.requires.after.0 c.requires.after.1 c.args.chunk.now _ c.args.from (take_rest c.args.chunk.now c.args.from) c.leading_text_lines-length.result.0 c.leading_text_lines-length.result.1
+          absurd (none-some fault (sym (texts_at_once c.args.self.now _ c.self.view_is c.requires.after.0 c.requires.after.1
+          c.args.chunk.now _ c.args.from (take_rest c.args.chunk.now c.args.from) c.leading_text_lines-length.result.0
+          c.leading_text_lines-length.result.1
           told.lines told.range told.in_limit some (told.no_partial_line some) (told.not_closed some)) ∙ first));
       unchanged_on_err = tt;
       target = search rules;

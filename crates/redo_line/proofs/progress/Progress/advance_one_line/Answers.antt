@@ -11,17 +11,21 @@ use Rattle.redo_line.proofs.ScanSteps.{no_entry, refuses_first, refuses_bad, lin
 use Rattle.redo_line.proofs.progress.Progress.advance_one_line.Goals as goal
 
 pub first_byte_fault-requires-clause-lines : goal.first_byte_fault-requires-clause-lines
-first_byte_fault-requires-clause-lines c = (next_lines_fit c.args.self.now _ refl c.requires.after.0 c.requires.after.1 c.requires.limit 1 (omega arith)).fits
+first_byte_fault-requires-clause-lines c =
+    (next_lines_fit c.args.self.now _ refl c.requires.after.0 c.requires.after.1 c.requires.limit 1 (omega arith)).fits
 
 pub overflow_add-number : goal.overflow_add-number
-overflow_add-number c = next_lines_fit c.args.self.now _ c.self.view_is c.requires.after.0 c.requires.after.1 c.requires.limit 1 (omega arith)
+overflow_add-number c = next_lines_fit c.args.self.now _ c.self.view_is c.requires.after.0 c.requires.after.1 c.requires.limit 1
+    (omega arith)
 
 -- If the first byte of `left` has no fault by its position, the same byte of the chunk has none either.
-none_at_once : (self : Progress) (chunk : List ℕ) (from : ℕ) (fault : StreamFault) → first_byte_fault self (take (length chunk - from) (drop from chunk)) ≡ None → first_byte_fault self (drop from chunk) ≡ Some fault → ⊥
+none_at_once : (self : Progress) (chunk : List ℕ) (from : ℕ) (fault : StreamFault)
+    → first_byte_fault self (take (length chunk - from) (drop from chunk)) ≡ None → first_byte_fault self (drop from chunk) ≡ Some fault → ⊥
 none_at_once self chunk from fault none first = none-some fault (sym none ∙ ap (first_byte_fault self) (take_rest chunk from) ∙ first)
 
 -- An offset in the allowed bytes, counted from the start of the chunk.
-in_chunk : (chunk allowed : List ℕ) (from upto room : ℕ) → allowed ≡ take room (take (length chunk - from) (drop from chunk)) → (0 < upto) × (upto ≤ length allowed)
+in_chunk : (chunk allowed : List ℕ) (from upto room : ℕ) → allowed ≡ take room (take (length chunk - from) (drop from chunk))
+    → (0 < upto) × (upto ≤ length allowed)
     → (from < from + upto) × (from + upto ≤ length chunk)
 in_chunk chunk allowed from upto room is range =
     let size = ap length is ∙ length-take room (take (length chunk - from) (drop from chunk)) in
@@ -39,7 +43,8 @@ returns-in-Some c =
       rest_consumed = λ before after. tt;
       entries_unchanged = tt;
       fault = λ before after.
-          inr (refuses_first c.args.self.now _ c.self.view_is before after c.args.chunk.now _ _ c.args.from (take_rest c.args.chunk.now c.args.from) refl c.in-Some.fault
+          inr (refuses_first c.args.self.now _ c.self.view_is before after c.args.chunk.now _ _ c.args.from
+          (take_rest c.args.chunk.now c.args.from) refl c.in-Some.fault
           (sym c.first_byte_fault.ensures ∙ c.in-Some.is));
       immediate = λ fault first. search rules;
       unchanged_on_err = refl;
@@ -57,7 +62,8 @@ returns-in_err-line c =
       rest_consumed = λ before after. tt;
       entries_unchanged = tt;
       fault = λ before after. inl refl;
-      immediate = λ fault first. absurd (none_at_once c.args.self.now c.args.chunk.now c.args.from fault (sym c.first_byte_fault.ensures ∙ c.in_default.is) first);
+      immediate = λ fault first. absurd (none_at_once c.args.self.now c.args.chunk.now c.args.from fault
+          (sym c.first_byte_fault.ensures ∙ c.in_default.is) first);
       unchanged_on_err = refl;
       target = search rules;
       max_bytes = search rules;
@@ -67,7 +73,8 @@ pub returns-in_err-self-inside-in-Some-2 : goal.returns-in_err-self-inside-in-So
 returns-in_err-self-inside-in-Some-2 c =
     let allowed = c.limit_to-allowed.result.now in
     let rejected = c.in_err-self-inside-in-Some-2.field-0.0 in
-    let given = err_from_is_err_and c.from_residual-in_err-self-inside-in-Some-2.result c.from_residual-in_err-self-inside-in-Some-2.ensures.1 in
+    let given = err_from_is_err_and c.from_residual-in_err-self-inside-in-Some-2.result
+    c.from_residual-in_err-self-inside-in-Some-2.ensures.1 in
     rw (given.1, given.2)
     (record {
       range = tt;
@@ -75,10 +82,14 @@ returns-in_err-self-inside-in-Some-2 c =
       rest_consumed = λ before after. tt;
       entries_unchanged = tt;
       fault = λ before after.
-          no_entry rejected (c.self.inside.lines + 1) _ (FailsWith c.args.self.now before (drop c.args.from c.args.chunk.now)) c.in_err-self-inside-in-Some-2.ensures.fault
-          (refuses_bad c.args.self.now _ c.self.view_is before after c.args.chunk.now _ allowed c.args.from (take_rest c.args.chunk.now c.args.from) c.limit_to-allowed.ensures
-          (sym c.first_byte_fault.ensures ∙ c.in_default.is) (line_bytes c.in-Some-2.line) c.in-Some-2.upto (rw c.in-Some-2.is at c.in_ok-line.ensures.range) (rw c.in-Some-2.is at c.in_ok-line.ensures.line));
-      immediate = λ fault first. absurd (none_at_once c.args.self.now c.args.chunk.now c.args.from fault (sym c.first_byte_fault.ensures ∙ c.in_default.is) first);
+          no_entry rejected (c.self.inside.lines + 1) _
+          (FailsWith c.args.self.now before (drop c.args.from c.args.chunk.now)) c.in_err-self-inside-in-Some-2.ensures.fault
+          (refuses_bad c.args.self.now _ c.self.view_is before after c.args.chunk.now _ allowed c.args.from
+          (take_rest c.args.chunk.now c.args.from) c.limit_to-allowed.ensures
+          (sym c.first_byte_fault.ensures ∙ c.in_default.is) (line_bytes c.in-Some-2.line) c.in-Some-2.upto
+          (rw c.in-Some-2.is at c.in_ok-line.ensures.range) (rw c.in-Some-2.is at c.in_ok-line.ensures.line));
+      immediate = λ fault first. absurd (none_at_once c.args.self.now c.args.chunk.now c.args.from fault
+          (sym c.first_byte_fault.ensures ∙ c.in_default.is) first);
       unchanged_on_err = c.in_err-self-inside-in-Some-2.ensures.unchanged_on_err;
       target = search rules;
       max_bytes = search rules;
@@ -89,12 +100,16 @@ returns-in_ok-self-inside-in-Some-2 c =
     let allowed = c.limit_to-allowed.result.now in
     let put = c.in_ok-self-inside-in-Some-2.ensures.put in
     record {
-      range = in_chunk c.args.chunk.now allowed c.args.from c.in-Some-2.upto _ c.limit_to-allowed.ensures (rw c.in-Some-2.is at c.in_ok-line.ensures.range);
+      range = in_chunk c.args.chunk.now allowed c.args.from c.in-Some-2.upto _ c.limit_to-allowed.ensures
+          (rw c.in-Some-2.is at c.in_ok-line.ensures.range);
       found = λ before after. record {
         more = put.entry ∷ [];
-        finds = line_found c.args.self.now _ c.self.view_is before after c.args.chunk.now _ allowed c.args.from (take_rest c.args.chunk.now c.args.from) c.limit_to-allowed.ensures
-            (sym c.first_byte_fault.ensures ∙ c.in_default.is) (line_bytes c.in-Some-2.line) c.in-Some-2.upto (rw c.in-Some-2.is at c.in_ok-line.ensures.range) (rw c.in-Some-2.is at c.in_ok-line.ensures.line)
-            put.entry c.next_line.new.self c.in_ok-self-inside-in-Some-2.field-0 put.is (rw c.in-Some-2.is at c.in_ok-line.ensures.line_kept) put.closing_is;
+        finds = line_found c.args.self.now _ c.self.view_is before after c.args.chunk.now _ allowed c.args.from
+            (take_rest c.args.chunk.now c.args.from) c.limit_to-allowed.ensures
+            (sym c.first_byte_fault.ensures ∙ c.in_default.is) (line_bytes c.in-Some-2.line) c.in-Some-2.upto
+            (rw c.in-Some-2.is at c.in_ok-line.ensures.range) (rw c.in-Some-2.is at c.in_ok-line.ensures.line)
+            put.entry c.next_line.new.self c.in_ok-self-inside-in-Some-2.field-0 put.is
+            (rw c.in-Some-2.is at c.in_ok-line.ensures.line_kept) put.closing_is;
         some = omega arith;
         few = omega arith;
         put = put.put;
@@ -102,7 +117,8 @@ returns-in_ok-self-inside-in-Some-2 c =
       rest_consumed = λ before after. tt;
       entries_unchanged = tt;
       fault = λ before after. tt;
-      immediate = λ fault first. absurd (none_at_once c.args.self.now c.args.chunk.now c.args.from fault (sym c.first_byte_fault.ensures ∙ c.in_default.is) first);
+      immediate = λ fault first. absurd (none_at_once c.args.self.now c.args.chunk.now c.args.from fault
+          (sym c.first_byte_fault.ensures ∙ c.in_default.is) first);
       unchanged_on_err = tt;
       target = search rules;
       max_bytes = search rules;
@@ -117,9 +133,12 @@ returns-then-allowed-left c =
       rest_consumed = λ before after. tt;
       entries_unchanged = tt;
       fault = λ before after.
-          inr (refuses_long c.args.self.now _ c.self.view_is before after c.args.chunk.now _ allowed c.args.from (take_rest c.args.chunk.now c.args.from) c.limit_to-allowed.ensures
-          (sym c.first_byte_fault.ensures ∙ c.in_default.is) c.next_line.new.self (rw c.in-None.is at c.in_ok-line.ensures.rest_consumed) c.if-allowed-left.true);
-      immediate = λ fault first. absurd (none_at_once c.args.self.now c.args.chunk.now c.args.from fault (sym c.first_byte_fault.ensures ∙ c.in_default.is) first);
+          inr (refuses_long c.args.self.now _ c.self.view_is before after c.args.chunk.now _ allowed c.args.from
+          (take_rest c.args.chunk.now c.args.from) c.limit_to-allowed.ensures
+          (sym c.first_byte_fault.ensures ∙ c.in_default.is) c.next_line.new.self
+          (rw c.in-None.is at c.in_ok-line.ensures.rest_consumed) c.if-allowed-left.true);
+      immediate = λ fault first. absurd (none_at_once c.args.self.now c.args.chunk.now c.args.from fault
+          (sym c.first_byte_fault.ensures ∙ c.in_default.is) first);
       unchanged_on_err = refl;
       target = search rules;
       max_bytes = search rules;
@@ -132,11 +151,14 @@ returns-else-allowed-left c =
       range = tt;
       found = λ before after. tt;
       rest_consumed = λ before after.
-          all_taken c.args.self.now _ c.self.view_is before after c.args.chunk.now _ allowed c.args.from (take_rest c.args.chunk.now c.args.from) c.limit_to-allowed.ensures
-          (sym c.first_byte_fault.ensures ∙ c.in_default.is) c.next_line.new.self (rw c.in-None.is at c.in_ok-line.ensures.rest_consumed) c.if-allowed-left.false;
+          all_taken c.args.self.now _ c.self.view_is before after c.args.chunk.now _ allowed c.args.from
+          (take_rest c.args.chunk.now c.args.from) c.limit_to-allowed.ensures
+          (sym c.first_byte_fault.ensures ∙ c.in_default.is) c.next_line.new.self
+          (rw c.in-None.is at c.in_ok-line.ensures.rest_consumed) c.if-allowed-left.false;
       entries_unchanged = refl;
       fault = λ before after. tt;
-      immediate = λ fault first. absurd (none_at_once c.args.self.now c.args.chunk.now c.args.from fault (sym c.first_byte_fault.ensures ∙ c.in_default.is) first);
+      immediate = λ fault first. absurd (none_at_once c.args.self.now c.args.chunk.now c.args.from fault
+          (sym c.first_byte_fault.ensures ∙ c.in_default.is) first);
       unchanged_on_err = tt;
       target = search rules;
       max_bytes = search rules;

@@ -28,9 +28,11 @@ invariant_of-self-in_err-push c =
     let old = c.index_mut.result.now in
     let new : Stored = record { name = old.name; records = c.push.new.self; state = old.state } in
     let below = has_state _ _ _ c.args.stream Running c.self.view_is c.requires.running in
-    changed_stored c.store.new.self c.self.inside.logs.items c.self.inside.log_of_name.items c.args.stream old new (λ log. log) (λ log. refl)
+    changed_stored c.store.new.self c.self.inside.logs.items c.self.inside.log_of_name.items c.args.stream old new (λ log. log)
+    (λ log. refl)
     (slice_get_read _ _ c.args.stream _ refl below c.index_mut.ensures.value)
-    (same_log _ old new refl c.in_err-push.ensures.unchanged_on_err refl) (same_log_within _ old new refl c.in_err-push.ensures.unchanged_on_err)
+    (same_log _ old new refl c.in_err-push.ensures.unchanged_on_err refl)
+    (same_log_within _ old new refl c.in_err-push.ensures.unchanged_on_err)
     (grown_stored _ _ c.in_ok-record.ensures.extends _ _ c.self.invariant)
 
 pub returns-in_err-push-clause-unchanged_on_err : goal.returns-in_err-push-clause-unchanged_on_err
@@ -39,7 +41,9 @@ returns-in_err-push-clause-unchanged_on_err c =
     let new : Stored = record { name = old.name; records = c.push.new.self; state = old.state } in
     let below = has_state _ _ _ c.args.stream Running c.self.view_is c.requires.running in
     MatchResult-from_err c.from_residual-in_err-push.result _ _ c.from_residual-in_err-push.ensures.0
-    (λ fault. written c.store.new.self c.self.inside.logs.items c.args.stream old new (λ log. log) (slice_get_read _ _ c.args.stream _ refl below c.index_mut.ensures.value) (same_log _ old new refl c.in_err-push.ensures.unchanged_on_err refl)
+    (λ fault. written c.store.new.self c.self.inside.logs.items c.args.stream old new (λ log. log)
+    (slice_get_read _ _ c.args.stream _ refl below c.index_mut.ensures.value)
+    (same_log _ old new refl c.in_err-push.ensures.unchanged_on_err refl)
     ∙ update_log-none c.args.stream _ ∙ logs_grown _ _ c.in_ok-record.ensures.extends _ c.self.invariant.within ∙ c.self.view_is)
 
 pub invariant_of-self-2 : goal.invariant_of-self-2
@@ -47,9 +51,11 @@ invariant_of-self-2 c =
     let old = c.index_mut.result.now in
     let new : Stored = record { name = old.name; records = c.push.new.self; state = old.state } in
     let below = has_state _ _ _ c.args.stream Running c.self.view_is c.requires.running in
-    changed_stored c.store.new.self c.self.inside.logs.items c.self.inside.log_of_name.items c.args.stream old new (with_entry c.args.entry) (λ log. refl)
+    changed_stored c.store.new.self c.self.inside.logs.items c.self.inside.log_of_name.items c.args.stream old new (with_entry c.args.entry)
+    (λ log. refl)
     (slice_get_read _ _ c.args.stream _ refl below c.index_mut.ensures.value)
-    (entries_log _ old new refl (c.in_ok-record.record ∷ []) c.in_ok-push.ensures.pushed (c.args.entry ∷ []) (append-nil (denotes c.store.new.self c.in_ok-record.record) ∙ c.in_ok-record.ensures.denotes) refl)
+    (entries_log _ old new refl (c.in_ok-record.record ∷ []) c.in_ok-push.ensures.pushed (c.args.entry ∷ [])
+    (append-nil (denotes c.store.new.self c.in_ok-record.record) ∙ c.in_ok-record.ensures.denotes) refl)
     (entries_log_within _ old new refl (c.in_ok-record.record ∷ []) c.in_ok-push.ensures.pushed (c.in_ok-record.ensures.within, tt))
     (grown_stored _ _ c.in_ok-record.ensures.extends _ _ c.self.invariant)
 
@@ -58,6 +64,9 @@ returns-clause-added c =
     let old = c.index_mut.result.now in
     let new : Stored = record { name = old.name; records = c.push.new.self; state = old.state } in
     let below = has_state _ _ _ c.args.stream Running c.self.view_is c.requires.running in
-    written c.store.new.self c.self.inside.logs.items c.args.stream old new (with_entry c.args.entry) (slice_get_read _ _ c.args.stream _ refl below c.index_mut.ensures.value)
-    (entries_log _ old new refl (c.in_ok-record.record ∷ []) c.in_ok-push.ensures.pushed (c.args.entry ∷ []) (append-nil (denotes c.store.new.self c.in_ok-record.record) ∙ c.in_ok-record.ensures.denotes) refl)
-    ∙ ap (update_log c.args.stream (with_entry c.args.entry)) (logs_grown _ _ c.in_ok-record.ensures.extends _ c.self.invariant.within ∙ c.self.view_is)
+    written c.store.new.self c.self.inside.logs.items c.args.stream old new (with_entry c.args.entry)
+    (slice_get_read _ _ c.args.stream _ refl below c.index_mut.ensures.value)
+    (entries_log _ old new refl (c.in_ok-record.record ∷ []) c.in_ok-push.ensures.pushed (c.args.entry ∷ [])
+    (append-nil (denotes c.store.new.self c.in_ok-record.record) ∙ c.in_ok-record.ensures.denotes) refl)
+    ∙ ap (update_log c.args.stream (with_entry c.args.entry))
+    (logs_grown _ _ c.in_ok-record.ensures.extends _ c.self.invariant.within ∙ c.self.view_is)

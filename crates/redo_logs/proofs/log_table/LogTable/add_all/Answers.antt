@@ -26,9 +26,11 @@ invariant_of-self-in_err-append c =
     let old = c.index_mut.result.now in
     let new : Stored = record { name = old.name; records = c.append.new.self; state = old.state } in
     let below = has_state _ _ _ c.args.stream Running c.self.view_is c.requires.running in
-    changed_stored c.store_all.new.self c.self.inside.logs.items c.self.inside.log_of_name.items c.args.stream old new (λ log. log) (λ log. refl)
+    changed_stored c.store_all.new.self c.self.inside.logs.items c.self.inside.log_of_name.items c.args.stream old new (λ log. log)
+    (λ log. refl)
     (slice_get_read _ _ c.args.stream _ refl below c.index_mut.ensures.value)
-    (same_log _ old new refl c.in_err-append.ensures.unchanged_on_err refl) (same_log_within _ old new refl c.in_err-append.ensures.unchanged_on_err)
+    (same_log _ old new refl c.in_err-append.ensures.unchanged_on_err refl)
+    (same_log_within _ old new refl c.in_err-append.ensures.unchanged_on_err)
     (grown_stored _ _ c.in_ok-records.ensures.extends _ _ c.self.invariant)
 
 pub returns-in_err-append-clause-unchanged_on_err : goal.returns-in_err-append-clause-unchanged_on_err
@@ -37,7 +39,9 @@ returns-in_err-append-clause-unchanged_on_err c =
     let new : Stored = record { name = old.name; records = c.append.new.self; state = old.state } in
     let below = has_state _ _ _ c.args.stream Running c.self.view_is c.requires.running in
     MatchResult-from_err c.from_residual-in_err-append.result _ _ c.from_residual-in_err-append.ensures.0
-    (λ fault. written c.store_all.new.self c.self.inside.logs.items c.args.stream old new (λ log. log) (slice_get_read _ _ c.args.stream _ refl below c.index_mut.ensures.value) (same_log _ old new refl c.in_err-append.ensures.unchanged_on_err refl)
+    (λ fault. written c.store_all.new.self c.self.inside.logs.items c.args.stream old new (λ log. log)
+    (slice_get_read _ _ c.args.stream _ refl below c.index_mut.ensures.value)
+    (same_log _ old new refl c.in_err-append.ensures.unchanged_on_err refl)
     ∙ update_log-none c.args.stream _ ∙ logs_grown _ _ c.in_ok-records.ensures.extends _ c.self.invariant.within ∙ c.self.view_is)
 
 pub invariant_of-self-2 : goal.invariant_of-self-2
@@ -45,10 +49,15 @@ invariant_of-self-2 c =
     let old = c.index_mut.result.now in
     let new : Stored = record { name = old.name; records = c.append.new.self; state = old.state } in
     let below = has_state _ _ _ c.args.stream Running c.self.view_is c.requires.running in
-    changed_stored c.store_all.new.self c.self.inside.logs.items c.self.inside.log_of_name.items c.args.stream old new (with_entries c.args.entries) (λ log. refl)
+    changed_stored c.store_all.new.self c.self.inside.logs.items c.self.inside.log_of_name.items c.args.stream old new
+    (with_entries c.args.entries) (λ log. refl)
     (slice_get_read _ _ c.args.stream _ refl below c.index_mut.ensures.value)
-    (entries_log _ old new refl c.in_ok-records.records.items (c.in_ok-append.ensures.appended ∙ ap (λ more. c.index_mut.result.now.records ++ more) c.deref.ensures.value) c.args.entries c.in_ok-records.ensures.denotes refl)
-    (entries_log_within _ old new refl c.in_ok-records.records.items (c.in_ok-append.ensures.appended ∙ ap (λ more. c.index_mut.result.now.records ++ more) c.deref.ensures.value) c.in_ok-records.ensures.within)
+    (entries_log _ old new refl c.in_ok-records.records.items
+    (c.in_ok-append.ensures.appended ∙ ap (λ more. c.index_mut.result.now.records ++ more) c.deref.ensures.value) c.args.entries
+    c.in_ok-records.ensures.denotes refl)
+    (entries_log_within _ old new refl c.in_ok-records.records.items
+    (c.in_ok-append.ensures.appended ∙ ap (λ more. c.index_mut.result.now.records ++ more) c.deref.ensures.value)
+    c.in_ok-records.ensures.within)
     (grown_stored _ _ c.in_ok-records.ensures.extends _ _ c.self.invariant)
 
 pub returns-clause-added : goal.returns-clause-added
@@ -56,6 +65,10 @@ returns-clause-added c =
     let old = c.index_mut.result.now in
     let new : Stored = record { name = old.name; records = c.append.new.self; state = old.state } in
     let below = has_state _ _ _ c.args.stream Running c.self.view_is c.requires.running in
-    written c.store_all.new.self c.self.inside.logs.items c.args.stream old new (with_entries c.args.entries) (slice_get_read _ _ c.args.stream _ refl below c.index_mut.ensures.value)
-    (entries_log _ old new refl c.in_ok-records.records.items (c.in_ok-append.ensures.appended ∙ ap (λ more. c.index_mut.result.now.records ++ more) c.deref.ensures.value) c.args.entries c.in_ok-records.ensures.denotes refl)
-    ∙ ap (update_log c.args.stream (with_entries c.args.entries)) (logs_grown _ _ c.in_ok-records.ensures.extends _ c.self.invariant.within ∙ c.self.view_is)
+    written c.store_all.new.self c.self.inside.logs.items c.args.stream old new (with_entries c.args.entries)
+    (slice_get_read _ _ c.args.stream _ refl below c.index_mut.ensures.value)
+    (entries_log _ old new refl c.in_ok-records.records.items
+    (c.in_ok-append.ensures.appended ∙ ap (λ more. c.index_mut.result.now.records ++ more) c.deref.ensures.value) c.args.entries
+    c.in_ok-records.ensures.denotes refl)
+    ∙ ap (update_log c.args.stream (with_entries c.args.entries))
+    (logs_grown _ _ c.in_ok-records.ensures.extends _ c.self.invariant.within ∙ c.self.view_is)

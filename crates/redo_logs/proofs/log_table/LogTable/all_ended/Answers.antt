@@ -9,5 +9,6 @@ use Rattle.redo_logs.proofs.log_table.LogTable.all_ended.Goals as goal
 
 pub returns : goal.returns
 returns c =
-    all_from_yields_List (λ (stored : Stored). ends stored.state) _ _ _ c.all.ensures.ran (YieldsList-from_slice c.self.inside.logs.items (c.iter.ensures.rest ∙ c.deref.ensures.value)) (λ x b q k. search (rules, tests))
+    all_from_yields_List (λ (stored : Stored). ends stored.state) _ _ _ c.all.ensures.ran
+    (YieldsList-from_slice c.self.inside.logs.items (c.iter.ensures.rest ∙ c.deref.ensures.value)) (λ x b q k. search (rules, tests))
     ∙ sym (all_stored _ c.self.inside.logs.items) ∙ ap (list_all has_ended) c.self.view_is

@@ -14,5 +14,6 @@ returns c =
     ap (λ table. slice_get (targets_of table) c.args.i) (sym c.self.view_is)
     ∙ slice_get-map (λ (log : Log). log.target) _ c.args.i
     ∙ ap (option_map (λ (log : Log). log.target)) (slice_get-map (log_of parts) logs c.args.i)
-    ∙ ap (λ log. option_map (λ (log : Log). log.target) (option_map (log_of parts) log)) (slice_get_read logs _ c.args.i _ refl below c.index.ensures)
+    ∙ ap (λ log. option_map (λ (log : Log). log.target) (option_map (log_of parts) log))
+    (slice_get_read logs _ c.args.i _ refl below c.index.ensures)
     ∙ ap Some c.name.ensures.is

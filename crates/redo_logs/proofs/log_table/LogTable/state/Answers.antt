@@ -11,7 +11,9 @@ use Rattle.redo_logs.proofs.log_table.LogTable.state.Goals as goal
 pub returns : goal.returns
 returns c =
     let logs = c.self.inside.logs.items in
-    let below : c.args.i < length logs = omega (arith, c.requires, ap length c.self.view_is, length-map logs (log_of c.self.inside.store)) in
-    ap (λ table. slice_get (states_of table) c.args.i) (sym c.self.view_is) ∙ ap (λ states. slice_get states c.args.i) (states_stored _ logs)
+    let below : c.args.i < length logs =
+    omega (arith, c.requires, ap length c.self.view_is, length-map logs (log_of c.self.inside.store)) in
+    ap (λ table. slice_get (states_of table) c.args.i) (sym c.self.view_is)
+    ∙ ap (λ states. slice_get states c.args.i) (states_stored _ logs)
     ∙ slice_get-map (λ (stored : Stored). stored.state) _ c.args.i
     ∙ ap (option_map (λ (stored : Stored). stored.state)) (slice_get_read logs _ c.args.i _ refl below c.index.ensures)

@@ -14,7 +14,8 @@ returns-in_err-one-clause-entry c =
     let parts = c.self.inside.store.now in
     let at = slice_get_read logs _ c.args.i _ refl (ltb-true _ _ (sym c.in_ok-log.ensures.lookup.0)) c.in_ok-log.ensures.lookup.1 in
     let within = (stored_at (IsLogWithin parts) logs c.args.i c.in_ok-log.log.now c.self.invariant.within at).records in
-    ap (option_map (numbered_value c.args.self.now.names)) c.from_residual-in_err-one.ensures ∙ sym (none_of parts logs c.args.i c.args.k c.in_ok-log.log.now at within c.in_err-one.ensures.none)
+    ap (option_map (numbered_value c.args.self.now.names)) c.from_residual-in_err-one.ensures
+    ∙ sym (none_of parts logs c.args.i c.args.k c.in_ok-log.log.now at within c.in_err-one.ensures.none)
     ∙ ap (λ (n : Numbering). entry_at c.args.i c.args.k n.logs) c.self.view_is
 
 pub load_numbered-requires-clause-within : goal.load_numbered-requires-clause-within
@@ -32,5 +33,6 @@ returns-clause-entry c =
     let at = slice_get_read logs _ c.args.i _ refl (ltb-true _ _ (sym c.in_ok-log.ensures.lookup.0)) c.in_ok-log.ensures.lookup.1 in
     let within = (stored_at (IsLogWithin parts) logs c.args.i c.in_ok-log.log.now c.self.invariant.within at).records in
     ap (λ (n : Numbering). Some (numbered_value n.names c.load_numbered.result)) (sym c.self.view_is)
-    ∙ sym (entry_found parts logs c.args.i c.args.k c.in_ok-log.log.now at c.in_ok-one.one c.in_ok-one.place within c.in_ok-one.ensures.found ∙ c.load_numbered.ensures.denotes)
+    ∙ sym (entry_found parts logs c.args.i c.args.k c.in_ok-log.log.now at c.in_ok-one.one c.in_ok-one.place within
+    c.in_ok-one.ensures.found ∙ c.load_numbered.ensures.denotes)
     ∙ ap (λ (n : Numbering). entry_at c.args.i c.args.k n.logs) c.self.view_is

@@ -14,5 +14,7 @@ returns-in_err-name c =
 
 pub returns : goal.returns
 returns c =
-    let named = found_name c.self.inside.store.now.names c.args.target.now c.in_ok-name.name (sym c.find.ensures ∙ c.branch-name.ensures ∙ ap continue_value c.in_ok-name.is) in
-    c.log_of.ensures ∙ ap (λ name. log_number name c.args.self.now.logs) (ap (λ (n : Numbering). name_at n.names c.in_ok-name.name) (sym c.self.view_is) ∙ named.is)
+    let named = found_name c.self.inside.store.now.names c.args.target.now c.in_ok-name.name
+    (sym c.find.ensures ∙ c.branch-name.ensures ∙ ap continue_value c.in_ok-name.is) in
+    c.log_of.ensures ∙ ap (λ name. log_number name c.args.self.now.logs)
+    (ap (λ (n : Numbering). name_at n.names c.in_ok-name.name) (sym c.self.view_is) ∙ named.is)

@@ -22,7 +22,8 @@ returns-in-Some-find-clause-lines c =
     let at = slice_get_read logs _ c.args.i _ refl (ltb-true _ _ (sym c.in-Some.ensures.lookup.0)) c.in-Some.ensures.lookup.1 in
     let within = (stored_at (IsLogWithin parts) logs c.args.i c.in-Some.log.now c.self.invariant.within at).records in
     subst (λ (n : Numbering). AreLinesAt n.logs c.args.i c.args.k c.lines.result.0.now c.lines.result.1) c.self.view_is
-    (lines_found parts logs c.args.i c.args.k c.in-Some.log.now c.in-Some-find.one c.in-Some-find.place _ _ at within c.in-Some-find.ensures.found c.lines.ensures.lines)
+    (lines_found parts logs c.args.i c.args.k c.in-Some.log.now c.in-Some-find.one c.in-Some-find.place _ _ at within
+    c.in-Some-find.ensures.found c.lines.ensures.lines)
 
 pub returns-in-Some-find-clause-nonempty : goal.returns-in-Some-find-clause-nonempty
 returns-in-Some-find-clause-nonempty c text =
@@ -30,7 +31,8 @@ returns-in-Some-find-clause-nonempty c text =
     let parts = c.self.inside.store.now in
     let at = slice_get_read logs _ c.args.i _ refl (ltb-true _ _ (sym c.in-Some.ensures.lookup.0)) c.in-Some.ensures.lookup.1 in
     let within = (stored_at (IsLogWithin parts) logs c.args.i c.in-Some.log.now c.self.invariant.within at).records in
-    c.lines.ensures.nonempty (text_found parts logs c.args.i c.args.k c.in-Some.log.now at c.in-Some-find.one c.in-Some-find.place within c.in-Some-find.ensures.found
+    c.lines.ensures.nonempty (text_found parts logs c.args.i c.args.k c.in-Some.log.now at c.in-Some-find.one c.in-Some-find.place within
+    c.in-Some-find.ensures.found
     (subst (λ (n : Numbering). HasText n.logs c.args.i c.args.k) (sym c.self.view_is) text))
 
 pub returns-in-None-clause-nonempty : goal.returns-in-None-clause-nonempty

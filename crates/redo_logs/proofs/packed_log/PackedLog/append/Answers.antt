@@ -26,11 +26,13 @@ pub loop-one-preserved : goal.loop-one-preserved
 loop-one-preserved c =
     let kept = c.loop-one.invariant in
     let records = c.args.records.now in (
-      one_appended _ _ _ records c.loop-one.one-index _ kept.0 c.in-Ok.ensures.pushed c.loop-one-test.true (get_or_default records c.loop-one.one-index _ _ c.loop-one-test.true),
+      one_appended _ _ _ records c.loop-one.one-index _ kept.0 c.in-Ok.ensures.pushed c.loop-one-test.true
+          (get_or_default records c.loop-one.one-index _ _ c.loop-one-test.true),
       kept.1,
       kept.2,
       kept.3,
     )
 
 pub returns-clause-appended : goal.returns-clause-appended
-returns-clause-appended c = c.loop-one.invariant.0 ∙ ap (λ more. c.args.self.now ++ more) (take_all c.loop-one.one-index c.args.records.now c.loop-one-test.false)
+returns-clause-appended c = c.loop-one.invariant.0
+    ∙ ap (λ more. c.args.self.now ++ more) (take_all c.loop-one.one-index c.args.records.now c.loop-one-test.false)

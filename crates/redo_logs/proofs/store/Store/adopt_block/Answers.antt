@@ -14,5 +14,6 @@ pub returns-clause-extends : goal.returns-clause-extends
 returns-clause-extends c =
     let taken = ap (map (λ block. block.items)) c.in_ok-push.ensures.items ∙ map_push (λ block. block.items) _ c.args.texts
     ∙ ap (λ (p : Parts). p.taken ++ c.args.texts.items ∷ []) c.self.view_is in
-    bytes_grow c.args.self.now _ (front_same _ _ (ap (λ (p : Parts). p.bytes) c.self.view_is)) (record { more = c.args.texts.items ∷ []; is = taken })
+    bytes_grow c.args.self.now _ (front_same _ _ (ap (λ (p : Parts). p.bytes) c.self.view_is))
+    (record { more = c.args.texts.items ∷ []; is = taken })
     (ap (λ (p : Parts). p.notes) c.self.view_is) (ap (λ (p : Parts). p.names) c.self.view_is)

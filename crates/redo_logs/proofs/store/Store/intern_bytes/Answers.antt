@@ -12,7 +12,8 @@ returns-in-Some-get_index_of-clause-extends c = subst (λ (new : Parts). Extends
 
 pub returns-in-Some-get_index_of-clause-is : goal.returns-in-Some-get_index_of-clause-is
 returns-in-Some-get_index_of-clause-is c =
-    found_name c.self.inside.names.keys c.args.name.now c.in-Some-get_index_of.number (sym c.get_index_of.ensures.index ∙ c.in-Some-get_index_of.is)
+    found_name c.self.inside.names.keys c.args.name.now c.in-Some-get_index_of.number
+    (sym c.get_index_of.ensures.index ∙ c.in-Some-get_index_of.is)
 
 pub returns-in_err-name-clause-extends : goal.returns-in_err-name-clause-extends
 returns-in_err-name-clause-extends c = grows_none _

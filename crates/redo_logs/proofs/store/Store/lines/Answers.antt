@@ -9,5 +9,6 @@ returns-in-Texts-clause-lines c =
     let self = c.args.self.now in
     let left = c.skip_lines.result.now in
     subst (λ one. AreLinesOf self one c.args.place left (c.in-Texts.lines - c.args.place)) (sym c.in-Texts.is)
-    (lines_shown self c.in-Texts.lines c.in-Texts.block c.in-Texts.start c.in-Texts.end c.args.place _ left (subst (Within self) c.in-Texts.is c.requires.within)
+    (lines_shown self c.in-Texts.lines c.in-Texts.block c.in-Texts.start c.in-Texts.end c.args.place _ left
+    (subst (Within self) c.in-Texts.is c.requires.within)
     (ap (λ bytes. slice_range bytes c.in-Texts.start c.in-Texts.end) c.block.ensures) c.skip_lines.ensures.lines c.skip_lines.ensures.last)

@@ -9,8 +9,10 @@ pub returns-in-Texts : goal.returns-in-Texts
 returns-in-Texts c =
     let self = c.args.self.now in
     ap (λ one. slice_get (denotes self one) c.args.place) c.in-Texts.is
-    ∙ text_shown self c.in-Texts.lines c.in-Texts.block c.in-Texts.start c.in-Texts.end c.args.place _ c.skip_lines.result.now (subst (Within self) c.in-Texts.is c.requires.within)
-    (ap (λ bytes. slice_range bytes c.in-Texts.start c.in-Texts.end) c.block.ensures) c.skip_lines.ensures.lines c.first_line.result.now c.first_line.ensures
+    ∙ text_shown self c.in-Texts.lines c.in-Texts.block c.in-Texts.start c.in-Texts.end c.args.place _ c.skip_lines.result.now
+    (subst (Within self) c.in-Texts.is c.requires.within)
+    (ap (λ bytes. slice_range bytes c.in-Texts.start c.in-Texts.end) c.block.ensures) c.skip_lines.ensures.lines c.first_line.result.now
+    c.first_line.ensures
 
 pub returns-in-Note : goal.returns-in-Note
 returns-in-Note c =
@@ -19,8 +21,12 @@ returns-in-Note c =
     let within = subst (Within self) c.in-Note.is c.requires.within in
     let notes = ap (λ (p : Parts). p.notes) c.self.view_is in
     let there : slice_get self.notes c.in-Note.note ≡ Some c.index.result.now =
-    note_there self self.notes c.in-Note.note c.index.result.now within (c.index.ensures ∙ ap (λ ns. get_or ns c.in-Note.note c.index.result.now) notes) in
+    note_there self self.notes c.in-Note.note c.index.result.now within
+    (c.index.ensures ∙ ap (λ ns. get_or ns c.in-Note.note c.index.result.now) notes) in
     let note : note_value self (slice_get self.notes c.in-Note.note) ≡ entry.Note c.index.result.now.pid
-    (slice_range c.block-bytes.result.now c.index.result.now.start c.index.result.now.middle) (slice_range c.block-bytes.result.now c.index.result.now.middle c.index.result.now.end) =
-    ap (note_value self) there ∙ ap (λ bytes. entry.Note c.index.result.now.pid (slice_range bytes c.index.result.now.start c.index.result.now.middle) (slice_range bytes c.index.result.now.middle c.index.result.now.end)) (sym c.block-bytes.ensures) in
+    (slice_range c.block-bytes.result.now c.index.result.now.start c.index.result.now.middle)
+    (slice_range c.block-bytes.result.now c.index.result.now.middle c.index.result.now.end) =
+    ap (note_value self) there ∙ ap (λ bytes.
+    entry.Note c.index.result.now.pid (slice_range bytes c.index.result.now.start c.index.result.now.middle)
+    (slice_range bytes c.index.result.now.middle c.index.result.now.end)) (sym c.block-bytes.ensures) in
     ap (λ one. slice_get (denotes self one) c.args.place) c.in-Note.is ∙ one_there _ c.args.place below ∙ ap Some note

@@ -9,9 +9,11 @@ pub returns-in_err-extend_from_slice-clause-extends :
 returns-in_err-extend_from_slice-clause-extends c =
     bytes_grow c.args.self.now _
     (record { more = []; is = c.in_err-extend_from_slice.ensures.items ∙ ap (λ (p : Parts). p.bytes) c.self.view_is ∙ sym (append-nil _) })
-    (front_same _ _ (ap (λ (p : Parts). p.taken) c.self.view_is)) (ap (λ (p : Parts). p.notes) c.self.view_is) (ap (λ (p : Parts). p.names) c.self.view_is)
+    (front_same _ _ (ap (λ (p : Parts). p.taken) c.self.view_is)) (ap (λ (p : Parts). p.notes) c.self.view_is)
+    (ap (λ (p : Parts). p.names) c.self.view_is)
 
 pub returns-clause-extends : goal.returns-clause-extends
 returns-clause-extends c =
     bytes_grow c.args.self.now _ (record { more = c.args.text.now; is = search rules })
-    (front_same _ _ (ap (λ (p : Parts). p.taken) c.self.view_is)) (ap (λ (p : Parts). p.notes) c.self.view_is) (ap (λ (p : Parts). p.names) c.self.view_is)
+    (front_same _ _ (ap (λ (p : Parts). p.taken) c.self.view_is)) (ap (λ (p : Parts). p.notes) c.self.view_is)
+    (ap (λ (p : Parts). p.names) c.self.view_is)

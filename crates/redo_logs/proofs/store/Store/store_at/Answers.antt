@@ -41,8 +41,12 @@ overflow_add-shift-in-Note-2 c =
 pub note_at-requires : goal.note_at-requires
 note_at-requires c =
     let block = block_of c.args.self.now c.args.block in
-    let within = subst (IsWithin (drop c.args.shift block) c.args.names.now) c.in-Note.is c.requires.within in
-    (omega (arith, within.0), omega (arith, within.1), omega (arith, within.2, length-drop c.args.shift block, c.requires.offset), c.requires.block)
+    let within = subst (IsWithin (drop c.args.shift block) c.args.names.now) c.in-Note.is c.requires.within in (
+      omega (arith, within.0),
+      omega (arith, within.1),
+      omega (arith, within.2, length-drop c.args.shift block, c.requires.offset),
+      c.requires.block,
+    )
 
 pub returns-in-Texts-clause-extends : goal.returns-in-Texts-clause-extends
 returns-in-Texts-clause-extends c = grows_none _
@@ -57,13 +61,15 @@ returns-in-Texts-clause-within c =
       omega (arith, within.0),
       omega (arith, within.1, length-drop c.args.shift block, c.requires.offset),
       c.requires.block,
-      subst (λ bytes. AreCompleteLines bytes c.in-Texts.lines) (sym (range_shifted c.args.shift block c.in-Texts.start c.in-Texts.end)) within.2,
+      subst (λ bytes. AreCompleteLines bytes c.in-Texts.lines)
+          (sym (range_shifted c.args.shift block c.in-Texts.start c.in-Texts.end)) within.2,
     )
 
 pub returns-in-Texts-clause-denotes : goal.returns-in-Texts-clause-denotes
 returns-in-Texts-clause-denotes c =
     let block = block_of c.args.self.now c.args.block in
-    ap (λ bytes. map entry.Text (ended bytes)) (range_shifted c.args.shift block c.in-Texts.start c.in-Texts.end) ∙ ap (entries_at_place (drop c.args.shift block) c.args.names.now) (sym c.in-Texts.is)
+    ap (λ bytes. map entry.Text (ended bytes)) (range_shifted c.args.shift block c.in-Texts.start c.in-Texts.end)
+    ∙ ap (entries_at_place (drop c.args.shift block) c.args.names.now) (sym c.in-Texts.is)
 
 pub returns-in-Note-clause-denotes : goal.returns-in-Note-clause-denotes
 returns-in-Note-clause-denotes c =
@@ -71,4 +77,5 @@ returns-in-Note-clause-denotes c =
     let kind = range_shifted c.args.shift block c.in-Note.start c.in-Note.middle in
     let text = range_shifted c.args.shift block c.in-Note.middle c.in-Note.end in
     note_then c.note_at.result _ _ _ c.note_at.ensures.denotes
-    ((λ i. entry.Note c.in-Note.pid (kind i) (text i) ∷ []) ∙ ap (entries_at_place (drop c.args.shift block) c.args.names.now) (sym c.in-Note.is))
+    ((λ i. entry.Note c.in-Note.pid (kind i) (text i) ∷ [])
+    ∙ ap (entries_at_place (drop c.args.shift block) c.args.names.now) (sym c.in-Note.is))

@@ -15,7 +15,9 @@ returns-clause-within c =
     let line = c.args.line.now in
     let first = c.in_ok-start.ensures in
     let last = c.in_ok-end.ensures in
-    let within = texts_within c.args.self.now.bytes (line ++ line_feed ∷ []) _ (line_put _ line _ _ first.bytes last.bytes) _ _ 1 first.start (line_end _ line _ _ first.bytes last.bytes _ last.end) (line_whole line c.requires) in
+    let within = texts_within c.args.self.now.bytes (line ++ line_feed ∷ []) _
+    (line_put _ line _ _ first.bytes last.bytes) _ _ 1 first.start (line_end _ line _ _ first.bytes last.bytes _ last.end)
+    (line_whole line c.requires) in
     (within.0, within.1, zero-le, within.2)
 
 pub returns-clause-denotes : goal.returns-clause-denotes
@@ -23,5 +25,6 @@ returns-clause-denotes c =
     let line = c.args.line.now in
     let first = c.in_ok-start.ensures in
     let last = c.in_ok-end.ensures in
-    texts_are c.args.self.now.bytes (line ++ line_feed ∷ []) _ (line_put _ line _ _ first.bytes last.bytes) _ _ 1 first.start (line_end _ line _ _ first.bytes last.bytes _ last.end) (line_whole line c.requires)
+    texts_are c.args.self.now.bytes (line ++ line_feed ∷ []) _ (line_put _ line _ _ first.bytes last.bytes) _ _ 1 first.start
+    (line_end _ line _ _ first.bytes last.bytes _ last.end) (line_whole line c.requires)
     ∙ line_text line c.requires

@@ -10,7 +10,8 @@ use Rattle.redo_outline.proofs.outline.Outline.new.Goals as goal
 pub unreachable-requires : goal.unreachable-requires
 unreachable-requires c =
     let position = c.in-Err-Unknown.field-0-0 in
-    none-some position (sym c.requires.known ∙ (c.view_as.ensures.unknown position).0 (c.in-Err-Unknown.is ∙ ap Err c.in-Err-Unknown.field-0-is))
+    none-some position (sym c.requires.known
+    ∙ (c.view_as.ensures.unknown position).0 (c.in-Err-Unknown.is ∙ ap Err c.in-Err-Unknown.field-0-is))
 
 pub unreachable-requires-in-Err-Write : goal.unreachable-requires-in-Err-Write
 unreachable-requires-in-Err-Write c =
@@ -21,5 +22,7 @@ unreachable-requires-in-Err-Write c =
 pub returns : goal.returns
 returns c =
     let events = shown_events c.args.table.now c.args.options.now c.args.requested.now in
-    c.in_ok-nodes.ensures ∙ ap collected_nodes (c.in-Ok.ensures.state ∙ ap (λ collected. state_after after collected events) c.in_ok-collector.ensures)
-    ∙ outline_is c.args.table.now events (c.events_are_in_contents.ensures c.args.table.now c.args.options.now c.args.requested.now c.requires.known)
+    c.in_ok-nodes.ensures ∙ ap collected_nodes
+    (c.in-Ok.ensures.state ∙ ap (λ collected. state_after after collected events) c.in_ok-collector.ensures)
+    ∙ outline_is c.args.table.now events
+    (c.events_are_in_contents.ensures c.args.table.now c.args.options.now c.args.requested.now c.requires.known)

@@ -5,7 +5,8 @@ use Rattle.redo_page.proofs.printed.Printed.next_line.Goals as goal
 
 pub returns-in_default-clause-line : goal.returns-in_default-clause-line
 returns-in_default-clause-line c =
-    sym (ap (λ (lines : Remaining). lines.left) c.self.view_is) ∙ c.refill-next.ensures.none (no_line c.refill-next.result.0.now c.refill-next.ensures.complete c.in_default.ensures)
+    sym (ap (λ (lines : Remaining). lines.left) c.self.view_is)
+    ∙ c.refill-next.ensures.none (no_line c.refill-next.result.0.now c.refill-next.ensures.complete c.in_default.ensures)
 
 pub overflow_add-self-2 : goal.overflow_add-self-2
 overflow_add-self-2 c =
@@ -18,13 +19,17 @@ pub invariant_of-self : goal.invariant_of-self
 invariant_of-self c =
     let size = ap length (first_line c.refill-next.result.0.now c.in-Some.end c.in-Some.ensures) in
     let count = c.refill-next.ensures.count in
-    let before = c.self.invariant.1 in
-    (sym (rest_after c.refill-next.result.0.now c.in-Some.end c.in-Some.ensures) ∙ c.refill-next.ensures.complete, omega (arith, size, count, before))
+    let before = c.self.invariant.1 in (
+      sym (rest_after c.refill-next.result.0.now c.in-Some.end c.in-Some.ensures)
+          ∙ c.refill-next.ensures.complete,
+      omega (arith, size, count, before),
+    )
 
 pub returns-clause-line : goal.returns-clause-line
 returns-clause-line c =
     sym (ap (λ (lines : Remaining). lines.left) c.self.view_is) ∙ c.refill-next.ensures.left
-    ∙ ap (λ (lines : List (List ℕ)). lines ++ texts_from c.self.inside.logs.logs c.self.inside.number c.refill-next.result.1) (first_line c.refill-next.result.0.now c.in-Some.end c.in-Some.ensures)
+    ∙ ap (λ (lines : List (List ℕ)). lines ++ texts_from c.self.inside.logs.logs c.self.inside.number c.refill-next.result.1)
+    (first_line c.refill-next.result.0.now c.in-Some.end c.in-Some.ensures)
 
 pub returns-clause-no_overflow : goal.returns-clause-no_overflow
 returns-clause-no_overflow c =

@@ -14,4 +14,5 @@ invariant_of-self c =
 pub returns-clause-split : goal.returns-clause-split
 returns-clause-split c =
     sym (ap (λ (lines : Remaining). lines.left) c.self.view_is) ∙ c.refill-next.ensures.left
-    ∙ ap (λ (lines : List (List ℕ)). ended c.refill-next.result.0.now ++ (lines ++ texts_from c.self.inside.logs.logs c.self.inside.number c.refill-next.result.1)) (sym (ended-free [] tt))
+    ∙ ap (λ (lines : List (List ℕ)). ended c.refill-next.result.0.now
+    ++ (lines ++ texts_from c.self.inside.logs.logs c.self.inside.number c.refill-next.result.1)) (sym (ended-free [] tt))

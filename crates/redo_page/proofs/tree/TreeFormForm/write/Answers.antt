@@ -14,4 +14,5 @@ returns-in_err-done-clause-wrote g c =
     let before = g.W.Sink.written c.args.out.now in
     let after = g.W.Sink.written c.write_event-wrote.new.out in
     let text = flat_map part_html (walk_parts c.args.self.now (event_value c.args.event)) in
-    rw (given.1, given.2) (all_is_prefix before after text (subst (λ done. Writes before after text done) c.in_ok-wrote.was c.write_event-wrote.ensures.wrote))
+    rw (given.1, given.2) (all_is_prefix before after text
+    (subst (λ done. Writes before after text done) c.in_ok-wrote.was c.write_event-wrote.ensures.wrote))

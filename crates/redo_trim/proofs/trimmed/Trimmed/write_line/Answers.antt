@@ -19,7 +19,8 @@ returns-clause-wrote g c =
     let after = g.W.Sink.written c.write_shown.new.out in
     let form = c.args.self.now.form in
     subst (WroteAll before after)
-    (ap (λ showing. bytes_of g.F.Form.bytes g.F.Form.after form (lines_shown showing c.args.depth (ended c.args.line.now))) c.showing-showing.ensures
+    (ap (λ showing. bytes_of g.F.Form.bytes g.F.Form.after form (lines_shown showing c.args.depth (ended c.args.line.now)))
+    c.showing-showing.ensures
     ∙ sym (one_bytes g.F.Form.bytes g.F.Form.after c.args.depth c.args.self.now c.args.line.now c.requires.line))
     c.in_ok-write_shown.ensures.wrote
 

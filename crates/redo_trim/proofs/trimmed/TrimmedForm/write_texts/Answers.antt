@@ -20,8 +20,11 @@ returns-then-keeps_all-clause-wrote g c =
     let after = g.W.Sink.written c.pass_on.new.out in
     let bytes = form_bytes g.F.Form.bytes g.F.Form.after in
     let step = form_after g.F.Form.after in
-    last_part before middle after (bytes_of bytes step c.args.self.now (text_events c.args.depth (ended lines))) (bytes_of bytes step c.lines.self (text_events c.args.depth (ended (drop done lines)))) c.pass_on.result c.lines.invariant.wrote
-    (subst (λ (l : List ℕ). FormWrites middle after (bytes_of bytes step c.lines.self (text_events c.args.depth (ended l))) c.pass_on.result) (take_rest lines done) c.pass_on.ensures.wrote)
+    last_part before middle after (bytes_of bytes step c.args.self.now (text_events c.args.depth (ended lines)))
+    (bytes_of bytes step c.lines.self (text_events c.args.depth (ended (drop done lines)))) c.pass_on.result c.lines.invariant.wrote
+    (subst (λ (l : List ℕ). FormWrites middle after
+    (bytes_of bytes step c.lines.self (text_events c.args.depth (ended l))) c.pass_on.result)
+    (take_rest lines done) c.pass_on.ensures.wrote)
 
 pub returns-in_err-write_line-clause-wrote : goal.returns-in_err-write_line-clause-wrote
 returns-in_err-write_line-clause-wrote g c =
@@ -42,9 +45,12 @@ returns-in_err-write_line-clause-wrote g c =
     let part = bytes_of bytes step c.lines.self (text_events depth (ended (take size left))) in
     let next = state_after step c.lines.self (text_events depth (ended (take size left))) in
     let others = bytes_of bytes step next (text_events depth (ended (drop size left))) in
-    let so_far : WroteUpTo before middle text (part ++ others) = subst (WroteUpTo before middle text) (next_bytes bytes step depth c.lines.self left size first.is_line.complete) c.lines.invariant.wrote in
+    let so_far : WroteUpTo before middle text (part ++ others) =
+    subst (WroteUpTo before middle text)
+    (next_bytes bytes step depth c.lines.self left size first.is_line.complete) c.lines.invariant.wrote in
     let wrote : FormWrites middle after part (Err fault) =
-    subst (λ (l : List ℕ). FormWrites middle after (bytes_of bytes step c.lines.self (text_events depth (ended (take size l)))) (Err fault)) (take_rest lines done) c.in_err-write_line.ensures.wrote in
+    subst (λ (l : List ℕ). FormWrites middle after (bytes_of bytes step c.lines.self (text_events depth (ended (take size l)))) (Err fault))
+    (take_rest lines done) c.in_err-write_line.ensures.wrote in
     rw (given.1, given.2) (failed_part before middle after text part others so_far fault wrote)
 
 pub lines-preserved : goal.lines-preserved
@@ -65,11 +71,15 @@ lines-preserved g c =
     let part = bytes_of bytes step c.lines.self (text_events depth (ended (take size left))) in
     let next = state_after step c.lines.self (text_events depth (ended (take size left))) in
     let others = bytes_of bytes step next (text_events depth (ended (drop size left))) in
-    let so_far : WroteUpTo before middle text (part ++ others) = subst (WroteUpTo before middle text) (next_bytes bytes step depth c.lines.self left size first.is_line.complete) c.lines.invariant.wrote in
+    let so_far : WroteUpTo before middle text (part ++ others) =
+    subst (WroteUpTo before middle text)
+    (next_bytes bytes step depth c.lines.self left size first.is_line.complete) c.lines.invariant.wrote in
     let wrote : after ≡ append_output middle part 0 =
-    subst (λ (l : List ℕ). after ≡ append_output middle (bytes_of bytes step c.lines.self (text_events depth (ended (take size l)))) 0) (take_rest lines done) c.in_ok-write_line.ensures.wrote in
+    subst (λ (l : List ℕ). after ≡ append_output middle (bytes_of bytes step c.lines.self (text_events depth (ended (take size l)))) 0)
+    (take_rest lines done) c.in_ok-write_line.ensures.wrote in
     let state : now ≡ next =
-    subst (λ (l : List ℕ). now ≡ state_after step c.lines.self (text_events depth (ended (take size l)))) (take_rest lines done) c.in_ok-write_line.ensures.state in
+    subst (λ (l : List ℕ). now ≡ state_after step c.lines.self (text_events depth (ended (take size l))))
+    (take_rest lines done) c.in_ok-write_line.ensures.state in
     let past = drop-drop size done lines in
     let within = first.within in
     let length_left = length-drop done lines in
@@ -77,9 +87,11 @@ lines-preserved g c =
       within = omega arith;
       complete = ap rest (sym past) ∙ complete_after left size first.is_line.complete c.lines.invariant.complete;
       wrote = subst (λ (l : List ℕ). WroteUpTo before after text (bytes_of bytes step now (text_events depth (ended l)))) past
-          (subst (λ (f : Trimmed g.row.F.Denot). WroteUpTo before after text (bytes_of bytes step f (text_events depth (ended (drop size left))))) (sym state)
+          (subst (λ (f : Trimmed g.row.F.Denot).
+          WroteUpTo before after text (bytes_of bytes step f (text_events depth (ended (drop size left))))) (sym state)
           (wrote_more before middle after text part others so_far wrote));
-      state = state_next bytes step depth c.lines.self left size first.is_line.complete now (drop (done + size) lines) past state ∙ c.lines.invariant.state;
+      state = state_next bytes step depth c.lines.self left size first.is_line.complete now (drop (done + size) lines) past state
+          ∙ c.lines.invariant.state;
     }
 
 pub returns-clause-wrote : goal.returns-clause-wrote
@@ -89,11 +101,13 @@ returns-clause-wrote g c =
     let bytes = form_bytes g.F.Form.bytes g.F.Form.after in
     let step = form_after g.F.Form.after in
     let text = bytes_of bytes step c.args.self.now (text_events c.args.depth (ended c.args.lines.now)) in
-    wrote_all before after text (subst (λ (ls : List (List ℕ)). WroteUpTo before after text (bytes_of bytes step c.lines.self (text_events c.args.depth ls)))
+    wrote_all before after text (subst (λ (ls : List (List ℕ)).
+    WroteUpTo before after text (bytes_of bytes step c.lines.self (text_events c.args.depth ls)))
     (ap ended (drop_all c.lines.done c.args.lines.now c.lines-test.false) ∙ ended-free [] tt) c.lines.invariant.wrote)
 
 pub returns-clause-state : goal.returns-clause-state
 returns-clause-state g c =
     let step = form_after g.F.Form.after in
-    sym (ap (λ (ls : List (List ℕ)). state_after step c.lines.self (text_events c.args.depth ls)) (ap ended (drop_all c.lines.done c.args.lines.now c.lines-test.false) ∙ ended-free [] tt))
+    sym (ap (λ (ls : List (List ℕ)). state_after step c.lines.self (text_events c.args.depth ls))
+    (ap ended (drop_all c.lines.done c.args.lines.now c.lines-test.false) ∙ ended-free [] tt))
     ∙ c.lines.invariant.state

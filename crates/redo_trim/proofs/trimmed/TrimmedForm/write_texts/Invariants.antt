@@ -12,7 +12,8 @@ invariant-lines g l = record {
   complete : rest (drop l.done l.lines) ≡ [];
   wrote : WroteUpTo (g.W.Sink.written l.initial.out) (g.W.Sink.written l.out)
       (bytes_of (form_bytes g.F.Form.bytes g.F.Form.after) (form_after g.F.Form.after) l.fn.self (text_events l.depth (ended l.lines)))
-      (bytes_of (form_bytes g.F.Form.bytes g.F.Form.after) (form_after g.F.Form.after) l.self (text_events l.depth (ended (drop l.done l.lines))));
+      (bytes_of (form_bytes g.F.Form.bytes g.F.Form.after) (form_after g.F.Form.after) l.self
+      (text_events l.depth (ended (drop l.done l.lines))));
   state : state_after (form_after g.F.Form.after) l.self (text_events l.depth (ended (drop l.done l.lines)))
       ≡ state_after (form_after g.F.Form.after) l.fn.self (text_events l.depth (ended l.lines));
 }

@@ -14,7 +14,8 @@ loop-name-init g c = record {
 }
 
 pub show_target-requires-clause-known : goal.show_target-requires-clause-known
-show_target-requires-clause-known g c = known_still c.loop-name.invariant c.name-item.result c.loop-name-test.true (sym c.name-item.is) c.requires.known
+show_target-requires-clause-known g c =
+    known_still c.loop-name.invariant c.name-item.result c.loop-name-test.true (sym c.name-item.is) c.requires.known
 
 pub show_target-requires-clause-fits : goal.show_target-requires-clause-fits
 show_target-requires-clause-fits g c = fits_still c.loop-name.invariant
@@ -29,7 +30,8 @@ returns-in_err-show_target g c =
     }
 
 pub loop-name-preserved : goal.loop-name-preserved
-loop-name-preserved g c = one_more_shown c.loop-name.invariant c.name-item.result c.loop-name-test.true (sym c.name-item.is) c.in_ok-show_target.ensures
+loop-name-preserved g c = one_more_shown c.loop-name.invariant c.name-item.result c.loop-name-test.true
+    (sym c.name-item.is) c.in_ok-show_target.ensures
 
 pub returns : goal.returns
 returns g c = record { context = c.loop-name.invariant.context; events = all_shown c.loop-name.invariant (search rules) }

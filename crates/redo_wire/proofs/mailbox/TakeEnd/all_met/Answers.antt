@@ -9,4 +9,5 @@ pub returns : goal.returns
 returns c =
     let is = c.are_all_set.ensures ∙ ap (list_all (λ flag. flag)) c.deref.ensures.value in
     subst (λ (collector : TakeEndState). c.are_all_set.result ≡ true ↔ AreAllMet collector) c.self.view_is
-    (subst (λ b. b ≡ true ↔ AreAllMet (collector_of c.self.inside.pass)) (sym is) (all_are_met _ c.self.inside.met.items _ c.self.invariant.count c.self.invariant.flags_are))
+    (subst (λ b. b ≡ true ↔ AreAllMet (collector_of c.self.inside.pass)) (sym is)
+    (all_are_met _ c.self.inside.met.items _ c.self.invariant.count c.self.invariant.flags_are))
