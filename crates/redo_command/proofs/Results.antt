@@ -14,7 +14,7 @@ use Rattle.redo_run.specs.declared.run_fault.RunFault.TheVariants.{Unknown, Stre
 use Rattle.redo_run.specs.Rendered.{IsSomeRenderedFault, RenderCall, SomeRenderedText, render_call}
 use Rattle.redo_run.specs.RunFault.{IfNoText}
 use Rattle.redo_command.specs.declared.failure.Failure.{Failure}
-use Rattle.redo_command.specs.declared.failure.Failure.TheVariants.{NamesRead, Memory, Run}
+use Rattle.redo_command.specs.declared.failure.Failure.TheVariants.{NamesRead, Memory}
 use Rattle.redo_command.specs.Failure.{IsIndexFailure}
 use Rattle.redo_command.specs.Logs.{AllGive, IsRunWritten, IsWriteResult, known_logs, logs_call}
 use Rattle.redo_command.specs.NamesFile.{CannotBeRead, byte_limit}

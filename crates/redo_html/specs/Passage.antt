@@ -1,4 +1,4 @@
--- A passage of text as HTML: what it shows, with highlights for unprintable code points and for styles. All elements that are begun in a passage end in it.
+-- A passage as HTML: what it shows, with highlights for unprintable code points and styles. Elements that begin in a passage end in it.
 use Rattle.std.specs.Prelude.{ℕ, Bool, true, false, ◌==◌, ◌||◌, ◌&&◌, not, List, [], ◌∷◌, ◌++◌, map, codes, if◌then◌else◌}
 use Rattle.std.specs.List.{flat_map}
 use Rattle.redo_html.specs.declared.text_kind.TextKind.{TextKind}
@@ -113,9 +113,9 @@ same_bool false other = not other
 abbrev pub is_same_style : Style → Style → Bool
 is_same_style one other = same_bool one.bold other.bold && hue_number one.hue == hue_number other.hue
 
--- The highlights between two code points. `look.wanted` is the style of the next code point. Open are the highlight of the style `look.current`,
--- and within it, if `look.unprintable` is set, the highlight for unprintable code points. `unprintable` states whether the next code point is
--- unprintable.
+-- The highlights between two code points. `look.wanted` is the style of the next code point. Open are the highlight of the style
+-- `look.current`, and within it, if `look.unprintable` is set, the highlight for unprintable code points. `unprintable` states whether the
+-- next code point is unprintable.
 abbrev pub highlight_if : Bool → Inline → List Inline
 highlight_if condition highlight = if condition then highlight ∷ [] else []
 

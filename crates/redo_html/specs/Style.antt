@@ -31,8 +31,8 @@ attribute_added style number =
     else if nat_le 90 number && nat_le number 97 then record { bold = style.bold; hue = digit_hue (number - 90) }
     else style
 
--- The numbers 38, 48 and 58 begin a colour of 256 or of 2^24, which is ignored: `5` and an index follow, or `2` and three components. `setting.ahead` is
--- the number of numbers still to ignore, and 4 directly before that `5` or `2`.
+-- The numbers 38, 48 and 58 begin a colour of 256 or of 2^24, which is ignored: `5` and an index follow, or `2` and three components.
+-- `setting.ahead` is the number of numbers still to ignore, and 4 directly before that `5` or `2`.
 abbrev pub begins_colour : ℕ → Bool
 begins_colour number = number == 38 || number == 48 || number == 58
 

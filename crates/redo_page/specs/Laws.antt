@@ -149,7 +149,7 @@ pub record PositionedLine : Type 0 where
 abbrev pub positioned_at : Option ℕ → Event → List PositionedLine
 positioned_at position event = map (λ (line : List ℕ). record { position = position; line = line }) (event_lines event)
 
--- The text lines of some contents, in order. `around` is the position of the log that contains them, and `position` that of the next log.
+-- The text lines of some contents, in order. `around` is the position of the log that contains them, and `position` the next log's position.
 abbrev pub positioned_lines : Option ℕ → ℕ → Contents → List PositionedLine
 positioned_lines around position Nothing = []
 positioned_lines around position (Shown event rest) = positioned_at around event ++ positioned_lines around position rest

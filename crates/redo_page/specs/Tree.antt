@@ -329,7 +329,7 @@ module _ (build : Build) where
 
   -- ---- contents
 
-  -- The parts of what a log contains. `position` is that of the next log, and `before` is what isn't ended.
+  -- The parts of what a log contains. `position` is the next log's position, and `before` is what isn't ended.
   abbrev pub contents_parts : Level → ℕ → Pending → Contents → List Part
   contents_parts level position before Nothing = end_parts before
   contents_parts level position before (Shown event rest) = shown_parts level before event ++ contents_parts level position (after_shown level before event) rest

@@ -335,7 +335,7 @@ fn write_all<W: Sink>(
 }
 
 /// Writes the tree of everything that is shown. Each requested target must have a log, all logs must have ended, the outline must
-/// have a node for each log that is opened, and `positions` must be those of the targets that have an article. Long logs are cut, so
+/// have a node for each log that is opened, and `positions` must be the positions of the targets that have an article. Long logs are cut, so
 /// that the tree has about `budget` bytes of text lines; 0 doesn't limit them.
 pub fn write_tree<W: Sink>(
     alloc: Global,

@@ -4,7 +4,7 @@
 //!
 //! # Terms
 //!
-//! - *Shown target*: the target of a node. Its *position* is that of the node.
+//! - *Shown target*: the target of a node. Its *position* is the node's position.
 //! - *Span*: the time from when a target began to when it ended, if both are known.
 //! - *Mark*: the one time that is known of a target, as a span without length.
 //! - *Caller*: a span in which the span of a target lies that its target ran. All other spans are *recipes*.
