@@ -8,6 +8,7 @@
 #include <stddef.h>
 #include <stdint.h>
 #include <stdio.h>
+#include <string.h>
 #include <sys/types.h>
 
 /* message.c: messages on standard error */
@@ -53,10 +54,13 @@ struct text {
 /* Makes room for at least this many more bytes. */
 void reserve_text(struct text *text, size_t size);
 void add_text(struct text *text, const char *bytes, size_t size);
-void add_string(struct text *text, const char *string);
+static inline void add_string(struct text *text, const char *string) { add_text(text, string, strlen(string)); }
 void add_number(struct text *text, int64_t number);
 /* Adds a time in the form that records use. */
 void add_time(struct text *text, int64_t time);
+/* Writes a number of up to MAX_DIGITS bytes, and returns its end. */
+enum { MAX_DIGITS = 20 };
+char *write_number(char *to, int64_t number);
 
 /* buffer.c: what is about to be written */
 
@@ -101,10 +105,9 @@ void set_base_dir(void);
 const char *normalize_name(const char *directory, const char *name, size_t size);
 /* Like normalize_name, for a name in `names`: an absolute name stays absolute. */
 const char *normalize_listed_name(const char *name);
-/* Returns a name as it is written in the log of `log_owner`; NULL if `log_owner` is outside of the base directory and the name
-   isn't. */
-char *name_in_log(const char *name, const char *log_owner);
-/* Adds a name as it is written in the log of `log_owner`, which may mention it. */
+/* Whether the log of `log_owner` can mention a name. It can't if it is outside of the base directory and the name isn't. */
+int can_mention(const char *log_owner, const char *name);
+/* Adds a name as it is written in the log of `log_owner`, which can mention it. */
 void add_name_in_log(struct text *text, const char *name, const char *log_owner);
 /* Returns a target's name as it is written in its own log. */
 const char *name_in_own_log(const char *name);
@@ -126,7 +129,7 @@ struct target_run {
   int has_begun;
   int is_mentioned;      /* as a prerequisite, in the log of another target */
   struct target *parent; /* the target whose recipe runs the make that makes this one; may be NULL */
-  char *directory;       /* of first_make */
+  const char *directory; /* of first_make */
   struct usage usage;    /* of its lines that have ended */
 
   /* The make that began its log. Lines that other makes run don't change its start and its end. */
@@ -203,6 +206,8 @@ int read_index(void);
 int relist_targets(void);
 /* Writes the index if it has changed. If `with_flags` is set, each closed log gets the must-close flag. Returns -1 on failure. */
 int write_index(int with_flags);
+/* Adds a line of the index, without a flag. */
+void add_index_line(struct text *text, unsigned number, const char *name);
 /* Gives a target a number and a line in the index, which flush_index writes. Returns -1 on failure. */
 int add_to_index(struct target *target);
 /* Appends the lines of new targets to `names`. */
@@ -240,6 +245,9 @@ int is_dropped(void);
 void open_interrupted_run(void);
 /* If somebody has removed the directory, forgets all that was captured. The next recipe creates the directory again. */
 void check_removal(void);
+/* Like check_removal, but does nothing if the last check was later than `time`, the time of a message: what happened before the message
+   was sent had happened by then. */
+void check_removal_since(int64_t time);
 /* Opens a file of the directory or of its `.capture`. Fails with ELOOP if it is a symbolic link. Doesn't block on a FIFO. */
 int open_in_directory(const char *name, int flags);
 /* Opens or creates a file to append to it. One that has another link is replaced by a copy, so that the other one stays unchanged. */
@@ -261,9 +269,9 @@ int begin_journal(void);
 /* Adds that a target began. It is buffered until flush_begun_targets, which is called before logs are emptied. */
 void begin_in_journal(const struct target *target);
 int flush_begun_targets(void);
-/* Adds another event, once the log has what the event says. It is buffered until flush_journal, which is called when logs are
-   written. */
-void write_journal(const char *format, ...) __attribute__((format(printf, 1, 2)));
+/* Adds another event, once the log has what the event says: its kind and its numbers. It is buffered until flush_journal, which is
+   called when logs are written. */
+void write_journal(const char *kind, size_t count, const int64_t *numbers);
 void add_to_journal(const char *lines, size_t size);
 void flush_journal(void);
 int end_journal(void);
@@ -288,8 +296,8 @@ void append_text(struct target *target, const char *bytes, size_t size, const st
 void complete_line(struct target *target);
 /* Records that these bytes of a log are a provisional record. */
 void add_mention(struct log_file *log, off_t start, off_t end);
-/* Appends a provisional record to the log of the parent. */
-void mention_in_parent(struct target *target, const char *record);
+/* Appends a provisional record to the log of the parent: that the target began, or, unless `status` is -1, that it ended. */
+void mention_in_parent(struct target *target, pid_t process, int64_t time, int status);
 /* Writes what is buffered for one log, or for all logs. If `can_begin` isn't set, the journal can't be written, and no log may be
    begun. */
 int flush_log(struct target *target);
@@ -309,6 +317,8 @@ const char *log_file_name(unsigned number);
 int is_record(const char *line, size_t size);
 /* Adds the start of a record, `@@REDO:KIND:PROCESS:TIME@@ `. */
 void add_record(struct text *text, const char *kind, pid_t process, int64_t time);
+/* Adds a status and a space, which follow the start of a `done` record. */
+void add_status(struct text *text, int status);
 /* Returns a time in the form that records use. */
 const char *format_time(int64_t time);
 
@@ -326,8 +336,9 @@ struct pipe;
    kept for this; if there is none left, copies the output to standard error, and returns NULL. */
 struct pipe *new_pipe(int descriptor, struct target *target);
 void start_pipe(struct pipe *pipe, struct target *target);
-/* Lets the loop wait for pipes that were started and have not ended since. */
-void watch_pipes(void);
+/* Lets the loop wait for pipes that were started and have not ended since. With `only_old`, it waits for those alone that an earlier
+   call has seen; the next call follows soon. */
+void watch_pipes(int only_old);
 void close_pipe(struct pipe *pipe);
 /* Reads what the pipe contains; if `waits_for_more` is set, also what arrives shortly. At the end of input, when no process can
    write to it any more, closes the pipe and returns 1. */
@@ -410,6 +421,9 @@ struct make *accept_make(int descriptor);
 int is_redirected(const struct make *make);
 struct make *make_from_notes(struct source *notes);
 void disconnect_make(struct make *make);
+/* Handles the notes of makes that are still connected when the command has ended. A child has the sockets of its make until it has
+   executed its program, so that the end of a make that was killed may go unnoticed. */
+void receive_last_notes(void);
 /* The number of connections that have not sent HELLO. Any user can connect. drop_pending_make closes the oldest one, unless HELLO is there
    now; it returns 0 if there is none. */
 size_t count_pending_makes(void);

@@ -20,6 +20,7 @@ static int state_fd = -1; /* of `.capture` */
 static int lock_fd = -1, lock_error, last_error;
 static char last_name[64]; /* of the file that couldn't be written last */
 static struct stat lock_file;
+static int64_t checked_at; /* the time of the last check_removal */
 
 void set_directory(const char *name) {
   directory_name = name;
@@ -242,11 +243,16 @@ void open_interrupted_run(void) {
 }
 
 void check_removal(void) {
+  checked_at = wall_clock_ms();
   if (state != OPEN || !is_removed()) return;
   warn("%s was removed; its captures are lost", directory_path);
   clear_targets();
   close_directory();
   state = CLOSED;
+}
+
+void check_removal_since(int64_t time) {
+  if (time >= checked_at || checked_at > wall_clock_ms()) check_removal(); /* somebody may have set the clock back */
 }
 
 void find_moved_directory(void) {

@@ -72,7 +72,10 @@ static void append_fact(struct facts *facts, const struct target *target, const 
   if (facts_fd < 0 || size > MAX_VALUE) return;
   if (facts->size + MAX_LINE > sizeof facts->bytes) facts == &begun ? flush_begun_facts() : flush_facts();
   char *to = facts->bytes + facts->size;
-  to += sprintf(to, "%u %s ", target->number, kind);
+  to = write_number(to, target->number);
+  *to++ = ' ';
+  to = stpcpy(to, kind);
+  *to++ = ' ';
   to = mempcpy(to, value, size);
   *to++ = '\n';
   facts->size = to - facts->bytes;
@@ -107,11 +110,14 @@ int64_t processor_time_ms(const struct target *target) {
 void record_usage(const struct target *target) {
   static const int64_t max = 999999999999999;
   const struct usage *usage = &target->run.usage;
-  char value[80];
+  char value[3 * MAX_DIGITS + 2], *end = value;
   if (!target->run.has_begun || usage->peak_kb == 0 || usage->user_us / 1000 > max || usage->system_us / 1000 > max) return;
-  append_fact(&stated, target, "usage", value,
-              snprintf(value, sizeof value, "%lld %lld %lld", (long long)(usage->user_us / 1000),
-                       (long long)(usage->system_us / 1000), (long long)usage->peak_kb));
+  end = write_number(end, usage->user_us / 1000);
+  *end++ = ' ';
+  end = write_number(end, usage->system_us / 1000);
+  *end++ = ' ';
+  end = write_number(end, usage->peak_kb);
+  append_fact(&stated, target, "usage", value, end - value);
 }
 
 /* Truncates an unended line, which a killed run may have left. Otherwise the next line would continue it. */
@@ -204,9 +210,10 @@ static struct fact parse_line(const char *line, const char *end) {
   struct fact fact = {.kind = INVALID};
   size_t digits = count_digits(line, end);
   if (digits == 0 || digits > MAX_NUMBER || *line == '0' || line + digits == end || line[digits] != ' ') return fact;
-  fact.number = strtoul(line, NULL, 10);
+  for (size_t i = 0; i < digits; i++) fact.number = 10 * fact.number + (line[i] - '0');
   line += digits + 1;
   for (enum fact_kind kind = LOG; kind < INVALID; kind++) {
+    if (line == end || *line != *kinds[kind]) continue;
     size_t size = strlen(kinds[kind]);
     if ((size_t)(end - line) < size || memcmp(line, kinds[kind], size) != 0) continue;
     fact.value = line + size, fact.size = end - fact.value, fact.kind = kind;

@@ -21,26 +21,24 @@ static void report_lost(void) {
   if (lost_count > 1) warn("%s/log.%u and %u more were removed; their captures are lost", directory_path, first_lost, lost_count - 1);
 }
 
-/* Adds the record that a target ended, with its name as it is written in the log that gets the record. */
-static void add_done_record(struct text *text, const struct target *target, pid_t process, const char *name) {
+/* Adds the start of the record that a target ended. The name follows, as it is written in the log that gets the record. */
+static void add_done_record(struct text *text, const struct target *target, pid_t process) {
   add_record(text, "done", process, target->run.end_time);
-  add_number(text, target->run.status);
-  add_string(text, " ");
-  add_string(text, name);
-  add_string(text, "\n");
+  add_status(text, target->run.status);
 }
 
 /* Adds the target's records to the log of its parent, unless a log mentions the target as a prerequisite. */
 static void add_child_records(const struct target *target) {
   struct target *parent = parent_of(target);
-  char *path = parent == target || target->run.is_mentioned ? NULL : name_in_log(target->name, parent->name);
-  if (!path) return;
+  if (parent == target || target->run.is_mentioned || !can_mention(parent->name, target->name)) return;
   struct text *records = &parent->log.child_records;
   add_record(records, "do", parent->run.process, target->run.start_time);
-  add_string(records, path);
+  add_name_in_log(records, target->name, parent->name);
   add_string(records, "\n");
-  if (target->run.status >= 0) add_done_record(records, target, parent->run.process, path);
-  free(path);
+  if (target->run.status < 0) return;
+  add_done_record(records, target, parent->run.process);
+  add_name_in_log(records, target->name, parent->name);
+  add_string(records, "\n");
 }
 
 /* Whether these bytes of a log are still a provisional record. Somebody may have changed the log. */
@@ -73,20 +71,24 @@ static int rewrite_log(struct target *target, const char *log, size_t size) {
   return error;
 }
 
-static void add_closing_record(struct target *target) {
-  struct stat found = {.st_size = 0};
+/* `size` is the size of the log if it is open, and otherwise -1. */
+static void add_closing_record(struct target *target, off_t size) {
+  static struct text record;
+  struct stat found;
   char last = '\n';
   if (open_log(target) < 0) return;
-  int is_known = fstat(target->log.fd, &found) == 0 && found.st_size == target->log.written_size && !target->log.is_mid_line;
-  if (!is_known && found.st_size > 0 && pread(target->log.fd, &last, 1, found.st_size - 1) < 1) last = '\n';
-  struct text record = {NULL, 0, 0};
+  if (size < 0) size = fstat(target->log.fd, &found) == 0 ? found.st_size : 0;
+  int is_known = size == target->log.written_size && !target->log.is_mid_line;
+  if (!is_known && size > 0 && pread(target->log.fd, &last, 1, size - 1) < 1) last = '\n';
+  record.size = 0;
   if (last != '\n') add_string(&record, "\n");
-  add_done_record(&record, target, target->run.end_process, name_in_own_log(target->name));
+  add_done_record(&record, target, target->run.end_process);
+  add_string(&record, name_in_own_log(target->name));
+  add_string(&record, "\n");
   target->is_closed = write_all(target->log.fd, record.bytes, record.size) == 0;
   if (!target->is_closed) report_write_error(log_file_name(target->number));
-  if (!target->is_closed && ftruncate(target->log.fd, found.st_size) < 0) target->log.is_unwritable = 1;
+  if (!target->is_closed && ftruncate(target->log.fd, size) < 0) target->log.is_unwritable = 1;
   close_log(target);
-  free(record.bytes);
 }
 
 /* Puts a log in order and closes it. A log that was removed is created again, unless something else is in its place. */
@@ -109,7 +111,7 @@ static void finish_log(struct target *target) {
     free(log);
     if (error) return;
   }
-  if (target->run.status >= 0) add_closing_record(target);
+  if (target->run.status >= 0) add_closing_record(target, target->log.fd >= 0 ? found.st_size : -1);
   else close_log(target);
 }
 
@@ -129,7 +131,8 @@ static void finish_run(int status) {
   end_run_log(status);
   struct target **sorted = sorted_targets(&count);
   for (size_t i = 0; i < count; i++) add_child_records(sorted[i]);
-  for (size_t i = 0; i < count; i++) finish_log(sorted[i]);
+  for (size_t i = 0; i < target_count; i++)
+    if (targets[i]->run.has_begun) finish_log(targets[i]);
   if (!run_target->run.has_begun) finish_log(run_target);
   write_closed();
   report_lost();

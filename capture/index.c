@@ -12,7 +12,7 @@
 /* The listed targets in order, and the target of each number. */
 static struct target **listed, **targets_by_number;
 static size_t listed_count, listed_capacity, number_capacity;
-static unsigned last_number;
+static unsigned last_number; /* 0: find_last_number finds it */
 
 /* The contents of `names`, and a descriptor for appending lines. */
 static char *index_text;
@@ -80,18 +80,25 @@ static void parse_lines(void) {
   if (bad_count > 1) warn("%s/names: line %zu: bad line, left out, and %zu more", directory_path, first_bad, bad_count - 1);
 }
 
+/* Returns the number in the name of a log; 0 if it is no log. */
+static unsigned parse_log_name(const char *name) {
+  char *end;
+  if (strncmp(name, "log.", 4) != 0 || name[4] < '0' || name[4] > '9') return 0;
+  unsigned long number = strtoul(name + 4, &end, 10);
+  return *end || number > MAX_LOGS ? 0 : number;
+}
+
 /* Finds the highest number of all lines and logs. So no new log gets the number of an existing one whose line was removed. */
 static void find_last_number(void) {
-  unsigned number;
-  int name_end;
+  last_number = 1;
   for (size_t i = 0; i < listed_count; i++)
     if (listed[i]->number > last_number) last_number = listed[i]->number;
   int dir_fd = open_in_directory(".", O_RDONLY | O_DIRECTORY);
   DIR *files = dir_fd < 0 ? NULL : fdopendir(dir_fd);
-  for (struct dirent *file; files && (file = readdir(files));)
-    if (sscanf(file->d_name, "log.%u%n", &number, &name_end) == 1 && !file->d_name[name_end] && number <= MAX_LOGS &&
-        number > last_number)
-      last_number = number;
+  for (struct dirent *file; files && (file = readdir(files));) {
+    unsigned number = parse_log_name(file->d_name);
+    if (number > last_number) last_number = number;
+  }
   if (files) closedir(files);
 }
 
@@ -115,8 +122,7 @@ int read_index(void) {
   if (!index_text) index_size = 0;
   clear_list();
   parse_lines();
-  last_number = 1;
-  if (listed_count > 0) find_last_number();
+  last_number = listed_count > 0 ? 0 : 1;
   move_run_target_first();
   return 0;
 }
@@ -152,20 +158,26 @@ static void close_index_fd(void) {
   index_fd = -1;
 }
 
+void add_index_line(struct text *text, unsigned number, const char *name) {
+  add_number(text, number);
+  add_string(text, " ");
+  add_string(text, name);
+  add_string(text, "\n");
+}
+
 int write_index(int with_flags) {
   int error = 0;
-  char *names;
-  size_t size;
-  FILE *stream = xopen_memstream(&names, &size);
-  for (size_t i = 0; i < listed_count; i++)
-    fprintf(stream, "%s%u %s\n", with_flags && listed[i]->is_closed ? "!" : "", listed[i]->number, listed[i]->name);
-  xclose_memstream(stream);
-  if (!index_text || size != index_size || memcmp(index_text, names, size) != 0) {
+  struct text names = {NULL, 0, 0};
+  for (size_t i = 0; i < listed_count; i++) {
+    if (with_flags && listed[i]->is_closed) add_string(&names, "!");
+    add_index_line(&names, listed[i]->number, listed[i]->name);
+  }
+  if (!index_text || names.size != index_size || memcmp(index_text, names.bytes, index_size) != 0) {
     close_index_fd();
-    error = replace_file("names", names, size);
+    error = replace_file("names", names.bytes, names.size);
   }
   free(index_text);
-  index_text = names, index_size = size;
+  index_text = names.bytes, index_size = names.size;
   return error;
 }
 
@@ -213,13 +225,14 @@ void flush_index(void) {
 }
 
 int add_to_index(struct target *target) {
+  if (last_number == 0) find_last_number();
   unsigned number = last_number < MAX_LOGS ? last_number + 1 : find_unused_number();
   if (number == 0) return -1;
-  char *line = xasprintf("%u %s\n", number, target->name);
-  size_t size = strlen(line);
+  static struct text line;
   int error = 0;
-  if (add_to_buffer(&new_lines, line, size) < 0) flush_index(), error = append_lines(line, size);
-  free(line);
+  line.size = 0;
+  add_index_line(&line, number, target->name);
+  if (add_to_buffer(&new_lines, line.bytes, line.size) < 0) flush_index(), error = append_lines(line.bytes, line.size);
   if (error) return report_write_error("names"), -1;
   if (number > last_number) last_number = number;
   add_line(target, number);

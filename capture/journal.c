@@ -11,7 +11,6 @@
 #include "capture.h"
 #include <fcntl.h>
 #include <inttypes.h>
-#include <stdarg.h>
 #include <stdlib.h>
 #include <string.h>
 #include <unistd.h>
@@ -63,12 +62,23 @@ int flush_begun_targets(void) { return flush_events(&begun); }
 
 void flush_journal(void) { flush_events(&events); }
 
+static void add_event(struct text *line, const char *kind, size_t count, const int64_t *numbers) {
+  add_string(line, kind);
+  for (size_t i = 0; i < count; i++) {
+    add_string(line, " ");
+    add_number(line, numbers[i]);
+  }
+}
+
 void begin_in_journal(const struct target *target) {
-  char *line = xasprintf("target %u %lld %u %s\n", target->number, (long long)target->run.start_time,
-                         target->run.parent ? target->run.parent->number : 0, target->name);
-  size_t size = strlen(line);
-  if (add_to_buffer(&begun, line, size) < 0 && flush_begun_targets() == 0) append_events(line, size);
-  free(line);
+  int64_t numbers[] = {target->number, target->run.start_time, target->run.parent ? target->run.parent->number : 0};
+  static struct text line;
+  line.size = 0;
+  add_event(&line, "target", 3, numbers);
+  add_string(&line, " ");
+  add_string(&line, target->name);
+  add_string(&line, "\n");
+  if (add_to_buffer(&begun, line.bytes, line.size) < 0 && flush_begun_targets() == 0) append_events(line.bytes, line.size);
 }
 
 void add_to_journal(const char *lines, size_t size) {
@@ -77,15 +87,12 @@ void add_to_journal(const char *lines, size_t size) {
   append_events(lines, size);
 }
 
-void write_journal(const char *format, ...) {
-  char *lines;
-  va_list values;
-  va_start(values, format);
-  int size = vasprintf(&lines, format, values);
-  va_end(values);
-  if (size < 0) return;
-  add_to_journal(lines, size);
-  free(lines);
+void write_journal(const char *kind, size_t count, const int64_t *numbers) {
+  static struct text line;
+  line.size = 0;
+  add_event(&line, kind, count, numbers);
+  add_string(&line, "\n");
+  add_to_journal(line.bytes, line.size);
 }
 
 enum journal_state read_journal_state(void) {
@@ -176,13 +183,10 @@ void read_closed(void) {
 }
 
 int write_closed(void) {
-  char *lines;
-  size_t size;
-  FILE *stream = xopen_memstream(&lines, &size);
+  struct text lines = {NULL, 0, 0};
   for (size_t i = 0; i < target_count; i++)
-    if (targets[i]->is_closed && targets[i]->number) fprintf(stream, "%u %s\n", targets[i]->number, targets[i]->name);
-  xclose_memstream(stream);
-  int error = replace_file(".capture/closed", lines, size);
-  free(lines);
+    if (targets[i]->is_closed && targets[i]->number) add_index_line(&lines, targets[i]->number, targets[i]->name);
+  int error = replace_file(".capture/closed", lines.bytes, lines.size);
+  free(lines.bytes);
   return error;
 }

@@ -1,7 +1,8 @@
 /* The logs. A log has records at its start, then text, then its closing record. While the run goes on, it also has provisional
    records: each mentions a target that a sub-make of the recipe makes, at the time of the event. `finish` replaces them.
 
-   What is appended to a log is buffered until flush_logs, which the server calls before it waits. So a short recipe costs one write. */
+   What is appended to a log is buffered until flush_logs, which the server calls some milliseconds later. So a short recipe costs one
+   write. */
 #define _GNU_SOURCE
 #include "capture.h"
 #include <errno.h>
@@ -25,8 +26,8 @@ static size_t open_count; /* of logs that are open. They stay open until the run
 static struct target *dirty_targets, **dirty_end = &dirty_targets;
 
 const char *log_file_name(unsigned number) {
-  static char name[32];
-  snprintf(name, sizeof name, "log.%u", number);
+  static char name[sizeof "log." + MAX_DIGITS] = "log.";
+  *write_number(name + 4, number) = 0;
   return name;
 }
 
@@ -47,6 +48,11 @@ void add_record(struct text *text, const char *kind, pid_t process, int64_t time
   add_string(text, ":");
   add_time(text, time);
   add_string(text, "@@ ");
+}
+
+void add_status(struct text *text, int status) {
+  add_number(text, status);
+  add_string(text, " ");
 }
 
 static void mark_unwritable(struct target *target) {
@@ -271,17 +277,20 @@ void add_mention(struct log_file *log, off_t start, off_t end) {
   log->mentions[log->mention_count++] = (struct range){start, end};
 }
 
-void mention_in_parent(struct target *target, const char *record) {
+void mention_in_parent(struct target *target, pid_t process, int64_t time, int status) {
+  static struct text record;
   struct target *parent = parent_of(target);
-  if (parent == target || (parent != run_target && !parent->run.has_begun)) return;
-  char *path = name_in_log(target->name, parent->name);
-  if (!path) return;
-  char *line = xasprintf("%s%s %s\n", parent->log.is_mid_line && !ends_with_mention(&parent->log) ? "\n" : "", record, path);
+  if (parent == target || (parent != run_target && !parent->run.has_begun) ||
+      !can_mention(parent->name, target->name))
+    return;
+  record.size = 0;
+  if (parent->log.is_mid_line && !ends_with_mention(&parent->log)) add_string(&record, "\n");
+  add_record(&record, status < 0 ? "do" : "done", process, time);
+  if (status >= 0) add_status(&record, status);
+  add_name_in_log(&record, target->name, parent->name);
+  add_string(&record, "\n");
   off_t start = parent->log.size;
-  if (append(parent, line, strlen(line)) == 0) {
-    add_mention(&parent->log, start, parent->log.size);
-    write_journal("mention %u %lld %lld\n", parent->number, (long long)start, (long long)parent->log.size);
-  }
-  free(line);
-  free(path);
+  if (append(parent, record.bytes, record.size) < 0) return;
+  add_mention(&parent->log, start, parent->log.size);
+  write_journal("mention", 3, (int64_t[]){parent->number, start, parent->log.size});
 }

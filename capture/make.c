@@ -17,7 +17,8 @@ static int asks; /* whether makes wait for a reply to each line */
 struct make *accept_make(int descriptor) {
   makes = grow_array(makes, make_count, &make_capacity, sizeof *makes);
   struct make *make = xrealloc(NULL, sizeof *make);
-  *make = (struct make){.source = {MAKE, descriptor}, .notes = {NOTES, -1}, .number = make_count + 1, .next_open = open_makes};
+  *make = (struct make){.source = {MAKE, descriptor}, .notes = {NOTES, -1}, .next_open = open_makes, .number = make_count + 1,
+                        .recipe_count = 1};
   if (watch_source(&make->source) < 0) return free(make), NULL;
   if (open_makes) open_makes->previous_open = make;
   open_makes = make;
@@ -66,17 +67,22 @@ static struct make *parent_make(const struct make *make) {
   return parent == make ? NULL : parent;
 }
 
-/* What the recipe's make has sent up to the start of the line may not have been read yet. It may not even have reported the process of
-   the line: then it is about to do so. If that takes too long, the records get the process of the make itself. */
-struct target *parent_target(struct make *make) {
+/* What the recipe's make sent before it started the line may not have been read yet. It may not even have reported the process of the
+   line: then it is about to do so. If that takes too long, the records get the process of the make itself. */
+void receive_from_parent(struct make *make) {
   struct make *parent = parent_make(make);
-  struct recipe_entry *recipe = NULL;
-  while (parent && (!(recipe = find_recipe(parent, make->parent_recipe)) || !recipe->has_begun)) {
-    if (receive_note(parent)) continue;
-    if (!parent->announced.is_set || parent->announced.recipe != make->parent_recipe) return NULL;
+  if (!parent) return;
+  receive_notes(parent);
+  while (parent->announced.is_set && parent->announced.recipe == make->parent_recipe) {
     struct pollfd note = {parent->notes.fd, POLLIN, 0};
-    if (note.fd < 0 || poll(&note, 1, MAX_START_MS) <= 0) start_line(parent, parent->process);
+    if (note.fd < 0 || poll(&note, 1, MAX_START_MS) <= 0 || !receive_note(parent)) start_line(parent, parent->process);
   }
+}
+
+/* Returns the target whose recipe runs this make, or NULL. */
+static struct target *parent_target(struct make *make) {
+  struct make *parent = parent_make(make);
+  struct recipe_entry *recipe = parent ? find_recipe(parent, make->parent_recipe) : NULL;
   return recipe && recipe->target && recipe->target->run.has_begun ? recipe->target : NULL;
 }
 
@@ -125,6 +131,14 @@ void disconnect_make(struct make *make) {
   for (size_t i = 1; i < make->recipe_count; i++) free(make->recipes[i].names), make->recipes[i].names = NULL;
   free(make->names);
   make->names = NULL;
+}
+
+void receive_last_notes(void) {
+  for (struct make *make = open_makes, *next; make; make = next) {
+    next = make->next_open;
+    receive_notes(make);
+    if (!is_out_of_memory) start_line(make, make->process);
+  }
 }
 
 struct make *make_from_notes(struct source *notes) { return (struct make *)((char *)notes - offsetof(struct make, notes)); }

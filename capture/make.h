@@ -26,7 +26,7 @@ struct make {
   pid_t process;
   char *directory; /* NULL until HELLO has arrived */
   int is_redirected, is_waiting; /* is_waiting: for a reply */
-  struct recipe_entry *recipes; /* the first one is never used */
+  struct recipe_entry *recipes; /* the first one is never used, and counts */
   size_t recipe_count, recipe_capacity;
   char *names; /* of the recipe that is being sent */
   size_t names_size;
@@ -50,8 +50,8 @@ int makes_are_asked(void);
 void clear_announcement(struct make *make);
 /* Starts the announced line with its process, which is make's own if no other one was reported. */
 void start_line(struct make *make, pid_t process);
-/* Makes sure that the log of the recipe that runs this make begins first, and returns its target, or NULL. */
-struct target *parent_target(struct make *make);
+/* Handles what the make that runs this one has sent, at least up to the start of the line that does so. */
+void receive_from_parent(struct make *make);
 /* Handles one message that needs no reply. Returns 0 if there is none now. */
 int receive_note(struct make *make);
 /* Handles what the sub-makes of a recipe sent before they ended. */

@@ -7,7 +7,6 @@
 #include <stdlib.h>
 #include <string.h>
 #include <sys/socket.h>
-#include <sys/stat.h>
 #include <unistd.h>
 
 /* In bytes: MAX_NAMES, the names of one recipe, and MAX_NAME, the name of one target. */
@@ -32,6 +31,7 @@ static int handle_hello(struct make *make, const char *message, size_t size, int
   make->notes.fd = *notes, *notes = -1;
   if (watch_source(&make->notes) < 0) return -1;
   make->directory = xasprintf("%s", message + sizeof hello);
+  receive_from_parent(make);
   struct welcome welcome = {make->number, show_mode, captures_output, makes_are_asked()};
   make->is_waiting = 0;
   return send_to_make(make, &welcome, sizeof welcome);
@@ -46,24 +46,28 @@ static int handle_names(struct make *make, const char *bytes, size_t size) {
   return 0;
 }
 
-static int handle_recipe(struct make *make, const char *message, size_t size) {
-  struct recipe recipe;
-  if (size < sizeof recipe) return -1;
-  memcpy(&recipe, message, sizeof recipe);
-  if (make->recipe_count == 0) make->recipe_count = 1;
-  if (recipe.number != make->recipe_count || handle_names(make, message + sizeof recipe, size - sizeof recipe) < 0) return -1;
-  make->recipes = grow_array(make->recipes, recipe.number, &make->recipe_capacity, sizeof *make->recipes);
-  make->recipes[recipe.number] = (struct recipe_entry){make->names, make->names_size, NULL, 0};
-  make->recipe_count++;
+/* Adds the next recipe. These names follow those that NAMES has sent. */
+static int add_recipe(struct make *make, const char *names, size_t size) {
+  if (handle_names(make, names, size) < 0) return -1;
+  make->recipes = grow_array(make->recipes, make->recipe_count, &make->recipe_capacity, sizeof *make->recipes);
+  make->recipes[make->recipe_count++] = (struct recipe_entry){make->names, make->names_size, NULL, 0};
   make->names = NULL, make->names_size = 0;
   return 0;
 }
 
-/* Whether this is the read end of a pipe. If that can't be found out, it is: a recipe couldn't write to a pipe that is closed. */
+static int handle_recipe(struct make *make, const char *message, size_t size) {
+  struct recipe recipe;
+  if (size < sizeof recipe) return -1;
+  memcpy(&recipe, message, sizeof recipe);
+  return recipe.number == make->recipe_count ? add_recipe(make, message + sizeof recipe, size - sizeof recipe) : -1;
+}
+
+/* Whether names of this size can follow the head of a message, of which `left` bytes are left. */
+static int are_valid_names(const struct make *make, size_t size, size_t left) { return size == 0 || (size <= left && !make->names); }
+
+/* Whether this is the read end of a pipe. */
 static int is_pipe_reader(int descriptor) {
-  struct stat found;
-  return descriptor >= 0 && (fstat(descriptor, &found) < 0 || S_ISFIFO(found.st_mode)) &&
-         (fcntl(descriptor, F_GETFL) & O_ACCMODE) == O_RDONLY;
+  return descriptor >= 0 && fcntl(descriptor, F_GETPIPE_SZ) >= 0 && (fcntl(descriptor, F_GETFL) & O_ACCMODE) == O_RDONLY;
 }
 
 /* Takes the read end of a pipe. Its output goes to standard error until a line starts. */
@@ -88,14 +92,14 @@ static void create_file(const char *name) {
   if (file >= 0) close(file);
 }
 
-/* Creates the files that the recipe will need, because it may remove the directory. */
+/* Writes what is buffered, and creates the files that the recipe will need, because it may remove the directory. */
 static void create_log(struct make *make, uint32_t number) {
-  parent_target(make);
   struct recipe_entry *recipe = find_recipe(make, number);
-  if (!recipe || !recipe->names) return;
-  struct target *target = add_target(normalize_name(make->directory, recipe->names, strlen(recipe->names)));
-  if (target->run.has_begun || (target->number == 0 && add_to_index(target) < 0)) return;
+  struct target *target = NULL;
+  if (recipe && recipe->names) target = add_target(normalize_name(make->directory, recipe->names, strlen(recipe->names)));
+  int must_create = target && !target->run.has_begun && (target->number > 0 || add_to_index(target) == 0);
   flush_captures();
+  if (!must_create) return;
   create_file(log_file_name(run_target->number));
   create_file(log_file_name(target->number));
 }
@@ -104,17 +108,21 @@ static int handle_line(struct make *make, const char *message, size_t size, int 
   struct line_message line;
   if (size < sizeof line || make->announced.is_set) return -1;
   memcpy(&line, message, sizeof line);
+  const char *names = message + sizeof line, *command = names + line.names_size;
+  if (!are_valid_names(make, line.names_size, size - sizeof line)) return -1;
   if (is_short_of_descriptors(*descriptor) || is_lost) ask_makes();
   if (line.wants_reply && *descriptor >= 0 && is_among_last_descriptors(*descriptor)) close(*descriptor), *descriptor = -1, is_lost = 1;
   int is_pipe = is_pipe_reader(*descriptor);
   if (is_pipe && !line.wants_reply) make->announced.pipe = take_pipe(descriptor);
-  check_removal();
+  if (line.names_size > 0) add_recipe(make, names, line.names_size);
+  line.time = valid_time(line.time);
+  check_removal_since(line.time);
   int is_captured = can_capture(make, find_recipe(make, line.recipe), is_lost);
   if (!is_captured && line.wants_reply) return reply(make, is_dropped() ? NEVER_CAPTURED : NOT_CAPTURED);
   if (is_pipe && line.wants_reply) make->announced.pipe = take_pipe(descriptor);
-  make->announced.is_captured = is_captured, make->announced.recipe = line.recipe, make->announced.time = valid_time(line.time);
-  size -= sizeof line;
-  make->announced.command = (struct command){memcpy(xrealloc(NULL, size), message + sizeof line, size), size};
+  make->announced.is_captured = is_captured, make->announced.recipe = line.recipe, make->announced.time = line.time;
+  size -= sizeof line + line.names_size;
+  make->announced.command = (struct command){memcpy(xrealloc(NULL, size), command, size), size};
   make->announced.is_set = 1;
   defer_reading();
   if (line.wants_reply) create_log(make, line.recipe);
@@ -132,7 +140,7 @@ static int handle_started(struct make *make, const char *message, size_t size) {
 /* Returns the recipe of which make could not start a line. make starts the next line of a recipe when its last line has ended or could
    not be started, and the first line when it has announced the recipe. */
 static uint32_t unstarted_recipe(struct make *make) {
-  uint32_t latest = make->recipe_count > 0 ? make->recipe_count - 1 : 0;
+  uint32_t latest = make->recipe_count - 1;
   if (make->announced.is_set) return make->announced.recipe;
   if (latest > 0 && !make->recipes[latest].has_begun) return latest;
   return make->ended_recipe ? make->ended_recipe : make->failed_recipe;
@@ -142,6 +150,8 @@ static int handle_failed(struct make *make, const char *message, size_t size) {
   struct failed failed;
   if (size < sizeof failed) return -1;
   memcpy(&failed, message, sizeof failed);
+  if (!are_valid_names(make, failed.names_size, size - sizeof failed)) return -1;
+  if (failed.names_size > 0) add_recipe(make, message + sizeof failed, failed.names_size);
   failed.time = valid_time(failed.time);
   uint32_t recipe = unstarted_recipe(make);
   struct command command = make->announced.command;

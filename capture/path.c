@@ -99,13 +99,7 @@ void add_name_in_log(struct text *text, const char *name, const char *log_owner)
   add_string(text, name + common);
 }
 
-char *name_in_log(const char *name, const char *log_owner) {
-  struct text text = {NULL, 0, 0};
-  if (name[0] != '/' && log_owner[0] == '/') return NULL;
-  add_name_in_log(&text, name, log_owner);
-  add_text(&text, "", 1);
-  return text.bytes;
-}
+int can_mention(const char *log_owner, const char *name) { return name[0] == '/' || log_owner[0] != '/'; }
 
 const char *name_in_own_log(const char *name) { return name[0] == '/' ? name : base_name(name); }
 

@@ -18,7 +18,7 @@ enum { CHUNK = 65536, MAX_HELD = 64 << 20, FLUSH_MS = 200, POLL_MS = 20, DRAIN_M
 
 struct pipe {
   struct source source;
-  int is_started, is_watched, is_spare; /* is_spare: it is one of spare_pipes */
+  int is_started, is_watched, is_old, is_spare; /* is_old: watch_pipes has seen it; is_spare: it is one of spare_pipes */
   struct target *target;
   char *held; /* the unended line */
   size_t held_size, held_capacity;
@@ -60,12 +60,15 @@ void start_pipe(struct pipe *pipe, struct target *target) {
   pipe->is_started = has_unwatched = 1;
 }
 
-/* New pipes are at the start of the list. A pipe of a short recipe has ended by now. */
-void watch_pipes(void) {
+/* A pipe of a short recipe has ended when only old pipes are watched. */
+void watch_pipes(int only_old) {
   if (!has_unwatched) return;
   has_unwatched = 0;
-  for (struct pipe *pipe = pipes; pipe; pipe = pipe->next)
-    if (pipe->is_started && !pipe->is_watched) pipe->is_watched = watch_source(&pipe->source) == 0;
+  for (struct pipe *pipe = pipes; pipe; pipe = pipe->next) {
+    if (!pipe->is_started || pipe->is_watched) continue;
+    if (only_old && !pipe->is_old) pipe->is_old = has_unwatched = 1;
+    else pipe->is_watched = watch_source(&pipe->source) == 0;
+  }
 }
 
 /* The pipe is freed later, because the loop may still have an event for it. */

@@ -6,6 +6,8 @@
    first one. So a short line of a recipe wakes the server once, and make waits for it only if a message needs a reply. A message,
    and the descriptor that it passes, stay in the socket's queue if make dies. If a queue is full, make waits until it isn't.
 
+   A recipe's first LINE, or FAILED, announces the recipe too. RECIPE announces one that has many names.
+
    A line needs a reply if it is the first one of its make, because the build may be uncaptured; after the server has sent ASK,
    because it runs out of descriptors or memory; and if it may remove the capture directory, because `rm` fails if files appear
    meanwhile: the server creates the log first. Otherwise the server takes each pipe: if a recipe can't be captured, its output goes to
@@ -25,9 +27,9 @@ enum message_kind {
   HELLO = 'H',   /* struct hello, and the directory of the make; passes the second socket; reply: struct welcome */
   NAMES = 'N',   /* struct names, and a part of the names of the next RECIPE */
   RECIPE = 'R',  /* struct recipe, and the rest of the names: target, NUL, prerequisites with spaces between them */
-  LINE = 'L',    /* struct line_message, and the command; passes the read end of a pipe; reply, if it is asked for: struct reply */
+  LINE = 'L',    /* struct line_message, names, and the command; passes the read end of a pipe; reply, if it is asked for: struct reply */
   STARTED = 'S', /* struct started: the line that was announced last has started */
-  FAILED = 'F',  /* struct failed: make could not start a line, and has not announced it */
+  FAILED = 'F',  /* struct failed, and names: make could not start a line, and has not announced it */
   ENDED = 'E',   /* struct ended: a child of make ended; reply, if it is asked for: struct reply */
 };
 
@@ -67,14 +69,14 @@ struct recipe {
 struct line_message {
   uint32_t kind, recipe;
   int64_t time; /* in milliseconds since 1970 */
-  uint32_t wants_reply, reserved;
+  uint32_t wants_reply, names_size; /* names_size: of the next recipe's names, unless RECIPE has sent them; otherwise 0 */
 };
 struct started {
   uint32_t kind;
   int32_t pid;
 };
 struct failed {
-  uint32_t kind, reserved;
+  uint32_t kind, names_size; /* as in LINE */
   int64_t time;
 };
 struct ended {

@@ -23,7 +23,7 @@ static void mention_prerequisite(struct header *header, struct target *prerequis
   if (!prerequisite || prerequisite->number == 0 || prerequisite == target ||
       (prerequisite == run_target && !prerequisite->run.has_begun))
     return;
-  if (prerequisite->name[0] != '/' && target->name[0] == '/') return; /* its log can't mention the name */
+  if (!can_mention(target->name, prerequisite->name)) return;
   struct target_run *run = &prerequisite->run;
   struct text *records = &header->records;
   add_record(records, run->has_begun ? "do" : "unchanged", header->process, run->has_begun ? run->start_time : header->time);
@@ -38,8 +38,7 @@ static void mention_prerequisite(struct header *header, struct target *prerequis
   add_string(&header->mentioned, "\n");
   if (run->status < 0) return;
   add_record(records, "done", header->process, run->end_time);
-  add_number(records, run->status);
-  add_string(records, " ");
+  add_status(records, run->status);
   reserve_text(records, name_size + 1);
   add_text(records, records->bytes + name_start, name_size);
   add_string(records, "\n");
@@ -71,11 +70,9 @@ static void write_header(struct target *target, const char *directory, const cha
   add_string(&header.records, "\n");
   mention_prerequisites(&header, directory, prerequisites);
   append_header(target, header.records.bytes, header.records.size);
-  write_journal("start %u %d %zu\n", target->number, (int)process, header.records.size);
+  write_journal("start", 3, (int64_t[]){target->number, process, header.records.size});
   add_to_journal(header.mentioned.bytes, header.mentioned.size);
-  char *record = xasprintf("@@REDO:do:%d:%s@@", (int)process, format_time(target->run.start_time));
-  mention_in_parent(target, record);
-  free(record);
+  mention_in_parent(target, process, target->run.start_time, -1);
   free(header.records.bytes);
   free(header.mentioned.bytes);
 }
@@ -86,8 +83,8 @@ void begin_target(struct target *target, struct make *make, struct target *paren
   if (is_new && add_to_index(target) < 0) return;
   if (parent && parent->name[0] == '/' && target->name[0] != '/') parent = NULL;
   target->is_closed = 0;
-  target->run = (struct target_run){.has_begun = 1, .parent = parent, .directory = xasprintf("%s", make->directory),
-                                    .first_make = make, .start_time = time, .status = -1};
+  target->run = (struct target_run){.has_begun = 1, .parent = parent, .directory = make->directory, .first_make = make,
+                                    .start_time = time, .status = -1};
   begin_in_journal(target);
   begin_facts(target);
   begin_log(target, is_new);
@@ -112,7 +109,7 @@ void begin_line(struct make *make, uint32_t recipe, struct target *target, struc
   target->running_lines++;
   begin_recipe_of(target, make, recipe);
   run->line_count++, run->has_failed_child = 0;
-  if (run->has_begun && run->process != process && run->status >= 0) write_journal("line %u %d\n", target->number, (int)process);
+  if (run->has_begun && run->process != process && run->status >= 0) write_journal("line", 2, (int64_t[]){target->number, process});
   run->process = process, run->status = -1;
   if (records_all_commands) record_command(target, &line->command);
   if (pipe) start_pipe(pipe, target);
@@ -125,14 +122,12 @@ static void end_target_line(struct target *target, const struct make *make, pid_
   run->status = has_failed ? status : run->failed_status;
   if (make == run->first_make || run->end_process == 0) run->end_process = process, run->end_time = time;
   if (!run->has_begun) return;
-  write_journal("ended %u %d %lld %d\n", target->number, (int)run->end_process, (long long)run->end_time, run->status);
+  write_journal("ended", 4, (int64_t[]){target->number, run->end_process, run->end_time, run->status});
   if (!has_failed) return;
   run->failed_line = run->line_count;
   if (parent_run) run->failed_in_line = parent_run->line_count;
   if (parent_run && !run->is_interrupted) parent_run->has_failed_child = 1;
-  char *record = xasprintf("@@REDO:done:%d:%s@@ %d", (int)process, format_time(time), status);
-  mention_in_parent(target, record);
-  free(record);
+  mention_in_parent(target, process, time, status);
 }
 
 static void add_usage(struct usage *sum, struct usage usage) {

@@ -17,6 +17,9 @@
 /* Once a line was announced, or fewer than SMALL_READ bytes were read, messages that need no reply, and pipes, are read DEFER_MS
    milliseconds later. So short lines, and recipes that print a little at a time, wake the server less often. */
 enum { SMALL_READ = 16384, DEFER_MS = 2, MAX_EVENTS = 64 };
+/* While lines are announced, what is buffered is written when reading has been deferred FLUSH_ROUNDS times. Most short recipes have ended
+   by then, and cost one write. */
+enum { FLUSH_ROUNDS = 4 };
 /* If fewer descriptors than this are left, or fewer than a quarter of them, makes wait for a reply to each line. */
 enum { MIN_LEFT = 1024, MAX_OPEN_LOGS = 16384, RESERVED_FOR_FILES = 4 };
 
@@ -171,22 +174,24 @@ void flush_captures(void) {
 
 /* Waits for events, at most `max_wait` milliseconds or forever if that is -1, and handles them. Returns their number. */
 static int serve(int max_wait) {
+  static int rounds; /* how often a deferral has ended since the last flush */
   struct epoll_event events[MAX_EVENTS];
-  int flush_wait = is_out_of_memory ? -1 : flush_idle_pipes(), timeout = max_wait;
-  watch_pipes();
-  flush_captures();
+  int flush_wait = is_out_of_memory ? -1 : flush_idle_pipes(), timeout = max_wait, has_deferral_ended = 0;
+  if (!defer_until) watch_pipes(0);
+  if (!defer_until || rounds >= FLUSH_ROUNDS) flush_captures(), rounds = 0;
   if (flush_wait >= 0 && (timeout < 0 || flush_wait < timeout)) timeout = flush_wait;
   print_progress();
   int progress_wait = progress_wait_ms();
   if (progress_wait >= 0 && (timeout < 0 || progress_wait < timeout)) timeout = progress_wait;
   if (defer_until) {
     int64_t left = defer_until - monotonic_ms();
-    if (left <= 0) set_defer_until(0);
+    if (left <= 0) set_defer_until(0), timeout = 0, has_deferral_ended = 1;
     else if (timeout < 0 || left < timeout) timeout = left;
   }
   if (has_command_ended()) timeout = 0; /* its signal has been read, perhaps just now */
   int count = epoll_wait(poller, events, MAX_EVENTS, timeout);
   for (int i = 0; i < count; i++) serve_source(events[i].data.ptr);
+  if (has_deferral_ended) watch_pipes(1), rounds++;
   free_closed_pipes();
   return count;
 }
@@ -206,13 +211,14 @@ int try_step(void (*step)(void)) {
 }
 
 static void serve_until_end(void) {
-  while (!handle_signals()) serve(-1);
+  while (!has_command_ended()) serve(-1);
 }
 
 /* Handles the messages that makes sent before they ended. Doesn't read pipes, because a background process may write forever. */
 static void serve_what_is_left(void) {
   set_defer_until(INT64_MAX);
   while (serve(0) > 0) continue;
+  receive_last_notes();
 }
 
 /* Performs a step. If memory runs out, performs it again without captures: what recipes print is then passed on. */

@@ -57,7 +57,8 @@ struct target *add_target(const char *name) {
   if (target_count >= bucket_count) grow_buckets();
   targets = grow_array(targets, target_count, &target_capacity, sizeof *targets);
   target = xrealloc(NULL, sizeof *target);
-  *target = (struct target){.name = xasprintf("%s", name), .run.status = -1, .log.fd = -1};
+  size_t size = strlen(name) + 1;
+  *target = (struct target){.name = memcpy(xrealloc(NULL, size), name, size), .run.status = -1, .log.fd = -1};
   struct target **bucket = find_bucket(name);
   target->next = *bucket, *bucket = target;
   targets[target_count++] = target;
@@ -77,7 +78,6 @@ static void clear_target(struct target *target) {
   close_log(target);
   clear_buffer(&target->log.buffer);
   free(target->log.mentions);
-  free(target->run.directory);
   *target = (struct target){
       .name = target->name, .next = target->next, .running_lines = target->running_lines, .run.status = -1, .log.fd = -1};
 }

@@ -1,7 +1,6 @@
 /* Text that grows. */
 #include "capture.h"
 #include <stdlib.h>
-#include <string.h>
 
 void reserve_text(struct text *text, size_t size) {
   if (text->size + size <= text->capacity) return;
@@ -17,15 +16,20 @@ void add_text(struct text *text, const char *bytes, size_t size) {
   text->size += size;
 }
 
-void add_string(struct text *text, const char *string) { add_text(text, string, strlen(string)); }
-
-void add_number(struct text *text, int64_t number) {
-  char digits[24], *start = digits + sizeof digits;
+char *write_number(char *to, int64_t number) {
+  char digits[MAX_DIGITS], *start = digits + sizeof digits;
   uint64_t left = number < 0 ? -(uint64_t)number : (uint64_t)number;
   do *--start = '0' + left % 10;
   while (left /= 10);
   if (number < 0) *--start = '-';
-  add_text(text, start, digits + sizeof digits - start);
+  size_t size = digits + sizeof digits - start;
+  memcpy(to, start, size);
+  return to + size;
+}
+
+void add_number(struct text *text, int64_t number) {
+  reserve_text(text, MAX_DIGITS);
+  text->size = write_number(text->bytes + text->size, number) - text->bytes;
 }
 
 void add_time(struct text *text, int64_t time) {

@@ -17,7 +17,10 @@
 size_t string_length(const char *string);
 int strings_equal(const char *left, const char *right);
 /* Whether a string begins with a prefix. */
-int has_prefix(const char *string, const char *prefix);
+static inline int has_prefix(const char *string, const char *prefix) {
+  while (*prefix && *string == *prefix) string++, prefix++;
+  return !*prefix;
+}
 /* A buffer that grow_buffer enlarges, which loses its content. grow_buffer returns NULL if memory can't be allocated. */
 struct buffer {
   char *bytes;
@@ -60,6 +63,9 @@ void close_descriptor(int *descriptor);
 
 /* recipe.c: $(redo-log-recipe TARGET,PREREQUISITES), which make expands once for each recipe */
 char *announce_recipe(const char *function, unsigned count, char **arguments);
+enum { MAX_KEPT = 4096 };
+/* Moves the names of a recipe that are kept for the next message, and returns their size, which is at most MAX_KEPT. */
+size_t take_names(char *to);
 
 /* line.c: a line of a recipe, up to its start */
 

@@ -51,18 +51,20 @@ static int may_remove(const char *words, size_t size) {
 }
 
 int announce_line(uint32_t recipe, char *const *command) {
-  static char words[MAX_COMMAND];
-  struct line_message line = {LINE, recipe, wall_clock_ms(), server_asks() || !run.is_captured, 0};
+  static char body[MAX_KEPT + MAX_COMMAND];
+  struct line_message line = {LINE, recipe, wall_clock_ms(), server_asks() || !run.is_captured, take_names(body)};
   int pair[2] = {-1, -1}, reply = -1;
+  char *words = body + line.names_size;
   size_t size = join_words(command, words);
   line.wants_reply |= may_remove(words, size);
+  size += line.names_size;
   int writes = !run.is_redirected[2] || (run.captures_output && !run.is_redirected[1]);
   if (writes && SYSCALL(pipe2, pair, O_CLOEXEC, 0, 0) < 0) pair[0] = pair[1] = -1;
   if (!line.wants_reply) {
-    if (send_note(&line, sizeof line, words, size, pair[0]) == 0) reply = CAPTURED;
+    if (send_note(&line, sizeof line, body, size, pair[0]) == 0) reply = CAPTURED;
   } else {
     uint64_t former = block_signals();
-    if (send_request(&line, sizeof line, words, size, pair[0]) == 0) reply = receive_reply();
+    if (send_request(&line, sizeof line, body, size, pair[0]) == 0) reply = receive_reply();
     restore_signals(former);
     run.is_captured |= reply == CAPTURED;
     if (reply == NEVER_CAPTURED) disconnect();
@@ -78,8 +80,9 @@ void report_start(pid_t process) {
 }
 
 void report_failure(void) {
-  struct failed failed = {FAILED, 0, wall_clock_ms()};
-  send_note(&failed, sizeof failed, NULL, 0, -1);
+  char names[MAX_KEPT];
+  struct failed failed = {FAILED, take_names(names), wall_clock_ms()};
+  send_note(&failed, sizeof failed, names, failed.names_size, -1);
 }
 
 /* Writes CAPTURE_RUN for the sub-makes of a recipe. A child that is no recipe, such as the one of $(shell ..), gets the value of
@@ -98,7 +101,7 @@ static char *append_child_variable(char *to, long recipe, int pipe) {
 }
 
 static int is_capture_variable(const char *variable) {
-  return has_prefix(variable, RECIPE_VARIABLE "=") || has_prefix(variable, RUN_VARIABLE "=") || has_prefix(variable, "MAKEFILES=");
+  return has_prefix(variable, RECIPE_VARIABLE "=") || has_prefix(variable, RUN_VARIABLE "=");
 }
 
 /* Writes MAKEFILES for the sub-makes of a recipe: capture.def, and the value that it would have otherwise. */
@@ -112,13 +115,14 @@ char **build_environment(char *const *environment, long recipe, int pipe) {
   size_t count = 0, variable_count = 0,
          size = sizeof RUN_VARIABLE "=MAKEFILES= " + max_run_variable_size(&run.variable) + string_length(capture_def_path);
   const char *other_makefiles = "";
-  for (; environment[count]; count++)
-    if (has_prefix(environment[count], "MAKEFILES=")) other_makefiles = environment[count] + sizeof "MAKEFILES";
-  char **variables = (char **)grow_buffer(&list, (count + 3) * sizeof *variables),
-       *to = grow_buffer(&values, size + string_length(other_makefiles));
+  while (environment[count]) count++;
+  char **variables = (char **)grow_buffer(&list, (count + 3) * sizeof *variables);
+  for (size_t i = 0; variables && i < count; i++) {
+    if (has_prefix(environment[i], "MAKEFILES=")) other_makefiles = environment[i] + sizeof "MAKEFILES";
+    else if (!is_capture_variable(environment[i])) variables[variable_count++] = environment[i];
+  }
+  char *to = grow_buffer(&values, size + string_length(other_makefiles));
   if (!variables || !to) return NULL;
-  for (size_t i = 0; i < count; i++)
-    if (!is_capture_variable(environment[i])) variables[variable_count++] = environment[i];
   variables[variable_count++] = to;
   to = append_child_variable(to, recipe, pipe);
   variables[variable_count++] = to;

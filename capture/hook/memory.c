@@ -23,11 +23,6 @@ size_t string_length(const char *string) {
   return length;
 }
 
-int has_prefix(const char *string, const char *prefix) {
-  while (*prefix && *string == *prefix) string++, prefix++;
-  return !*prefix;
-}
-
 int strings_equal(const char *left, const char *right) { return has_prefix(left, right) && !left[string_length(right)]; }
 
 char *grow_buffer(struct buffer *buffer, size_t size) {

@@ -366,7 +366,15 @@ def removed_at_any_time(checks, at):
             # Before the first change nothing was captured.
             checks.expect(f"{what}: told", GONE in told or number == 1, number <= count or number == 1)
             checks.expect(f"{what}: the next one", built(folder, [TOOL, *MARKING]), ((*plain[:2], [plain[2][4]]), shows))
-        checks.expect("changes in all", count > 40, True)
+        checks.expect("changes in all", count > 30, True)
+
+
+def removed_by_later_lines(checks, at):
+    """The second line of each recipe removes the directory. No file appears there meanwhile: then rm would fail."""
+    names = " ".join(f"n{number}" for number in range(100))
+    folder = project(at("later"), f"all: {names}\n{names}:\n\t@echo $@ >&2\n\t@rm -r {CAPTURES}\n")
+    (status, out, lines), told = built(folder, [TOOL, *MARKING, "make", "-s"])
+    checks.expect("removed by later lines", (status, out, lines, GONE in told), (0, "", [], True))
 
 
 BESIDE = f"""NUMBERS = $(shell seq 40)
@@ -560,6 +568,6 @@ def moved(checks, at):
 
 
 PARTS = (
-    between_builds, refused, in_the_middle, many_needs, folders_for_logs, removed_at_any_time, removed_beside_others, links_before,
-    links_meanwhile, links_at_the_end, moved,
+    between_builds, refused, in_the_middle, many_needs, folders_for_logs, removed_at_any_time, removed_by_later_lines,
+    removed_beside_others, links_before, links_meanwhile, links_at_the_end, moved,
 )  # fmt: skip

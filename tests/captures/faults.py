@@ -15,9 +15,11 @@ import socket
 import struct
 import subprocess
 import tempfile
+import threading
 import time
 from collections import Counter
 from concurrent.futures import ThreadPoolExecutor
+from pathlib import Path
 
 from builds import TOOL, preloaded, project, shown, wait_for, wait_until, write
 from checks import CAPTURES, environment, install_capture
@@ -531,6 +533,32 @@ def at_once_killed(checks, at):
     all_right(checks, "at_once_killed", run, items)
 
 
+def killed_between_messages(checks, at):
+    """make is killed instead of sending a message. Each recipe that has begun has a log, and all that have ended have what they printed."""
+    if not has_strace("killed_between_messages"):
+        return
+    targets = [f"t{number}" for number in range(4)]
+    makefile = f"all: {' '.join(targets)}\n{' '.join(targets)}: ; @echo $@ >>ran; echo $@ said >&2\n"
+
+    def run(number):
+        folder = project(at(str(number)), makefile)
+        kill = ["strace", "-qq", "-o", "trace", "-e", "trace=sendmsg", "-e", f"inject=sendmsg:signal=SIGKILL:when={number}"]
+        status = ended(folder, [TOOL, *kill, "make"])[0]
+        ran = [name.decode().strip() for name in files_of(folder).get("ran", ())]
+        index = os.path.join(folder, CAPTURES, "names")
+        listed = Path(index).read_text(encoding="utf-8").split()[1::2] if os.path.exists(index) else []
+        texts = texts_of(folder)
+        right = set(ran) <= set(listed) and all(texts[f"{name} said"] == 1 for name in ran[:-1]) and max(texts.values(), default=1) == 1
+        if right:
+            shutil.rmtree(folder)
+        killed.append(status == -9)
+        return f"{number}", [] if right else [f"status {status}, ran {ran}, listed {listed}", str(texts)]
+
+    killed = []
+    all_right(checks, "killed_between_messages", run, range(1, 14))
+    checks.expect("killed_between_messages: make was killed", killed.count(True) > 9, True)
+
+
 # Messages as in capture/protocol.h.
 ORDINARY = 1700000000000
 
@@ -547,16 +575,16 @@ def recipe(number, part=b""):
     return struct.pack("@4sI", b"R", number) + part
 
 
-def line(number, command=b"/bin/sh\0-c\0true\0", time=ORDINARY, asks=1):
-    return struct.pack("@4sIqII", b"L", number, time, asks, 0) + command
+def line(number, command=b"/bin/sh\0-c\0true\0", time=ORDINARY, asks=1, names=b"", size=None):
+    return struct.pack("@4sIqII", b"L", number, time, asks, len(names) if size is None else size) + names + command
 
 
 def started(process):
     return struct.pack("@4si", b"S", process)
 
 
-def failed(time=ORDINARY):
-    return struct.pack("@4sIq", b"F", 0, time)
+def failed(time=ORDINARY, names=b"", size=None):
+    return struct.pack("@4sIq", b"F", len(names) if size is None else size, time) + names
 
 
 def gone(process, status=0, time=ORDINARY, asks=0, stopping=0, usage=(1, 1, 1)):
@@ -688,7 +716,8 @@ class Liar:
 
 
 def each_kind(token):
-    return [hello(token, b"/tmp\0"), names(b"x\0y"), recipe(1, b"x\0y z"), line(1), started(5), failed(), gone(5, 256, asks=1)]
+    messages = [hello(token, b"/tmp\0"), names(b"x\0y"), recipe(1, b"x\0y z"), line(1), started(5), failed(), gone(5, 256, asks=1)]
+    return [*messages, line(1, names=b"x\0y z"), failed(names=b"x\0y z")]
 
 
 def cut(liar):
@@ -762,6 +791,22 @@ def numbers_of_recipes(liar):
         liar.send(notes, started(5))
         liar.send(notes, recipe(number + 1 & 2**32 - 1, b"y\0"))
         liar.send(notes, failed())
+
+
+def sizes_of_names(liar):
+    """Names that come with a line, or with a failure to start one, and are longer than the message, or follow names that came alone."""
+    for size in (*NUMBERS, 5, 23, 24, 25, 60000, 66000):
+        for earlier in ((), (recipe(1, b"x\0"),), (names(b"x\0y"),), (recipe(1, b"x\0"), names(b"y\0"))):
+            for asks in (0, 1):
+                connection, notes, _ = liar.make()
+                for message in earlier:
+                    liar.send(notes, message)
+                liar.send(connection if asks else notes, line(1, asks=asks, names=b"n\0x", size=size))
+                if asks:
+                    liar.answer(connection)
+                liar.send(notes, started(5))
+                liar.send(notes, failed(names=b"f\0x", size=size))
+                liar.close()
 
 
 def numbers_of_parents(liar):
@@ -961,6 +1006,8 @@ def almost_right(chance, token, latest):
     kinds = (
         (1, lambda: hello(token, chance.choice((b"/\0", b"x", b"")), process=process)), (2, lambda: names(chance.choice(some))),
         (5, lambda: recipe(chance.choice((latest + 1,) * 9 + NUMBERS), chance.choice(some))), (9, lambda: started(process)), (3, lambda: failed(time)),
+        (5, lambda: line(latest + 1, time=time, asks=chance.choice((0, 0, 1)), names=chance.choice(some))),
+        (2, lambda: failed(time, chance.choice(some))),
         (9, lambda: line(number, chance.choice((b"", b"sh", b"sh\0-c\0x\0", b"\0" * 100)), time, chance.choice((0, 0, 0, 1, 7)))),
         (9, lambda: gone(process, chance.choice((0, 0, 1, 9, 256, -1)), time, chance.choice((0, 1, 7)), chance.choice((0, 1, 2, 3)), (chance.choice(TIMES),) * 3)),
     )  # fmt: skip
@@ -985,7 +1032,7 @@ def at_random(liar):
         asks = {b"E": message[4:8], b"L": message[16:20]}.get(message[:1], bytes(4)) != bytes(4)
         is_note = message[:1] != b"H" and not asks
         is_sent = liar.send(connection if is_note == (chance.random() < 0.02) else notes, message, *(passed if message[:1] == b"L" else ()))
-        makes[place][2] += message[:1] == b"R"
+        makes[place][2] += message[:1] == b"R" or (message[:1] in b"LF" and len(message) > 8 and message[20:24] not in (b"", bytes(4)))
         os.close(there)
         with contextlib.suppress(BrokenPipeError):
             os.write(end, b"said at random\n" * chance.choice((0, 1, 1000)))
@@ -1001,8 +1048,9 @@ def at_random(liar):
 
 
 LIES = (
-    cut, longer, wrong_token, wrong_order, two_lines, numbers_of_recipes, numbers_of_parents, numbers_of_processes, times_and_states, odd_names, odd_descriptors,
-    many_descriptors, kept_descriptors, parents_that_start_late, parents_in_a_circle, never_listens, many_connections, no_line_feed, too_many_names, at_random,
+    cut, longer, wrong_token, wrong_order, two_lines, numbers_of_recipes, sizes_of_names, numbers_of_parents, numbers_of_processes,
+    times_and_states, odd_names, odd_descriptors, many_descriptors, kept_descriptors, parents_that_start_late, parents_in_a_circle,
+    never_listens, many_connections, no_line_feed, too_many_names, at_random,
 )  # fmt: skip
 
 
@@ -1055,7 +1103,28 @@ def lying_make(checks, at):
     all_right(checks, "lying_make", run, [(lie, is_sanitized) for lie in LIES for is_sanitized in (False, True)])
 
 
+def late_start(checks, at):
+    """A make reports that a line has started after the sub-make of the line has connected. What fails in the sub-make failed in that line."""
+    liar = Liar(at("late_start"), TOOL, "trap 'exit 3' EXIT;")
+    make, notes, number = liar.make()
+    liar.send(make, line(1, names=b"outer\0"))
+    liar.answer(make)
+    for message in (started(77), gone(77), line(1, asks=0)):
+        liar.send(notes, message)
+    start = threading.Timer(0.2, liar.send, (notes, started(78)))
+    start.start()
+    sub_make, sub_notes, _ = liar.make(parent=(number, 1))
+    liar.send(sub_notes, failed(names=b"inner\0"))
+    sub_make.close(), sub_notes.close()
+    start.join()
+    liar.send(make, gone(78, 2 << 8, asks=1))
+    liar.answer(make)
+    liar.close()
+    told = liar.end()[1]
+    checks.expect("late_start", re.findall(r"^redo-log-capture: \d+ targets? failed: (.*)", told, re.M), ["redo-log inner"])
+
+
 PARTS = (
-    failing_hook, failing_server, lying_make, many_processes, never_silent, few_descriptors, refused_memory, at_once_killed,
-    ends_while_nobody_reads,
+    failing_hook, failing_server, lying_make, late_start, many_processes, never_silent, few_descriptors, refused_memory, at_once_killed,
+    killed_between_messages, ends_while_nobody_reads,
 )  # fmt: skip
