@@ -20,8 +20,8 @@ pub fn read_names<R: Feed>(alloc: Global, reader: &mut R) -> Result<Vec<u8>, Fai
     ensures unreadable { result ≡ Err Failure.NamesRead → SomeStream (R.contents reader.old) CannotBeRead }
     ensures either { IfErr result (λ failure. (failure ≡ NamesRead) ⊎ (failure ≡ Memory)) }
 {
-    let mut room = vec![in alloc; 0u8; READ_BYTES]?;
-    let buf = room.as_mut_slice();
+    let mut buffer = vec![in alloc; 0u8; READ_BYTES]?;
+    let buf = buffer.as_mut_slice();
     let mut bytes = Vec::new(alloc);
     'reads: loop {
         match reader.pull(buf) {

@@ -31,9 +31,9 @@ pub fn process_arguments<R: Env + AllocGlobal>(rt: &R) -> Result<Vec<String>, Fa
 }
 
 /// Returns whether the arguments request the version: `--version` or `-V` as the only argument.
-pub fn requests_version(words: &[String]) -> bool {
-    match words {
-        [word] => matches!(word.as_str(), "--version" | "-V"),
+pub fn requests_version(arguments: &[String]) -> bool {
+    match arguments {
+        [argument] => matches!(argument.as_str(), "--version" | "-V"),
         _ => false,
     }
 }

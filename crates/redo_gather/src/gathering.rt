@@ -90,43 +90,47 @@ fn gather_by<T: Threads + Wait + Sync, R: Feed + Send, G: Gate>(
     let shares = distribute(alloc, &table, readers, senders)?;
     let (collector, ends) = LogCollector::open(alloc, table, plan.capacity(), senders)?;
     let max_bytes = plan.max_bytes();
-    run_senders(rt, alloc, ends, shares, max_bytes, gate, collector).finish(rt, gate)
+    let context = Context {
+        rt,
+        alloc,
+        gate,
+        max_bytes,
+    };
+    run_senders(&context, ends, shares, collector).finish(rt, gate)
+}
+
+// What all senders of a gathering share.
+#[derive(Drop)]
+struct Context<'s, T, G> {
+    rt: &'s T,
+    alloc: Global,
+    gate: &'s G,
+    // How many bytes each stream may have.
+    max_bytes: u64,
 }
 
 // Runs the senders of these ends on their shares, collects what they read, and joins all of them.
 fn run_senders<T: Threads + Wait + Sync, R: Feed + Send, G: Gate>(
-    rt: &T,
-    alloc: Global,
+    context: &Context<'_, T, G>,
     ends: Vec<PostEnd>,
     shares: Vec<Share<R>>,
-    max_bytes: u64,
-    gate: &G,
     collector: LogCollector,
 ) -> LogCollector
     requires one { AllByRecursion (λ end. end.mailbox ≡ collector.take_end.mailbox) ends.items }
-    requires limit { (1 ≤ max_bytes) × (max_bytes ≤ 2 ^ 40) }
-    ensures { Collects R.contents max_bytes ends.items (map (λ share. share.items) shares.items) collector result }
+    requires limit { (1 ≤ context.now.max_bytes) × (context.now.max_bytes ≤ 2 ^ 40) }
+    ensures { Collects R.contents context.now.max_bytes ends.items (map (λ share. share.items) shares.items) collector result }
 {
     thread::scope(
         thread::scope_env(),
-        rt,
+        context.rt,
         |scope| -> LogCollector
             requires one { AllByRecursion (λ end. end.mailbox ≡ collector.take_end.mailbox) ends.items }
-            requires limit { (1 ≤ max_bytes) × (max_bytes ≤ 2 ^ 40) }
-            ensures { Collects R.contents max_bytes ends.items (map (λ share. share.items) shares.items) collector result }
+            requires limit { (1 ≤ context.now.max_bytes) × (context.now.max_bytes ≤ 2 ^ 40) }
+            ensures { Collects R.contents context.entry.now.max_bytes ends.items
+                (map (λ share. share.items) shares.items) collector result }
         {
             let mut collector = collector;
-            run_next_sender(
-                scope,
-                rt,
-                alloc,
-                ends,
-                shares,
-                max_bytes,
-                gate,
-                0,
-                &mut collector,
-            );
+            run_next_sender(scope, context, ends, shares, 0, &mut collector);
             collector
         },
     )
@@ -174,58 +178,44 @@ fn empty_shares<R: Drop>(alloc: Global, senders: u32) -> Result<Vec<Share<R>>, A
 // started, no more are started, and what is posted of these streams is taken before the senders are joined.
 fn run_next_sender<'s, T: Threads + Wait + Sync, R: Feed + Send + 's, G: Gate, E>(
     scope: &Scope<'s, E>,
-    rt: &'s T,
-    alloc: Global,
+    context: &Context<'s, T, G>,
     mut ends: Vec<PostEnd>,
     mut shares: Vec<Share<R>>,
-    max_bytes: u64,
-    gate: &'s G,
     streams_before: usize,
     collector: &mut LogCollector,
 )
     requires one { AllByRecursion (λ end. end.mailbox ≡ collector.old.take_end.mailbox) ends.items }
-    requires limit { (1 ≤ max_bytes) × (max_bytes ≤ 2 ^ 40) }
-    ensures { Collects R.contents max_bytes ends.items (map (λ share. share.items) shares.items) collector.old collector.new }
+    requires limit { (1 ≤ context.now.max_bytes) × (context.now.max_bytes ≤ 2 ^ 40) }
+    ensures { Collects R.contents context.now.max_bytes ends.items (map (λ share. share.items) shares.items) collector.old collector.new }
 {
     let (Some(end), Some(share)) = (ends.pop(), shares.pop()) else {
-        collector.take(rt, gate, streams_before);
+        collector.take(context.rt, context.gate, streams_before);
         return;
     };
     let streams_after = streams_before.wrapping_add(share.len());
     let sender = Sender {
         end,
         share,
-        max_bytes,
+        max_bytes: context.max_bytes,
     };
-    let Ok(thread) = spawn_sender(scope, rt, alloc, sender, gate) else {
-        collector.take(rt, gate, streams_before);
+    let Ok(thread) = spawn_sender(scope, context, sender) else {
+        collector.take(context.rt, context.gate, streams_before);
         return;
     };
-    run_next_sender(
-        scope,
-        rt,
-        alloc,
-        ends,
-        shares,
-        max_bytes,
-        gate,
-        streams_after,
-        collector,
-    );
-    let end = thread.join(rt);
-    collector.meet(rt, end);
+    run_next_sender(scope, context, ends, shares, streams_after, collector);
+    let end = thread.join(context.rt);
+    collector.meet(context.rt, end);
 }
 
 // Starts a sender in its own thread.
 fn spawn_sender<'s, T: Threads + Wait + Sync, R: Feed + Send + 's, G: Gate, E>(
     scope: &Scope<'s, E>,
-    rt: &'s T,
-    alloc: Global,
+    context: &Context<'s, T, G>,
     sender: Sender<R>,
-    gate: &'s G,
 ) -> Result<PromisedHandle<PostEnd, SenderPromise<R>>, AllocError>
     ensures { IfOk result (λ handle. handle.promise.0.value ≡ sender) }
 {
+    let (rt, alloc, gate) = (context.rt, context.alloc, context.gate);
     let owing = SenderPromise(Snapshot::of(&sender));
     Ok(scope.spawn_with(
         owing,

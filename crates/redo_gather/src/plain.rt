@@ -14,13 +14,11 @@ ghost use Rattle.redo_gather.specs.Private.Storing.{HasFault, IsCompleted};
 use crate::flags::zip_flags;
 use crate::gather_fault::GatherFault;
 use crate::one_stream::read_stream;
+use crate::reading::new_buffer;
 use crate::storing::{new_table, store};
 use redo_line::{Feed, HashKeys, TargetName};
 use redo_logs::LogTable;
 use std::alloc::Global;
-
-// How many bytes are read at once, at most.
-const READ_BYTES: usize = 64 * 1024;
 
 /// Reads streams one after another, and returns the logs of their targets in the order of the names.
 /// Each reader gives the stream of the name at the same index. If the must-close flag at this index is set,
@@ -48,7 +46,7 @@ pub fn gather_plain<R: Feed>(
     ensures gathered { IsGathered max_bytes names.items (known_inputs R.contents flags.items readers.items) result }
     ensures never_out_of_memory { IfStreamFault result (λ number fault. fault ≢ OutOfMemory) }
 {
-    let mut buffer = vec![in alloc; 0u8; READ_BYTES]?;
+    let mut buffer = new_buffer(alloc)?;
     let mut table = new_table(alloc, HashKeys::fixed(), names)?;
     let readers = zip_flags(alloc, flags, readers)?;
     gather_into(alloc, &mut table, readers, max_bytes, buffer.as_mut_slice()).and(Ok(table))

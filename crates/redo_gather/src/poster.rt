@@ -57,7 +57,7 @@ impl<'a, T: Wait> EntrySink for Poster<'a, T> {
 fn new_batch(alloc: Global, bytes: usize) -> Result<Entries, AllocError>
     ensures { IfOk result (λ batch. batch ≡ []) }
 {
-    Entries::with_room(alloc, 64, bytes.saturating_add(bytes / 16))
+    Entries::with_capacity(alloc, 64, bytes.saturating_add(bytes / 16))
 }
 
 // Reads a chunk from the offset `from` on, until the batch has as many entries as an item may have, or enough bytes.

@@ -1,11 +1,15 @@
 //! Reads one stream, for every kind of gathering.
-ghost use Rattle.std.specs.Prelude.{◌≡◌, ◌≢◌, ◌≤◌, ◌^◌, ◌∷◌, [], ◌++◌, List, IfErr, OnOk, OnErr};
+ghost use Rattle.std.specs.Prelude.{◌≡◌, ◌≢◌, ◌≤◌, ◌^◌, ◌∷◌, [], ◌++◌, List, IfOk, IfErr, OnOk, OnErr, length};
 ghost use Rattle.redo_line.specs.declared.stream_fault.StreamFault.TheVariants.{OutOfMemory, Read};
 ghost use Rattle.redo_line.specs.declared.entry.Entry.{Entry as EntryValue};
 ghost use Rattle.redo_line.specs.Source.{source};
 ghost use Rattle.redo_gather.specs.Private.Reading.{AreChunksTaken, AreEntriesTaken, IsChunkTaken, IsRead};
 
 use redo_line::{Broken, Entry, Feed, Scan, StreamFault};
+use std::alloc::{AllocError, Global};
+
+// The maximum number of bytes of one read.
+const READ_BYTES: usize = 64 * 1024;
 
 /// Takes the entries of one stream, in order: into a list, or to a mailbox.
 pub trait EntrySink {
@@ -25,6 +29,13 @@ pub trait EntrySink {
         ensures unchanged_on_err { (before : Self) (earlier : List EntryValue) → has_taken before self.old earlier →
             OnErr result (has_taken before self.new earlier) }
         ensures only_out_of_memory { IfErr result (λ fault. fault ≡ OutOfMemory) };
+}
+
+/// Returns a buffer for one read.
+pub fn new_buffer(alloc: Global) -> Result<Vec<u8>, AllocError>
+    ensures { IfOk result (λ buffer. length buffer.items ≡ 2 ^ 16) }
+{
+    vec![in alloc; 0u8; READ_BYTES]
 }
 
 /// Reads a stream, up to its end or its fault, and gives its entries to a sink. Returns the fault. Without a buffer it

@@ -6,14 +6,11 @@ ghost use Rattle.redo_gather.specs.Sending.{AreExpected, AreWellSized, final_wha
 
 use crate::gate::Gate;
 use crate::poster::{Poster, post};
-use crate::reading::read_entries;
+use crate::reading::{new_buffer, read_entries};
 use redo_line::{Feed, Scan, StreamFault, TargetName};
 use redo_wire::{PostEnd, What};
 use std::alloc::Global;
 use std::sync::Wait;
-
-// The maximum number of bytes of one read.
-const READ_BYTES: usize = 64 * 1024;
 
 /// The streams of one sender, in order. Each has its number, the target of its log, its must-close flag (whether it
 /// must end with the closing record of this log), and its reader.
@@ -49,7 +46,8 @@ pub fn send<T: Wait, R: Feed, G: Gate>(
     ensures well_sized { AreWellSized (posted_since end result) }
 {
     let mut end = end;
-    let mut buffer = read_buffer(alloc);
+    // Without memory for a buffer, each stream gets an empty one, and the fault `OutOfMemory`.
+    let mut buffer = new_buffer(alloc).unwrap_or(Vec::new(alloc));
     let buf = buffer.as_mut_slice();
     for (stream, target, must_close, mut reader) in share {
         let before_read = |read_number| gate.before_read(rt, stream, read_number);
@@ -63,14 +61,6 @@ pub fn send<T: Wait, R: Feed, G: Gate>(
         end = send_stream(poster, scan, &mut reader, buf, &before_read);
     }
     end
-}
-
-// Returns a buffer for one read; an empty one if there is no memory.
-fn read_buffer(alloc: Global) -> Vec<u8> {
-    match vec![in alloc; 0u8; READ_BYTES] {
-        Ok(buffer) => buffer,
-        Err(_) => Vec::new(alloc),
-    }
 }
 
 // Posts a stream's entries, and its end or its fault. Returns the end.

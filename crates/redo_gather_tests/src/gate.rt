@@ -5,7 +5,7 @@ use std::sync::atomic::{AtomicU64, Ordering};
 use std::thread;
 
 /// How often a held thread yields before the gate gives up.
-const MAX_TURNS: u32 = 10_000_000;
+const MAX_YIELDS: u32 = 10_000_000;
 
 /// An event of which a gate is notified.
 #[derive(Clone, Copy, Debug, PartialEq, Eq)]
@@ -20,7 +20,7 @@ pub enum Event {
 pub struct Hold {
     held: Event,
     until: Event,
-    told: AtomicU64,
+    notified: AtomicU64,
     was_kept: AtomicU64,
 }
 
@@ -29,14 +29,14 @@ impl Hold {
         Hold {
             held,
             until,
-            told: AtomicU64::new(0),
+            notified: AtomicU64::new(0),
             was_kept: AtomicU64::new(0),
         }
     }
 
     /// Waits for the other event if `event` is the held one.
     fn keep(&self, event: Event) {
-        if self.held == event && comes_in_time(&self.told, 1) {
+        if self.held == event && comes_in_time(&self.notified, 1) {
             self.was_kept.fetch_add(1, Ordering::SeqCst);
         }
     }
@@ -44,7 +44,7 @@ impl Hold {
 
 /// Yields until a count has reached a number, and returns whether it has.
 pub(crate) fn comes_in_time(count: &AtomicU64, number: u64) -> bool {
-    for _ in 0..MAX_TURNS {
+    for _ in 0..MAX_YIELDS {
         if count.load(Ordering::SeqCst) >= number {
             return true;
         }
@@ -64,6 +64,28 @@ impl Holding {
         Holding { holds }
     }
 
+    /// Creates a gate that holds the first read of each of two streams until the first read of the other one.
+    pub fn of_first_reads() -> Holding {
+        let read = |stream| Event::BeforeRead {
+            stream,
+            read_number: 1,
+        };
+        Holding::new([Hold::new(read(0), read(1)), Hold::new(read(1), read(0))])
+    }
+
+    /// Creates a gate that holds the second read of each of two streams until the first entry of the other one was taken.
+    pub fn of_second_reads() -> Holding {
+        let read = |stream| Event::BeforeRead {
+            stream,
+            read_number: 2,
+        };
+        let taken = |stream| Event::Taken {
+            stream,
+            entry_number: 1,
+        };
+        Holding::new([Hold::new(read(0), taken(1)), Hold::new(read(1), taken(0))])
+    }
+
     /// Returns whether each hold held a thread once and didn't give up.
     pub fn kept_all(&self) -> bool {
         self.holds
@@ -71,10 +93,10 @@ impl Holding {
             .all(|hold| hold.was_kept.load(Ordering::SeqCst) == 1)
     }
 
-    fn tell(&self, event: Event) {
+    fn notify(&self, event: Event) {
         for hold in &self.holds {
             if hold.until == event {
-                hold.told.store(1, Ordering::SeqCst);
+                hold.notified.store(1, Ordering::SeqCst);
             }
         }
         for hold in &self.holds {
@@ -85,20 +107,20 @@ impl Holding {
 
 impl Gate for Holding {
     fn before_read<R: Wait>(&self, _rt: &R, stream: u32, read_number: u64) {
-        self.tell(Event::BeforeRead {
+        self.notify(Event::BeforeRead {
             stream,
             read_number,
         });
     }
 
     fn taken<R: Wait>(&self, _rt: &R, stream: u32, entry_number: u64) {
-        self.tell(Event::Taken {
+        self.notify(Event::Taken {
             stream,
             entry_number,
         });
     }
 
     fn over<R: Wait>(&self, _rt: &R, stream: u32) {
-        self.tell(Event::Over { stream });
+        self.notify(Event::Over { stream });
     }
 }

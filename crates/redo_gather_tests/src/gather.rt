@@ -17,13 +17,13 @@ use std::thread::Threads;
 /// The text form of the logs of streams, or their fault.
 type Want<'a> = Result<&'a str, GatherFault>;
 
-fn expect_answer(
+fn expect_outcome(
     rt: &(impl Abort + AllocGlobal),
-    answer: &Result<LogTable, GatherFault>,
+    outcome: &Result<LogTable, GatherFault>,
     want: Want<'_>,
     message: &str,
 ) -> Result<(), Fail> {
-    match answer {
+    match outcome {
         Ok(table) => expect_logs(rt, table, want, message),
         Err(fault) => {
             expect_same(rt, Err(*fault), want, message);
@@ -71,21 +71,21 @@ fn expect_so(
     way: Way,
     want: Want<'_>,
 ) -> Result<(), Fail> {
-    let answer = gathered_so(rt, given, cut, max_bytes, way, &Free)?;
-    expect_answer_so(rt, &answer, given, cut, way, want)
+    let outcome = gathered_so(rt, given, cut, max_bytes, way, &Free)?;
+    expect_outcome_so(rt, &outcome, given, cut, way, want)
 }
 
 /// Does the same for a result. If it is another one, the message names the streams, the cut and the way.
-fn expect_answer_so(
+fn expect_outcome_so(
     rt: &(impl Abort + AllocGlobal),
-    answer: &Result<LogTable, GatherFault>,
+    outcome: &Result<LogTable, GatherFault>,
     given: &[Given<'_>],
     cut: Cut,
     way: Way,
     want: Want<'_>,
 ) -> Result<(), Fail> {
     let message = format!(in rt.alloc(); "{given:?} {cut:?} {way:?}")?;
-    expect_answer(rt, answer, want, &message)
+    expect_outcome(rt, outcome, want, &message)
 }
 
 /// Gathers the streams, cut into reads.
@@ -281,8 +281,8 @@ fn expect_counted_reads(
     way: Way,
     want: Want<'_>,
 ) -> Result<(), Fail> {
-    let answer = gathered_of_answers(rt, &["all"], answers, last, &[count], way)?;
-    expect_answer(rt, &answer, want, "so many reads")
+    let outcome = gathered_of_answers(rt, &["all"], answers, last, &[count], way)?;
+    expect_outcome(rt, &outcome, want, "so many reads")
 }
 
 fn expect_count(rt: &impl Abort, count: &AtomicU64, want: u64) {
@@ -363,8 +363,8 @@ fn fault_of_failures(
     way: Way,
 ) -> Result<Option<GatherFault>, Fail> {
     let counts = [first, second];
-    let answer = gathered_of_answers(rt, &["a", "b"], &[], Answer::Failure, &counts, way)?;
-    Ok(answer.err())
+    let outcome = gathered_of_answers(rt, &["a", "b"], &[], Answer::Failure, &counts, way)?;
+    Ok(outcome.err())
 }
 
 #[test]
@@ -393,8 +393,8 @@ fn expect_many(
     way: Way,
     logs: &str,
 ) -> Result<(), Fail> {
-    let answer = many_gathered(rt, 200, way, &Free)?;
-    expect_answer(rt, &answer, Ok(logs), "200 streams")
+    let outcome = many_gathered(rt, 200, way, &Free)?;
+    expect_outcome(rt, &outcome, Ok(logs), "200 streams")
 }
 
 /// Gathers `count` streams of one line each.
@@ -461,10 +461,9 @@ const PAIR_LOGS: &str = "p: Ended\ntext|p1\ntext|p2\nq: Ended\ntext|q1\ntext|q2\
 /// Checks that two senders gather these streams, a line in each read, and that each hold of the gate is kept.
 fn expect_held(
     rt: &(impl Abort + AllocGlobal + Threads + Wait + Sync),
-    holds: [Hold; 2],
+    gate: &Holding,
 ) -> Result<(), Fail> {
-    let gate = Holding::new(holds);
-    expect_under(rt, &PAIR, &gate, Ok(PAIR_LOGS))?;
+    expect_under(rt, &PAIR, gate, Ok(PAIR_LOGS))?;
     assert!(rt; gate.kept_all());
     Ok(())
 }
@@ -476,39 +475,20 @@ fn expect_under(
     gate: &Holding,
     want: Want<'_>,
 ) -> Result<(), Fail> {
-    let answer = gathered_so(rt, given, Cut::InReadsOf(3), 1000, Way::Senders(2, 1), gate)?;
-    expect_answer(rt, &answer, want, "with holds")
+    let outcome = gathered_so(rt, given, Cut::InReadsOf(3), 1000, Way::Senders(2, 1), gate)?;
+    expect_outcome(rt, &outcome, want, "with holds")
 }
 
 #[test]
 fn senders_read_concurrently(rt: HostRuntime) -> Result<(), Fail> {
-    let first = Event::BeforeRead {
-        stream: 0,
-        read_number: 1,
-    };
-    let second = Event::BeforeRead {
-        stream: 1,
-        read_number: 1,
-    };
-    expect_held(&rt, [Hold::new(first, second), Hold::new(second, first)])
+    expect_held(&rt, &Holding::of_first_reads())
 }
 
 // Each sender reads its second line only after the other's first one was taken. So both post a line before
 // they read again, and what they post is taken meanwhile.
 #[test]
 fn collector_takes_lines_between_reads(rt: HostRuntime) -> Result<(), Fail> {
-    let read = |stream| Event::BeforeRead {
-        stream,
-        read_number: 2,
-    };
-    let taken = |stream| Event::Taken {
-        stream,
-        entry_number: 1,
-    };
-    expect_held(
-        &rt,
-        [Hold::new(read(0), taken(1)), Hold::new(read(1), taken(0))],
-    )
+    expect_held(&rt, &Holding::of_second_reads())
 }
 
 #[test]
@@ -518,10 +498,8 @@ fn gate_sees_entries_before_end(rt: HostRuntime) -> Result<(), Fail> {
         stream: 0,
         entry_number,
     };
-    expect_held(
-        &rt,
-        [Hold::new(over, taken(2)), Hold::new(taken(2), taken(1))],
-    )
+    let gate = Holding::new([Hold::new(over, taken(2)), Hold::new(taken(2), taken(1))]);
+    expect_held(&rt, &gate)
 }
 
 // The second stream is over before the first one is read.

@@ -38,7 +38,7 @@ pub fn gathered<R: Feed>(
     readers: Vec<R>,
     max_bytes: u64,
 ) -> Result<Result<LogTable, GatherFault>, Fail>
-    ensures ended { IfOk result (λ answer. IfOk answer (λ table. list_all has_ended table ≡ true)) }
+    ensures ended { IfOk result (λ outcome. IfOk outcome (λ table. list_all has_ended table ≡ true)) }
 {
     let names = names_of(alloc, targets)?;
     if readers.len() != names.len() {
@@ -47,8 +47,8 @@ pub fn gathered<R: Feed>(
     if max_bytes < 1 || max_bytes > 1 << 40 {
         return Err("no such limit".into());
     }
-    let marks = no_marks(alloc, names.len())?;
-    Ok(gather_plain(alloc, names, marks, readers, max_bytes))
+    let flags = unset_flags(alloc, names.len())?;
+    Ok(gather_plain(alloc, names, flags, readers, max_bytes))
 }
 
 /// Does the same, in this way.
@@ -69,14 +69,14 @@ pub fn gathered_by<T: AllocGlobal + Threads + Wait + Sync, R: Feed + Send, G: Ga
         return Err("not a reader for each name".into());
     }
     let plan = Plan::new(senders, capacity, max_bytes)?;
-    let marks = no_marks(alloc, names.len())?;
+    let flags = unset_flags(alloc, names.len())?;
     let keys = HashKeys::fixed();
-    Ok(gather(rt, alloc, keys, names, marks, readers, &plan, gate))
+    Ok(gather(rt, alloc, keys, names, flags, readers, &plan, gate))
 }
 
 /// Returns `count` must-close flags that aren't set: the streams may end with any line.
-fn no_marks(alloc: Global, count: usize) -> Result<Vec<bool>, AllocError>
-    ensures { IfOk result (λ marks. length marks.items ≡ count) }
+fn unset_flags(alloc: Global, count: usize) -> Result<Vec<bool>, AllocError>
+    ensures { IfOk result (λ flags. length flags.items ≡ count) }
 {
     vec![in alloc; false; count]
 }

@@ -15,15 +15,7 @@ fn tell_first_reads<R: Threads + Wait + Sync, G: Gate>(rt: &R, gate: &G) {
 
 #[test]
 fn gate_holds_thread_until_event(rt: HostRuntime) {
-    let first = Event::BeforeRead {
-        stream: 0,
-        read_number: 1,
-    };
-    let second = Event::BeforeRead {
-        stream: 1,
-        read_number: 1,
-    };
-    let gate = Holding::new([Hold::new(first, second), Hold::new(second, first)]);
+    let gate = Holding::of_first_reads();
     tell_first_reads(&rt, &gate);
     assert!(rt; gate.kept_all());
 }

@@ -1,5 +1,5 @@
 //! What senders post for the streams of their shares.
-use crate::gate::{Event, Hold, Holding};
+use crate::gate::Holding;
 use crate::sent::sent;
 use redo_gather::{Free, Share};
 use redo_line::{Pieces, TargetName};
@@ -43,14 +43,14 @@ fn expect_items(
     sender: u32,
     want: &[&str],
 ) -> Result<(), Fail> {
-    let mut place = 0usize;
+    let mut position = 0usize;
     for item in taken {
         if item.sender == sender {
-            expect_item(rt, item, want.get(place).copied())?;
-            place = place.saturating_add(1);
+            expect_item(rt, item, want.get(position).copied())?;
+            position = position.saturating_add(1);
         }
     }
-    assert_eq!(rt; place, want.len());
+    assert_eq!(rt; position, want.len());
     Ok(())
 }
 
@@ -202,15 +202,7 @@ fn expect_mentions(
 // Each sender reads its second line only after the first line of the other one was taken.
 #[test]
 fn senders_post_before_next_read(rt: HostRuntime) -> Result<(), Fail> {
-    let read = |stream| Event::BeforeRead {
-        stream,
-        read_number: 2,
-    };
-    let taken = |stream| Event::Taken {
-        stream,
-        entry_number: 1,
-    };
-    let gate = Holding::new([Hold::new(read(0), taken(1)), Hold::new(read(1), taken(0))]);
+    let gate = Holding::of_second_reads();
     expect_pair(&rt, &gate)?;
     assert!(rt; gate.kept_all());
     Ok(())

@@ -18,17 +18,17 @@ use std::fmt::Debug;
 use std::process::Abort;
 use std::test::Fail;
 
-/// Views the logs with a writer for `room` bytes, and returns the result and what the writer holds.
+/// Views the logs with a writer for `capacity` bytes, and returns the result and what the writer holds.
 fn viewed(
     alloc: Global,
     given: &[Given],
     options: &Options,
     asked: &[&str],
-    room: usize,
+    capacity: usize,
     per_call: usize,
 ) -> Result<(Result<(), ViewFault>, Vec<u8>), Fail> {
     let table = logs_of(alloc, given)?;
-    written(alloc, &table, options, asked, room, per_call)
+    written(alloc, &table, options, asked, capacity, per_call)
 }
 
 /// Does the same for a table.
@@ -37,15 +37,15 @@ fn written(
     table: &LogTable,
     options: &Options,
     asked: &[&str],
-    room: usize,
+    capacity: usize,
     per_call: usize,
 ) -> Result<(Result<(), ViewFault>, Vec<u8>), Fail>
     requires { list_all has_ended table.now ≡ true }
 {
     let asked = resolved(alloc, asked)?;
-    let mut out = Taker::new(alloc, room, per_call)?;
-    let answer = view(alloc, table, options, &asked, &mut out);
-    Ok((answer, out.bytes().to_vec(alloc)?))
+    let mut out = Taker::new(alloc, capacity, per_call)?;
+    let outcome = view(alloc, table, options, &asked, &mut out);
+    Ok((outcome, out.bytes().to_vec(alloc)?))
 }
 
 fn logs_of(alloc: Global, given: &[Given]) -> Result<LogTable, Fail>
@@ -59,7 +59,7 @@ fn gathered_logs(
     alloc: Global,
     given: &[redo_test_support::Given<'_>],
 ) -> Result<Result<LogTable, GatherFault>, Fail>
-    ensures { IfOk result (λ answer. IfOk answer (λ table. list_all has_ended table ≡ true)) }
+    ensures { IfOk result (λ outcome. IfOk outcome (λ table. list_all has_ended table ≡ true)) }
 {
     let (targets, readers) = captured(alloc, given, Cut::InReadsOf(1))?;
     gathered(alloc, &targets, readers, MAX_BYTES)
@@ -83,20 +83,20 @@ fn expect(rt: &(impl Abort + AllocGlobal), cases: &[Case]) -> Result<(), Fail> {
 
 fn expect_case(rt: &(impl Abort + AllocGlobal), case: &Case) -> Result<(), Fail> {
     let (given, options, asked, text) = case;
-    let (answer, written) = viewed(rt.alloc(), given, options, asked, 1000, 1000)?;
-    expect_answer(rt, answer, Ok(()), given);
+    let (outcome, written) = viewed(rt.alloc(), given, options, asked, 1000, 1000)?;
+    expect_outcome(rt, outcome, Ok(()), given);
     expect_written(rt, &written, text.as_bytes(), given);
     Ok(())
 }
 
 /// Checks the result of a view.
-fn expect_answer(
+fn expect_outcome(
     rt: &impl Abort,
-    answer: Result<(), ViewFault>,
+    outcome: Result<(), ViewFault>,
     want: Result<(), ViewFault>,
     about: &impl Debug,
 ) {
-    assert_eq!(rt; answer, want, "{about:?}");
+    assert_eq!(rt; outcome, want, "{about:?}");
 }
 
 /// Checks which bytes of the text are written.
@@ -169,31 +169,37 @@ fn expect_unknown(
     place: usize,
 ) -> Result<(), Fail> {
     let given = [("all", "hello\n")];
-    let (answer, written) = viewed(rt.alloc(), &given, &PLAIN, asked, 1000, 1000)?;
-    expect_answer(rt, answer, Err(ViewFault::Unknown { place }), &asked);
+    let (outcome, written) = viewed(rt.alloc(), &given, &PLAIN, asked, 1000, 1000)?;
+    expect_outcome(rt, outcome, Err(ViewFault::Unknown { place }), &asked);
     assert_eq!(rt; written.len(), 0, "{asked:?}");
     Ok(())
 }
 
-/// Checks what a writer for `room` bytes gets of the build's text.
+/// Checks what a writer for `capacity` bytes gets of the build's text.
 fn expect_build(
     rt: &(impl Abort + AllocGlobal),
-    room: usize,
+    capacity: usize,
     per_call: usize,
     want: Result<(), ViewFault>,
     text: &[u8],
 ) -> Result<(), Fail> {
-    let (answer, written) = viewed(rt.alloc(), &BUILD, &DEEP, &["all"], room, per_call)?;
-    expect_answer(rt, answer, want, &room);
-    expect_written(rt, &written, text, &room);
+    let (outcome, written) = viewed(rt.alloc(), &BUILD, &DEEP, &["all"], capacity, per_call)?;
+    expect_outcome(rt, outcome, want, &capacity);
+    expect_written(rt, &written, text, &capacity);
     Ok(())
 }
 
 #[test]
 fn failed_write_leaves_prefix(rt: HostRuntime) -> Result<(), Fail> {
     let text = BUILD_TEXT.as_bytes();
-    for room in 0..text.len() {
-        expect_build(&rt, room, 1000, Err(ViewFault::Write), &text[..room])?;
+    for capacity in 0..text.len() {
+        expect_build(
+            &rt,
+            capacity,
+            1000,
+            Err(ViewFault::Write),
+            &text[..capacity],
+        )?;
     }
     expect_build(&rt, text.len(), 3, Ok(()), text)?;
     expect_build(&rt, text.len(), 0, Err(ViewFault::Write), b"")

@@ -1,5 +1,5 @@
 -- What one step of a scan gives, by the line that was found in the bytes of a chunk within the limit.
-use Rattle.std.proofs.Common.{◌≡◌, ◌⊎◌, inl, inr, ℕ, zero, suc, ◌+◌, ◌-◌, ◌<◌, ◌≤◌, Bool, true, false, List, [], ◌∷◌, ◌++◌, None, Some, Result, Ok, Err, IfErr, IsErrAnd, length, map, get_or, nat_eq, take, drop, refl, sym, ◌∙◌, ap, subst, arith}
+use Rattle.std.proofs.Common.{◌≡◌, ◌⊎◌, inl, inr, ℕ, zero, suc, ◌+◌, ◌-◌, ◌<◌, ◌≤◌, Bool, true, false, List, [], ◌∷◌, ◌++◌, None, Some, length, map, get_or, nat_eq, take, drop, refl, sym, ◌∙◌, ap, subst, arith}
 use Rattle.std.specs.List.{AllByRecursion, slice_range, starts_with}
 use Rattle.std.proofs.lemmas.List.{append-nil, length-map, length-take, take_all, take-append-le, take-append-drop, take-take}
 use Rattle.std.proofs.Math.Seq.{take-nil}

@@ -57,8 +57,8 @@ pub struct Entries {
     places: Vec<EntryAt>,
     // The number of entries. An element of `places` may have several.
     count: usize,
-    // The number of bytes for which the first text reserves room.
-    room: usize,
+    // The capacity that the first text reserves in `bytes`.
+    initial_capacity: usize,
 }
 
 /// The buffers of consecutive entries.
@@ -95,12 +95,12 @@ impl Entries {
             names: Vec::new(alloc),
             places: Vec::new(alloc),
             count: 0,
-            room: 0,
+            initial_capacity: 0,
         }
     }
 
-    /// Creates an empty list with room for `entries` entries. Its first text reserves room for `bytes` bytes.
-    pub fn with_room(alloc: Global, entries: usize, bytes: usize) -> Result<Entries, AllocError>
+    /// Creates an empty list with capacity for `entries` entries. Its first text reserves capacity for `bytes` bytes.
+    pub fn with_capacity(alloc: Global, entries: usize, bytes: usize) -> Result<Entries, AllocError>
         ensures { IfOk result (λ run. run ≡ []) }
     {
         Ok(Entries {
@@ -108,7 +108,7 @@ impl Entries {
             names: Vec::new(alloc),
             places: Vec::with_capacity(alloc, entries)?,
             count: 0,
-            room: bytes,
+            initial_capacity: bytes,
         })
     }
 
@@ -189,7 +189,7 @@ impl Entries {
         ensures pushed { OnOk result (self.new ≡ self.old ++ map Text (ended lines.now)) }
         ensures unchanged_on_err { OnErr result (self.new ≡ self.old) }
     {
-        let (start, end) = put_with_room(&mut self.bytes, self.room, lines)?;
+        let (start, end) = put_with_capacity(&mut self.bytes, self.initial_capacity, lines)?;
         self.places.push(EntryAt::Texts {
             lines: count,
             start,
@@ -204,7 +204,7 @@ impl Entries {
         ensures pushed { OnOk result (self.new ≡ self.old ++ Text line.now ∷ []) }
         ensures unchanged_on_err { OnErr result (self.new ≡ self.old) }
     {
-        let (start, _) = put_with_room(&mut self.bytes, self.room, line)?;
+        let (start, _) = put_with_capacity(&mut self.bytes, self.initial_capacity, line)?;
         let (_, end) = put(&mut self.bytes, b"\n")?;
         self.places.push(EntryAt::Texts {
             lines: 1,
@@ -215,14 +215,14 @@ impl Entries {
         Ok(())
     }
 
-    // Appends a text line. If it is the first text and exceeds the room to reserve, its memory becomes the buffer,
+    // Appends a text line. If it is the first text and exceeds the initial capacity, its memory becomes the buffer,
     // without a copy.
     fn push_joined(&mut self, line: Vec<u8>) -> Result<(), AllocError>
         requires { HasNoLineFeed line.items }
         ensures pushed { OnOk result (self.new ≡ self.old ++ Text line.items ∷ []) }
         ensures unchanged_on_err { OnErr result (self.new ≡ self.old) }
     {
-        if !exceeds_initial_room(&self.bytes, self.room, line.len()) {
+        if !exceeds_initial_capacity(&self.bytes, self.initial_capacity, line.len()) {
             return self.push_text(&line);
         }
         self.bytes = line;
@@ -358,17 +358,17 @@ fn copy_at(alloc: Global, bytes: &[u8], names: &[u8], place: EntryAt) -> Result<
     }
 }
 
-// Returns whether there are no bytes yet, and `count` bytes with a line feed would exceed the room to reserve.
-fn exceeds_initial_room(bytes: &Vec<u8>, room: usize, count: usize) -> bool
+// Returns whether there are no bytes yet, and `count` bytes with a line feed would exceed the initial capacity.
+fn exceeds_initial_capacity(bytes: &Vec<u8>, capacity: usize, count: usize) -> bool
     ensures { result ≡ true → bytes.now.items ≡ [] }
 {
-    bytes.is_empty() && room <= count
+    bytes.is_empty() && capacity <= count
 }
 
-// Appends bytes, and returns where they begin and end. The first bytes reserve room for `room` bytes.
-fn put_with_room(
+// Appends bytes, and returns where they begin and end. The first bytes reserve capacity for `capacity` bytes.
+fn put_with_capacity(
     bytes: &mut Vec<u8>,
-    room: usize,
+    capacity: usize,
     more: &[u8],
 ) -> Result<(usize, usize), AllocError>
     ensures start { IfOk result (λ span. span.0 ≡ length bytes.old.items) }
@@ -377,7 +377,7 @@ fn put_with_room(
     ensures unchanged_on_err { OnErr result (bytes.new.items ≡ bytes.old.items) }
 {
     if bytes.is_empty() {
-        bytes.reserve(room)?;
+        bytes.reserve(capacity)?;
     }
     put(bytes, more)
 }

@@ -9,24 +9,24 @@ use crate::line::has_record_prefix;
 const LINEAR_SEARCH_BYTES: usize = 8;
 
 // Returns the number of bytes of the first text lines, with their line feeds, and the number of these lines. They are
-// the ended lines before the first one that begins with the record prefix, and at most `most`.
-pub fn text_lines(bytes: &[u8], most: u16) -> (usize, u16)
+// the ended lines before the first one that begins with the record prefix, and at most `max_lines`.
+pub fn text_lines(bytes: &[u8], max_lines: u16) -> (usize, u16)
     ensures lines { AreTextLines (take result.0 bytes.now) result.1 }
     ensures range { result.0 ≤ length bytes.now }
-    ensures most { result.1 ≤ most }
+    ensures at_most { result.1 ≤ max_lines }
 {
-    let mut upto = 0;
+    let mut length = 0;
     let mut count = 0;
-    'lines: while count < most {
-        let left = &bytes[upto..];
-        if has_record_prefix(left) {
+    'lines: while count < max_lines {
+        let rest = &bytes[length..];
+        if has_record_prefix(rest) {
             break 'lines;
         }
-        let Some(at) = find_near(LINEAR_SEARCH_BYTES, b'\n', left) else {
+        let Some(at) = find_near(LINEAR_SEARCH_BYTES, b'\n', rest) else {
             break 'lines;
         };
-        upto += at + 1;
+        length += at + 1;
         count += 1;
     }
-    (upto, count)
+    (length, count)
 }

@@ -65,46 +65,46 @@ impl Progress {
     }
 
     // Consumes the bytes of a chunk from the offset `from` up to the end of the first line, or of several text lines, at
-    // most `most`. Appends their entries to `entries` and returns the offset after them. If no line ends, consumes the rest
-    // of the chunk and returns `None`. After an error the state is unspecified, and `entries` are unchanged.
+    // most `max_lines`. Appends their entries to `entries` and returns the offset after them. If no line ends, consumes the
+    // rest of the chunk and returns `None`. After an error the state is unspecified, and `entries` are unchanged.
     pub fn advance(
         &mut self,
         chunk: &[u8],
         from: usize,
-        most: u16,
+        max_lines: u16,
         entries: &mut Entries,
     ) -> Result<Option<usize>, StreamFault>
         requires from { from ≤ length chunk.now }
-        requires most { 1 ≤ most }
+        requires max_lines { 1 ≤ max_lines }
         requires limit { self.old.max_bytes ≤ 2 ^ 40 }
         requires after { (before : List ℕ) × IsAfter self.old before }
-        ensures { Advances self.old self.new chunk.now from most entries.old entries.new result }
+        ensures { Advances self.old self.new chunk.now from max_lines entries.old entries.new result }
     {
-        let left = &chunk[from..];
-        let (length, count) = self.leading_text_lines(left, most);
+        let rest = &chunk[from..];
+        let (length, count) = self.leading_text_lines(rest, max_lines);
         if count == 0 {
             return self.advance_one_line(chunk, from, entries);
         }
-        entries.push_lines(&left[..length], count)?;
+        entries.push_lines(&rest[..length], count)?;
         self.taken += length as u64;
         self.lines += count as u64;
         Ok(Some(from + length))
     }
 
     // Returns the number of bytes of the text lines that can be consumed at once, and the number of these lines.
-    fn leading_text_lines(&self, left: &[u8], most: u16) -> (usize, u16)
+    fn leading_text_lines(&self, rest: &[u8], max_lines: u16) -> (usize, u16)
         requires { self.now.taken ≤ self.now.max_bytes }
-        ensures lines { AreTextLines (take result.0 left.now) result.1 }
-        ensures range { result.0 ≤ length left.now }
+        ensures lines { AreTextLines (take result.0 rest.now) result.1 }
+        ensures range { result.0 ≤ length rest.now }
         ensures in_limit { self.now.taken + result.0 ≤ self.now.max_bytes }
-        ensures most { result.1 ≤ most }
+        ensures at_most { result.1 ≤ max_lines }
         ensures no_partial_line { 0 < result.1 → self.now.kept ≡ [] }
         ensures not_closed { 0 < result.1 → self.now.closed ≡ false }
     {
         if self.closed || !self.start.is_empty() {
             return (0, 0);
         }
-        text_lines(limit_to(left, self.max_bytes - self.taken), most)
+        text_lines(limit_to(rest, self.max_bytes - self.taken), max_lines)
     }
 
     // Consumes the first line, of any kind, or all bytes if no line ends.
@@ -119,24 +119,24 @@ impl Progress {
         requires after { (before : List ℕ) × IsAfter self.old before }
         ensures { Advances self.old self.new chunk.now from 1 entries.old entries.new result }
     {
-        let left = &chunk[from..];
-        if let Some(fault) = self.first_byte_fault(left) {
+        let rest = &chunk[from..];
+        if let Some(fault) = self.first_byte_fault(rest) {
             return Err(fault);
         }
-        let allowed = limit_to(left, self.max_bytes - self.taken);
+        let allowed = limit_to(rest, self.max_bytes - self.taken);
         match self.start.next_line(allowed)? {
-            Some((line, upto)) => {
+            Some((line, length)) => {
                 let number = self.lines + 1;
                 self.closed = read_entry(entries, &mut self.names, &self.target, line, number)?;
-                self.taken += upto as u64;
+                self.taken += length as u64;
                 self.lines = number;
-                Ok(Some(from + upto))
+                Ok(Some(from + length))
             }
             None => {
-                if allowed.len() < left.len() {
+                if allowed.len() < rest.len() {
                     return Err(StreamFault::TooLong);
                 }
-                self.taken += left.len() as u64;
+                self.taken += rest.len() as u64;
                 Ok(None)
             }
         }
@@ -144,12 +144,12 @@ impl Progress {
 
     // Returns the fault that the first of these bytes has because of its position: it is past the limit, or after the line
     // that closes the log. This doesn't allocate.
-    fn first_byte_fault(&self, left: &[u8]) -> Option<StreamFault>
+    fn first_byte_fault(&self, rest: &[u8]) -> Option<StreamFault>
         requires taken { self.now.taken ≤ self.now.max_bytes }
         requires lines { self.now.lines + 1 < 2 ^ 64 }
-        ensures { result ≡ first_byte_fault self.now left.now }
+        ensures { result ≡ first_byte_fault self.now rest.now }
     {
-        if left.is_empty() {
+        if rest.is_empty() {
             None
         } else if self.taken == self.max_bytes {
             Some(StreamFault::TooLong)
@@ -177,14 +177,14 @@ impl Progress {
     }
 }
 
-// Returns the first `room` bytes, or all if there are fewer.
-fn limit_to(bytes: &[u8], room: u64) -> &[u8]
-    ensures { result.now ≡ take room bytes.now }
+// Returns the first `max_bytes` bytes, or all if there are fewer.
+fn limit_to(bytes: &[u8], max_bytes: u64) -> &[u8]
+    ensures { result.now ≡ take max_bytes bytes.now }
 {
-    if bytes.len() as u64 <= room {
+    if bytes.len() as u64 <= max_bytes {
         bytes
     } else {
-        &bytes[..room as usize]
+        &bytes[..max_bytes as usize]
     }
 }
 

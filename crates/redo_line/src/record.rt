@@ -44,10 +44,10 @@ pub fn read_fields(bytes: &[u8]) -> Option<Fields<'_>>
     ensures time { IfSome result (λ read. option_map (λ fields. fields.time) (spec.fields_of bytes.now) ≡ Some read.time.now) }
     ensures none { IfNone result (spec.fields_of bytes.now ≡ None) }
 {
-    let (kind, behind) = split_at_first(b':', bytes)?;
-    let (pid, behind) = split_at_first(b':', behind)?;
-    let (time, behind) = split_at_first(b'@', behind)?;
-    let text = behind.strip_prefix(b"@ ")?;
+    let (kind, rest) = split_at_first(b':', bytes)?;
+    let (pid, rest) = split_at_first(b':', rest)?;
+    let (time, rest) = split_at_first(b'@', rest)?;
+    let text = rest.strip_prefix(b"@ ")?;
     let number = read_pid(pid)?;
     if is_kind(kind) && is_time(time) {
         Some(Fields {

@@ -106,23 +106,23 @@ impl Scan {
         }
     }
 
-    /// Does the same as [`Scan::step`], but may consume several lines at once, at most `most`. Appends their entries to
+    /// Does the same as [`Scan::step`], but may consume several lines at once, at most `max_lines`. Appends their entries to
     /// `entries` and returns the offset after their line feeds, or `None` if no line ends. If it fails, `entries` are
     /// unchanged.
     pub fn step_into(
         &mut self,
         chunk: &[u8],
         from: usize,
-        most: u16,
+        max_lines: u16,
         entries: &mut Entries,
     ) -> Result<Option<usize>, StreamFault>
         requires from { from ≤ length chunk.now }
-        requires most { 1 ≤ most }
+        requires max_lines { 1 ≤ max_lines }
 
         // The bytes up to the offset end further lines without a fault, and their entries are appended.
-        ensures range { IfOk result (λ found. IfSome found (λ upto. (from < upto) × (upto ≤ length chunk.now))) }
-        ensures found { IfOk result (λ found. IfSome found (λ upto.
-            FindsEntries self.old self.new (slice_range chunk.now from upto) most entries.old entries.new)) }
+        ensures range { IfOk result (λ found. IfSome found (λ end_offset. (from < end_offset) × (end_offset ≤ length chunk.now))) }
+        ensures found { IfOk result (λ found. IfSome found (λ end_offset.
+            FindsEntries self.old self.new (slice_range chunk.now from end_offset) max_lines entries.old entries.new)) }
 
         // Otherwise the rest of the chunk is consumed. It ends no further line and has no fault.
         ensures rest_consumed { IfOk result (λ found. IfNone found (ConsumesAll self.old self.new (drop from chunk.now))) }
@@ -144,10 +144,10 @@ impl Scan {
         if let Some(fault) = self.failed_with {
             return Err(fault);
         }
-        match self.progress.advance(chunk, from, most, entries) {
-            Ok(Some(upto)) => {
-                self.history = History::extended(&self.history, &chunk[from..upto]);
-                Ok(Some(upto))
+        match self.progress.advance(chunk, from, max_lines, entries) {
+            Ok(Some(end_offset)) => {
+                self.history = History::extended(&self.history, &chunk[from..end_offset]);
+                Ok(Some(end_offset))
             }
             Ok(None) => {
                 self.history = History::extended(&self.history, &chunk[from..]);

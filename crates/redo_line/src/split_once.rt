@@ -6,14 +6,14 @@ use crate::find::find_near;
 // The number of bytes that are compared one by one. Most fields of records are shorter.
 const LINEAR_SEARCH_BYTES: usize = 16;
 
-/// Returns the bytes before and after the first byte `at`, if there is one. It searches the first bytes without starting
+/// Returns the bytes before and after the first separator, if there is one. It searches the first bytes without starting
 /// a vector search, because most fields of records are short.
-pub fn split_at_first(at: u8, bytes: &[u8]) -> Option<(&[u8], &[u8])>
-    ensures some { IfSome result (λ parts. split_once at bytes.now ≡ Some (parts.0.now, parts.1.now)) }
-    ensures none { IfNone result (split_once at bytes.now ≡ None) }
+pub fn split_at_first(separator: u8, bytes: &[u8]) -> Option<(&[u8], &[u8])>
+    ensures some { IfSome result (λ parts. split_once separator bytes.now ≡ Some (parts.0.now, parts.1.now)) }
+    ensures none { IfNone result (split_once separator bytes.now ≡ None) }
 {
-    match find_near(LINEAR_SEARCH_BYTES, at, bytes) {
-        Some(place) => Some((&bytes[..place], &bytes[place + 1..])),
+    match find_near(LINEAR_SEARCH_BYTES, separator, bytes) {
+        Some(position) => Some((&bytes[..position], &bytes[position + 1..])),
         None => None,
     }
 }

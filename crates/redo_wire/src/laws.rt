@@ -36,8 +36,8 @@ pub fn steps_exist()
     ensures posts { (capacity senders : ℕ) (item : Item) (before : State) → item.sender < senders → IsLive item.sender before →
         length before.queued < capacity → (after : State) × (after.queued ≡ before.queued ++ item ∷ []) ×
         (after.posted item.sender ≡ before.posted item.sender ++ item ∷ []) × IsStep capacity senders before after }
-    ensures takes { (capacity senders : ℕ) (item : Item) (behind : List Item) (before : State) → before.queued ≡ item ∷ behind →
-        (after : State) × (after.taken ≡ before.taken ++ item ∷ []) × (after.queued ≡ behind) × IsStep capacity senders before after }
+    ensures takes { (capacity senders : ℕ) (item : Item) (rest : List Item) (before : State) → before.queued ≡ item ∷ rest →
+        (after : State) × (after.taken ≡ before.taken ++ item ∷ []) × (after.queued ≡ rest) × IsStep capacity senders before after }
     ensures empty { (capacity senders : ℕ) (before : State) → before.queued ≡ [] → IsStep capacity senders before before }
     ensures meets { (capacity senders sender : ℕ) (before : State) → IsLive sender before →
         (after : State) × (after.met ≡ sender ∷ before.met) × IsStep capacity senders before after }

@@ -9,7 +9,7 @@ use Rattle.redo_command.proofs.names_file.read_names.Goals as goal
 pub reads-init : goal.reads-init
 reads-init g c =
     let known = g.R.Feed.contents c.args.reader.now in (
-      c.as_mut_slice-buf.ensures.len ∙ c.in_ok-room.ensures.len,
+      c.as_mut_slice-buf.ensures.len ∙ c.in_ok-buffer.ensures.len,
       subst (λ (b : List ℕ). length b ≤ byte_limit) (sym c.new-bytes.ensures.items) zero-le,
       subst (λ (b : List ℕ). Gave known b known) (sym c.new-bytes.ensures.items) (Gave-none known),
     )

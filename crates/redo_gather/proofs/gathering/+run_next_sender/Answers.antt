@@ -1,14 +1,30 @@
-use Rattle.std.proofs.Common.{◌≡◌, Bool, List, [], ◌∷◌, ◌++◌, map, sym, ap, ◌∙◌, subst}
+use Rattle.std.proofs.Common.{◌≡◌, ℕ, Bool, List, Option, [], ◌∷◌, ◌++◌, map, sym, ap, ◌∙◌, subst}
 use Rattle.std.specs.List.{AllByRecursion}
 use Rattle.std.proofs.lemmas.List.{map_push}
+use Rattle.redo_device.specs.Feed.{Stream}
 use Rattle.redo_logs.specs.Logs.{Log}
 use Rattle.redo_wire.specs.declared.item.Item.{Item}
 use Rattle.redo_wire.specs.Mailbox.{TakeEndState, PostEndState}
-use Rattle.redo_gather.specs.Private.Collecting.{StoresAllTaken, PostedExpected}
+use Rattle.redo_gather.specs.declared.collector.LogCollector.{LogCollector}
+use Rattle.redo_gather.specs.Private.Collecting.{Collects, StoresAllTaken, PostedExpected}
 use Rattle.redo_gather.specs.Private.Distribution.{AreReady}
 use Rattle.redo_gather.specs.Sending.{HasSent, numbered_source}
 use Rattle.redo_gather.proofs.ReadyLemmas.{all_but_last, last_expected, others_ready}
 use Rattle.redo_gather.proofs.gathering.+run_next_sender.Goals as goal
+
+-- What was collected if items were taken and no end was met.
+none_met : {A : Type 0} (contents : A → Option Stream) (max_bytes : ℕ) (ends : List PostEndState)
+    (shares : List (List (ℕ × List ℕ × Bool × A))) (before after : LogCollector)
+    → (after.take_end.mailbox ≡ before.take_end.mailbox) × (after.take_end.met ≡ before.take_end.met)
+    → ((names : List (List ℕ)) → StoresAllTaken names before.take_end.taken before.table before.out_of_memory
+    → StoresAllTaken names after.take_end.taken after.table after.out_of_memory)
+    → Collects contents max_bytes ends shares before after
+none_met contents max_bytes ends shares before after unchanged holds = record {
+  mailbox = unchanged.0;
+  holds = holds;
+  expected = λ given ready expected.
+      subst (AllByRecursion (PostedExpected max_bytes before.take_end.mailbox.senders given)) (sym unchanged.1) expected;
+}
 
 pub returns : goal.returns
 returns g t c =
@@ -32,33 +48,19 @@ returns g t c =
           (subst (λ es. AreReady contents senders given es (map (λ s. s.items) c.args.shares.items)) c.in-Some-Some.ensures.items ready) in
           let sent = subst (λ sender. HasSent sender.max_bytes
           (map (numbered_source contents) sender.share.items) sender.end c.join-end.result) c.in-Ok.ensures c.join-end.ensures in
-          subst (AllByRecursion (PostedExpected c.args.max_bytes senders given)) (sym (ap (λ (m : TakeEndState). m.met) met)) (
-            last_expected contents senders given ends end shares share.items all c.args.max_bytes c.join-end.result sent,
+          subst (AllByRecursion (PostedExpected c.args.context.now.max_bytes senders given)) (sym (ap (λ (m : TakeEndState). m.met) met)) (
+            last_expected contents senders given ends end shares share.items all c.args.context.now.max_bytes c.join-end.result sent,
             others.expected given (others_ready contents senders given ends end shares share.items all) expected,
           );
     }
 
 pub returns-in_default : goal.returns-in_default
-returns-in_default g t c =
-    let took = c.take.ensures in
-    let senders = c.args.collector.now.take_end.mailbox.senders in
-    record {
-      mailbox = took.unchanged.0;
-      holds = took.holds;
-      expected = λ given ready expected.
-          subst (AllByRecursion (PostedExpected c.args.max_bytes senders given)) (sym took.unchanged.1) expected;
-    }
+returns-in_default g t c = none_met g.R.Feed.contents _ _ _ _ _ c.take.ensures.unchanged c.take.ensures.holds
 
 pub returns-in_default-spawn_sender : goal.returns-in_default-spawn_sender
 returns-in_default-spawn_sender g t c =
     let took = c.take-in_default-spawn_sender.ensures in
-    let senders = c.args.collector.now.take_end.mailbox.senders in
-    record {
-      mailbox = took.unchanged.0;
-      holds = took.holds;
-      expected = λ given ready expected.
-          subst (AllByRecursion (PostedExpected c.args.max_bytes senders given)) (sym took.unchanged.1) expected;
-    }
+    none_met g.R.Feed.contents _ _ _ _ _ took.unchanged took.holds
 
 pub invariant_of-sender : goal.invariant_of-sender
 invariant_of-sender g t c = record { at_least = c.requires.limit.0; at_most = c.requires.limit.1 }

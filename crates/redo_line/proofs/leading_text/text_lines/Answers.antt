@@ -10,10 +10,10 @@ pub lines-preserved : goal.lines-preserved
 lines-preserved c =
     let kept = c.lines.invariant in
     let found = c.in-Some.ensures in
-    let left = take_rest c.args.bytes.now c.lines.upto in (
-      (let size = length-drop c.lines.upto c.args.bytes.now in let high = found.0.high in let all = ap length left in
+    let left = take_rest c.args.bytes.now c.lines.length in (
+      (let size = length-drop c.lines.length c.args.bytes.now in let high = found.0.high in let all = ap length left in
           omega (arith, kept.0, size, high, all)),
       (let more = c.lines-test.true in omega (arith, more)),
-      next_text c.args.bytes.now _ c.lines.upto c.lines.count c.in-Some.at kept.2 left found
+      next_text c.args.bytes.now _ c.lines.length c.lines.count c.in-Some.at kept.2 left found
           (sym c.has_record_prefix.ensures ∙ c.if-has_record_prefix.false),
     )

@@ -4,7 +4,7 @@ use Rattle.redo_line.proofs.leading_text.text_lines.Given as goal
 
 -- The text lines so far.
 abbrev pub invariant-lines : goal.invariant-lines
-invariant-lines l = (l.upto ≤ length l.bytes) × (l.count ≤ l.most) × AreTextLines (take l.upto l.bytes) l.count
+invariant-lines l = (l.length ≤ length l.bytes) × (l.count ≤ l.max_lines) × AreTextLines (take l.length l.bytes) l.count
 
 abbrev pub decreases-lines : goal.decreases-lines
-decreases-lines l = l.most - l.count
+decreases-lines l = l.max_lines - l.count

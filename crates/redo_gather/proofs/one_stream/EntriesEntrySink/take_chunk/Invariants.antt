@@ -1,4 +1,4 @@
-use Rattle.std.proofs.Common.{◌≡◌, ◌≤◌, ◌-◌, length}
+use Rattle.std.proofs.Common.{◌≤◌, ◌-◌, length}
 use Rattle.redo_gather.specs.Private.Reading.{IsRead, IsReadTo}
 use Rattle.redo_gather.proofs.one_stream.EntriesEntrySink.take_chunk.Given as goal
 

@@ -6,7 +6,7 @@ use Rattle.redo_line.specs.Scan.{consume}
 use Rattle.redo_gather.specs.Private.Reading.{IsRead, IsRefused}
 use Rattle.redo_gather.specs.Private.Posting.{HasPosted}
 use Rattle.redo_gather.specs.Sending.{entry_item}
-use Rattle.redo_gather.proofs.PostedLemmas.{entries_posted, lines_posted}
+use Rattle.redo_gather.proofs.PostedLemmas.{entries_posted}
 use Rattle.redo_gather.proofs.ReadingLemmas.{cut_in}
 use Rattle.redo_gather.proofs.poster.PosterEntrySink.take_chunk.Goals as goal
 

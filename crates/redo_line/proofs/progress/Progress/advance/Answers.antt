@@ -5,15 +5,15 @@ use Rattle.std.proofs.lemmas.Option.{none-some}
 use Rattle.std.proofs.lemmas.Result.{err_from_is_err_and}
 use Rattle.redo_line.specs.declared.entry.Entry.{Entry}
 use Rattle.redo_line.specs.declared.stream_fault.StreamFault.{StreamFault}
-use Rattle.redo_line.specs.Private.Progress.{Progress, Advances, FindsEntries, IsAfter}
+use Rattle.redo_line.specs.Private.Progress.{Progress, Advances, FindsEntries}
 use Rattle.redo_line.proofs.ScanLemmas.{next_lines_fit}
 use Rattle.redo_line.proofs.ScanSteps.{texts_at_once, texts_bytes, texts_count, texts_found}
 use Rattle.redo_line.proofs.progress.Progress.advance.Goals as goal
 
--- A step of one line is a step of at most `most` lines.
-at_most : (old new : Progress) (chunk : List ℕ) (from most : ℕ) (first all : List Entry) (result : Result (Option ℕ) StreamFault) → 1 ≤ most
-    → Advances old new chunk from 1 first all result → Advances old new chunk from most first all result
-at_most old new chunk from most first all result some one = record {
+-- A step of one line is a step of at most `max_lines` lines.
+at_most : (old new : Progress) (chunk : List ℕ) (from max_lines : ℕ) (first all : List Entry) (result : Result (Option ℕ) StreamFault)
+    → 1 ≤ max_lines → Advances old new chunk from 1 first all result → Advances old new chunk from max_lines first all result
+at_most old new chunk from max_lines first all result some one = record {
   range = one.range;
   found = λ before after. by before result (one.found before after);
   rest_consumed = one.rest_consumed;
@@ -27,7 +27,8 @@ at_most old new chunk from most first all result some one = record {
   where
     by : (before : List ℕ) (result : Result (Option ℕ) StreamFault)
         → IfOk result (λ found. IfSome found (λ end_offset. FindsEntries old new before (slice_range chunk from end_offset) 1 first all))
-        → IfOk result (λ found. IfSome found (λ end_offset. FindsEntries old new before (slice_range chunk from end_offset) most first all))
+        → IfOk result (λ found. IfSome found (λ end_offset.
+        FindsEntries old new before (slice_range chunk from end_offset) max_lines first all))
     by before (Ok (Some end_offset)) found =
         record {
           more = found.more;
@@ -41,7 +42,7 @@ at_most old new chunk from most first all result some one = record {
     by before (Err fault) found = tt
 
 pub returns-then-count-eq0 : goal.returns-then-count-eq0
-returns-then-count-eq0 c = at_most _ _ _ _ _ _ _ _ c.requires.most c.advance_one_line.ensures
+returns-then-count-eq0 c = at_most _ _ _ _ _ _ _ _ c.requires.max_lines c.advance_one_line.ensures
 
 pub returns-in_err-push_lines : goal.returns-in_err-push_lines
 returns-in_err-push_lines c =
@@ -68,7 +69,7 @@ returns-in_err-push_lines c =
 pub overflow_add-self-2 : goal.overflow_add-self-2
 overflow_add-self-2 c =
     next_lines_fit c.args.self.now _ c.self.view_is c.requires.after.0 c.requires.after.1 c.requires.limit
-    c.leading_text_lines-length.result.1 (omega (arith, c.leading_text_lines-length.ensures.most, c.ranges.most.fits))
+    c.leading_text_lines-length.result.1 (omega (arith, c.leading_text_lines-length.ensures.at_most, c.ranges.max_lines.fits))
 
 pub returns : goal.returns
 returns c =
@@ -89,7 +90,7 @@ returns c =
                 (take_rest c.args.chunk.now c.args.from) c.leading_text_lines-length.result.0 c.leading_text_lines-length.result.1
                 told.lines told.range told.in_limit some (told.no_partial_line some) (told.not_closed some);
             some = omega (arith, count, some);
-            few = omega (arith, count, told.most);
+            few = omega (arith, count, told.at_most);
             put = c.in_ok-push_lines.ensures.pushed;
           };
       rest_consumed = λ before after. tt;

@@ -1,9 +1,8 @@
-use Rattle.std.proofs.Common.{◌≡◌, ◌⊎◌, inl, inr, ℕ, ◌+◌, ◌-◌, ◌<◌, ◌≤◌, length-drop, List, [], ◌∷◌, None, Some, arith, rules, length, take, drop, refl, sym, ap, ◌∙◌}
+use Rattle.std.proofs.Common.{◌≡◌, inl, inr, ℕ, ◌+◌, ◌-◌, ◌<◌, ◌≤◌, length-drop, List, [], ◌∷◌, None, Some, arith, rules, length, take, drop, refl, sym, ap, ◌∙◌}
 use Rattle.std.proofs.lemmas.List.{length-take, take_rest}
 use Rattle.std.proofs.lemmas.Option.{none-some}
 use Rattle.std.proofs.lemmas.Result.{err_from_is_err_and}
 use Rattle.redo_line.specs.declared.stream_fault.StreamFault.{StreamFault}
-use Rattle.redo_line.specs.declared.stream_fault.StreamFault.TheVariants.{OutOfMemory}
 use Rattle.redo_line.specs.Private.CutLine.{line_bytes}
 use Rattle.redo_line.specs.Private.Progress.{Progress, FailsWith, first_byte_fault}
 use Rattle.redo_line.proofs.ScanLemmas.{next_lines_fit}
@@ -18,17 +17,17 @@ pub overflow_add-number : goal.overflow_add-number
 overflow_add-number c = next_lines_fit c.args.self.now _ c.self.view_is c.requires.after.0 c.requires.after.1 c.requires.limit 1
     (omega arith)
 
--- If the first byte of `left` has no fault by its position, the same byte of the chunk has none either.
+-- If the first byte of `rest` has no fault by its position, the same byte of the chunk has none either.
 none_at_once : (self : Progress) (chunk : List ℕ) (from : ℕ) (fault : StreamFault)
     → first_byte_fault self (take (length chunk - from) (drop from chunk)) ≡ None → first_byte_fault self (drop from chunk) ≡ Some fault → ⊥
 none_at_once self chunk from fault none first = none-some fault (sym none ∙ ap (first_byte_fault self) (take_rest chunk from) ∙ first)
 
 -- An offset in the allowed bytes, counted from the start of the chunk.
-in_chunk : (chunk allowed : List ℕ) (from upto room : ℕ) → allowed ≡ take room (take (length chunk - from) (drop from chunk))
-    → (0 < upto) × (upto ≤ length allowed)
-    → (from < from + upto) × (from + upto ≤ length chunk)
-in_chunk chunk allowed from upto room is range =
-    let size = ap length is ∙ length-take room (take (length chunk - from) (drop from chunk)) in
+in_chunk : (chunk allowed : List ℕ) (from count max_bytes : ℕ) → allowed ≡ take max_bytes (take (length chunk - from) (drop from chunk))
+    → (0 < count) × (count ≤ length allowed)
+    → (from < from + count) × (from + count ≤ length chunk)
+in_chunk chunk allowed from count max_bytes is range =
+    let size = ap length is ∙ length-take max_bytes (take (length chunk - from) (drop from chunk)) in
     let left = length-take (length chunk - from) (drop from chunk) in
     let some = range.0 in
     let few = range.1 in
@@ -86,7 +85,7 @@ returns-in_err-self-inside-in-Some-2 c =
           (FailsWith c.args.self.now before (drop c.args.from c.args.chunk.now)) c.in_err-self-inside-in-Some-2.ensures.fault
           (refuses_bad c.args.self.now _ c.self.view_is before after c.args.chunk.now _ allowed c.args.from
           (take_rest c.args.chunk.now c.args.from) c.limit_to-allowed.ensures
-          (sym c.first_byte_fault.ensures ∙ c.in_default.is) (line_bytes c.in-Some-2.line) c.in-Some-2.upto
+          (sym c.first_byte_fault.ensures ∙ c.in_default.is) (line_bytes c.in-Some-2.line) c.in-Some-2.length
           (rw c.in-Some-2.is at c.in_ok-line.ensures.range) (rw c.in-Some-2.is at c.in_ok-line.ensures.line));
       immediate = λ fault first. absurd (none_at_once c.args.self.now c.args.chunk.now c.args.from fault
           (sym c.first_byte_fault.ensures ∙ c.in_default.is) first);
@@ -100,13 +99,13 @@ returns-in_ok-self-inside-in-Some-2 c =
     let allowed = c.limit_to-allowed.result.now in
     let put = c.in_ok-self-inside-in-Some-2.ensures.put in
     record {
-      range = in_chunk c.args.chunk.now allowed c.args.from c.in-Some-2.upto _ c.limit_to-allowed.ensures
+      range = in_chunk c.args.chunk.now allowed c.args.from c.in-Some-2.length _ c.limit_to-allowed.ensures
           (rw c.in-Some-2.is at c.in_ok-line.ensures.range);
       found = λ before after. record {
         more = put.entry ∷ [];
         finds = line_found c.args.self.now _ c.self.view_is before after c.args.chunk.now _ allowed c.args.from
             (take_rest c.args.chunk.now c.args.from) c.limit_to-allowed.ensures
-            (sym c.first_byte_fault.ensures ∙ c.in_default.is) (line_bytes c.in-Some-2.line) c.in-Some-2.upto
+            (sym c.first_byte_fault.ensures ∙ c.in_default.is) (line_bytes c.in-Some-2.line) c.in-Some-2.length
             (rw c.in-Some-2.is at c.in_ok-line.ensures.range) (rw c.in-Some-2.is at c.in_ok-line.ensures.line)
             put.entry c.next_line.new.self c.in_ok-self-inside-in-Some-2.field-0 put.is
             (rw c.in-Some-2.is at c.in_ok-line.ensures.line_kept) put.closing_is;
@@ -124,8 +123,8 @@ returns-in_ok-self-inside-in-Some-2 c =
       max_bytes = search rules;
     }
 
-pub returns-then-allowed-left : goal.returns-then-allowed-left
-returns-then-allowed-left c =
+pub returns-then-allowed-rest : goal.returns-then-allowed-rest
+returns-then-allowed-rest c =
     let allowed = c.limit_to-allowed.result.now in
     record {
       range = tt;
@@ -136,7 +135,7 @@ returns-then-allowed-left c =
           inr (refuses_long c.args.self.now _ c.self.view_is before after c.args.chunk.now _ allowed c.args.from
           (take_rest c.args.chunk.now c.args.from) c.limit_to-allowed.ensures
           (sym c.first_byte_fault.ensures ∙ c.in_default.is) c.next_line.new.self
-          (rw c.in-None.is at c.in_ok-line.ensures.rest_consumed) c.if-allowed-left.true);
+          (rw c.in-None.is at c.in_ok-line.ensures.rest_consumed) c.if-allowed-rest.true);
       immediate = λ fault first. absurd (none_at_once c.args.self.now c.args.chunk.now c.args.from fault
           (sym c.first_byte_fault.ensures ∙ c.in_default.is) first);
       unchanged_on_err = refl;
@@ -144,8 +143,8 @@ returns-then-allowed-left c =
       max_bytes = search rules;
     }
 
-pub returns-else-allowed-left : goal.returns-else-allowed-left
-returns-else-allowed-left c =
+pub returns-else-allowed-rest : goal.returns-else-allowed-rest
+returns-else-allowed-rest c =
     let allowed = c.limit_to-allowed.result.now in
     record {
       range = tt;
@@ -154,7 +153,7 @@ returns-else-allowed-left c =
           all_taken c.args.self.now _ c.self.view_is before after c.args.chunk.now _ allowed c.args.from
           (take_rest c.args.chunk.now c.args.from) c.limit_to-allowed.ensures
           (sym c.first_byte_fault.ensures ∙ c.in_default.is) c.next_line.new.self
-          (rw c.in-None.is at c.in_ok-line.ensures.rest_consumed) c.if-allowed-left.false;
+          (rw c.in-None.is at c.in_ok-line.ensures.rest_consumed) c.if-allowed-rest.false;
       entries_unchanged = refl;
       fault = λ before after. tt;
       immediate = λ fault first. absurd (none_at_once c.args.self.now c.args.chunk.now c.args.from fault
