@@ -3,3 +3,4 @@ mod ChartRows
 mod LawLemmas
 mod LawRows
 mod RowLemmas
+mod LargeRows

@@ -23,7 +23,7 @@ use redo_view::FormFault;
 use std::alloc::Global;
 
 // The maximum number of lanes of each group.
-const MAX_PARENT_LANES: usize = 24;
+const MAX_CALLER_LANES: usize = 24;
 
 const MAX_RECIPE_LANES: usize = 96;
 
@@ -54,7 +54,7 @@ pub fn write_timeline<W: Sink>(
     ensures { FormWrites (W.written out.old) (W.written out.new)
         (part_html (ChartPart (timeline_drawing table.now nodes.now window callers.now recipes.now marks.now))) result }
 {
-    let callers = layout(alloc, window, MAX_PARENT_LANES, callers)?;
+    let callers = layout(alloc, window, MAX_CALLER_LANES, callers)?;
     let recipes = layout(alloc, window, MAX_RECIPE_LANES, recipes)?;
     let marks = layout(alloc, window, MAX_MARK_LANES, marks)?;
     write_laid_out(

@@ -7,3 +7,4 @@ mod SummaryRows
 mod TableLemmas
 mod TargetLemmas
 mod TimeLemmas
+mod LargeRows

@@ -7,3 +7,4 @@ mod NeedLemmas
 pub mod OrderLemmas
 mod TimelineLemmas
 mod TimelineRows
+mod LargeRows

@@ -12,3 +12,4 @@ mod TimeLemmas
 mod TimeRows
 mod TimesLaws
 mod TimesRows
+mod LargeRows

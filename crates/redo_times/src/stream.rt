@@ -1,6 +1,6 @@
 //! Reads the stream of one log.
-ghost use Rattle.std.specs.Prelude.{◌≡◌, ◌<◌, List, ◌++◌, length, OnOk};
-ghost use Rattle.redo_device.specs.Feed.{SomeStream};
+ghost use Rattle.std.specs.Prelude.{◌≡◌, ◌<◌, List, ◌++◌, [], IsOk, OnOk, Some, length};
+ghost use Rattle.redo_device.specs.Feed.{SomeStream, Stream};
 ghost use Rattle.redo_index.specs.Index.{listed_targets, IsIndex};
 ghost use Rattle.redo_times.specs.declared.report.Report.{Report};
 ghost use Rattle.redo_times.specs.Private.Tally.{AreTallies, AreTalliesOfStream};
@@ -13,7 +13,7 @@ use redo_line::TargetName;
 use std::alloc::{AllocError, Global};
 
 /// Adds what a log reports. It reads the stream up to its end, a failed read or its first `max_bytes` bytes, whichever
-/// comes first, and never more. `chunk` and `partial` are buffers for the bytes that are read; their contents don't
+/// comes first, and never more. None of these is an error. `chunk` and `partial` are buffers for the bytes that are read; their contents don't
 /// matter, before or afterwards.
 pub fn add_stream<R: Feed>(
     alloc: Global,
@@ -31,6 +31,7 @@ pub fn add_stream<R: Feed>(
     ensures tallies { (reports : List Report) → AreTallies (listed_targets index.now) reports tallies.old
         → OnOk result (SomeStream (R.contents reader.old) (λ stream.
         AreTalliesOfStream (listed_targets index.now) log.now reports max_bytes stream tallies.new)) }
+    ensures no_bytes { (stream : Stream) → R.contents reader.old ≡ Some stream → stream.bytes ≡ [] → IsOk result }
     ensures chunk { length chunk.new ≡ length chunk.old }
 {
     partial.clear();

@@ -6,3 +6,4 @@ mod LineLemmas
 mod MarkerLemmas
 mod TreeLemmas
 mod TrimRows
+mod LargeRows

@@ -54,8 +54,16 @@ early_dates =
     dates 1793404800 (codes "Sat, 31 Oct 2026 00:00:00 GMT") ∷
     dates 1795829211 (codes "Sat, 28 Nov 2026 01:26:51 GMT") ∷
     dates 2147483648 (codes "Tue, 19 Jan 2038 03:14:08 GMT") ∷
+    dates 2466565567 (codes "Sat, 29 Feb 2048 05:06:07 GMT") ∷
+    dates 3981311999 (codes "Tue, 28 Feb 2096 23:59:59 GMT") ∷
+    dates 3981312000 (codes "Wed, 29 Feb 2096 00:00:00 GMT") ∷
+    dates 3981398400 (codes "Thu, 01 Mar 2096 00:00:00 GMT") ∷
+    dates 4007836799 (codes "Mon, 31 Dec 2096 23:59:59 GMT") ∷
+    dates 4007836800 (codes "Tue, 01 Jan 2097 00:00:00 GMT") ∷
     dates 4107542399 (codes "Sun, 28 Feb 2100 23:59:59 GMT") ∷
     dates 4107542400 (codes "Mon, 01 Mar 2100 00:00:00 GMT") ∷
+    dates 7263215999 (codes "Fri, 28 Feb 2200 23:59:59 GMT") ∷
+    dates 7263216000 (codes "Sat, 01 Mar 2200 00:00:00 GMT") ∷
     dates 9999999999 (codes "Sat, 20 Nov 2286 17:46:39 GMT") ∷
     dates 10000000000 (codes "Sat, 20 Nov 2286 17:46:40 GMT") ∷
     dates 13574563200 (codes "Tue, 29 Feb 2400 00:00:00 GMT") ∷
@@ -101,7 +109,43 @@ these_dates = (
                                     refl,
                                     (
                                       refl,
-                                      (refl, (refl, (refl, (refl, (refl, (refl, (refl, (refl, (refl, (refl, (refl, (refl, tt)))))))))))),
+                                      (
+                                        refl,
+                                        (
+                                          refl,
+                                          (
+                                            refl,
+                                            (
+                                              refl,
+                                              (
+                                                refl,
+                                                (
+                                                  refl,
+                                                  (
+                                                    refl,
+                                                    (
+                                                      refl,
+                                                      (
+                                                        refl,
+                                                        (
+                                                          refl,
+                                                          (
+                                                            refl,
+                                                            (
+                                                              refl,
+                                                              (refl, (refl, (refl, (refl, (refl, (refl, (refl, (refl, tt)))))))),
+                                                            ),
+                                                          ),
+                                                        ),
+                                                      ),
+                                                    ),
+                                                  ),
+                                                ),
+                                              ),
+                                            ),
+                                          ),
+                                        ),
+                                      ),
                                     ),
                                   ),
                                 ),

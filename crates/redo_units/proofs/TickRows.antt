@@ -91,6 +91,18 @@ these_ticks = (
   ),
 )
 
+-- Ticks after the first day.
+abbrev late_ticks : List Row
+late_ticks =
+    shows 90061000 3600000 (codes "25:01 h") ∷
+    shows 604800000 86400000 (codes "168:00 h") ∷
+    shows 3600000000 86400000 (codes "1000:00 h") ∷
+    []
+
+these_late_ticks : AllByRecursion (λ row. tick_text row.ms row.step ≡ row.text) late_ticks
+unfolding tick_words decimal_text digits
+these_late_ticks = (refl, (refl, (refl, tt)))
+
 -- Each tick has six words, and some are empty.
 words :
     (tick_words 0 1 ≡ NumberWord 0 ∷ TextWord [] ∷ TextWord [] ∷ TextWord [] ∷ TextWord [] ∷ TextWord [] ∷ [])
@@ -194,10 +206,12 @@ other_widths =
     steps 12345 2000 ∷
     steps 100001 15000 ∷
     steps 17592186044415 17592186044415 ∷
+    steps 604800000 86400000 ∷
     steps 864000001 864000001 ∷
+    steps 6048000000 6048000000 ∷
     steps 18446744073709551615 18446744073709551615 ∷
     []
 
 those_steps : AllByRecursion (λ row. tick_step_of row.width ≡ row.step) other_widths
 unfolding tick_step_of
-those_steps = (refl, (refl, (refl, (refl, (refl, (refl, (refl, (refl, (refl, tt)))))))))
+those_steps = (refl, (refl, (refl, (refl, (refl, (refl, (refl, (refl, (refl, (refl, (refl, tt)))))))))))

@@ -45,7 +45,10 @@ durations =
     shows 3600000 (codes "1 h 00 min") ∷
     shows 3725000 (codes "1 h 02 min") ∷
     shows 86399999 (codes "23 h 59 min") ∷
+    shows 90000000 (codes "25 h 00 min") ∷
     shows 360000000 (codes "100 h 00 min") ∷
+    shows 604800000 (codes "168 h 00 min") ∷
+    shows 3603660000 (codes "1001 h 01 min") ∷
     shows 17592186044415 (codes "4886718 h 20 min") ∷
     shows 18446744073709551615 (codes "5124095576030 h 25 min") ∷
     []
@@ -58,7 +61,40 @@ these_durations = (
     refl,
     (
       refl,
-      (refl, (refl, (refl, (refl, (refl, (refl, (refl, (refl, (refl, (refl, (refl, (refl, (refl, (refl, (refl, tt))))))))))))))),
+      (
+        refl,
+        (
+          refl,
+          (
+            refl,
+            (
+              refl,
+              (
+                refl,
+                (
+                  refl,
+                  (
+                    refl,
+                    (
+                      refl,
+                      (
+                        refl,
+                        (
+                          refl,
+                          (
+                            refl,
+                            (refl, (refl, (refl, (refl, (refl, (refl, (refl, tt))))))),
+                          ),
+                        ),
+                      ),
+                    ),
+                  ),
+                ),
+              ),
+            ),
+          ),
+        ),
+      ),
     ),
   ),
 )
@@ -89,6 +125,7 @@ sizes =
     shows 999999999 (codes "999.9 MB") ∷
     shows 1000000000 (codes "1.0 GB") ∷
     shows 123456789012 (codes "123.4 GB") ∷
+    shows 1234567890123 (codes "1234.5 GB") ∷
     shows 18446744073709551615 (codes "18446744073.7 GB") ∷
     []
 
@@ -97,7 +134,52 @@ size_text bytes = words_text (size_words bytes)
 
 these_sizes : AllByRecursion (λ row. size_text row.number ≡ row.text) sizes
 unfolding size_words decimal_text digits
-these_sizes = (refl, (refl, (refl, (refl, (refl, (refl, (refl, (refl, (refl, (refl, (refl, (refl, (refl, (refl, (refl, tt)))))))))))))))
+these_sizes = (
+  refl,
+  (
+    refl,
+    (
+      refl,
+      (
+        refl,
+        (
+          refl,
+          (
+            refl,
+            (
+              refl,
+              (
+                refl,
+                (
+                  refl,
+                  (
+                    refl,
+                    (
+                      refl,
+                      (
+                        refl,
+                        (
+                          refl,
+                          (
+                            refl,
+                            (
+                              refl,
+                              (refl, tt),
+                            ),
+                          ),
+                        ),
+                      ),
+                    ),
+                  ),
+                ),
+              ),
+            ),
+          ),
+        ),
+      ),
+    ),
+  ),
+)
 
 abbrev tenths_text : ℕ → ℕ → List ℕ
 tenths_text amount per = words_text (tenths_words amount per)
@@ -105,10 +187,10 @@ tenths_text amount per = words_text (tenths_words amount per)
 -- The last two are of 2^64 / 10, of which the tenfold is at most 2^64 - 1, and of 2^64 - 1.
 quotients :
     (tenths_text 0 7 ≡ codes "0.0") × (tenths_text 5 2 ≡ codes "2.5") × (tenths_text 2 3 ≡ codes "0.6") × (tenths_text 40 10 ≡ codes "4.0")
-    × (tenths_text 123 1 ≡ codes "123.0")
+    × (tenths_text 123 1 ≡ codes "123.0") × (tenths_text 12345 10 ≡ codes "1234.5")
     × (tenths_text 7 0 ≡ codes "7.0") × (tenths_text 0 0 ≡ codes "0.0") × (tenths_text 1 18446744073709551615 ≡ codes "0.0")
     × (tenths_text 1844674407370955161 10 ≡ codes "184467440737095516.1")
     × (tenths_text 1844674407370955162 1 ≡ codes "1844674407370955161.5")
     × (tenths_text 18446744073709551615 18446744073709551615 ≡ codes "0.1")
 unfolding tenths_words decimal_text digits
-quotients = (refl, refl, refl, refl, refl, refl, refl, refl, refl, refl, refl)
+quotients = (refl, refl, refl, refl, refl, refl, refl, refl, refl, refl, refl, refl)

@@ -1,7 +1,7 @@
 -- Dates as HTTP writes them.
-use Rattle.std.specs.Prelude.{ℕ, zero, suc, ◌+◌, ◌-◌, ◌/◌, ◌%◌, true, false, nat_lt, List, Option, Some, None, if◌then◌else◌}
+use Rattle.std.specs.Prelude.{◌≡◌, ℕ, zero, suc, ◌+◌, ◌-◌, ◌/◌, ◌%◌, true, false, nat_lt, List, Option, Some, None, if◌then◌else◌}
 use Rattle.httpdate.specs.declared.parts.Parts.{Parts}
-use Rattle.httpdate.specs.Calendar.{days_in_month, days_in_year, weekday}
+use Rattle.httpdate.specs.Calendar.{IsCivilDate, IsTimeOfDay, days_from_civil, days_in_month, days_in_year, seconds_from_civil, weekday}
 use Rattle.httpdate.specs.Text.{imf_fixdate}
 
 -- Periods, such as years, have consecutive numbers, and `days_in` is the length of each. The period in which a day is, and how many days of the
@@ -38,3 +38,10 @@ date_parts secs =
 -- A date, from the seconds since 1970. The year 10000 begins after 253,402,300,800 seconds.
 unfoldable pub date_text_of : ℕ → Option (List ℕ)
 date_text_of secs = if nat_lt secs 253402300800 then Some (imf_fixdate (date_parts secs)) else None
+
+-- Whether these are the parts of the date and the time of day of a second, by the calendar alone.
+pub record IsDateOf (secs : ℕ) (parts : Parts) : Type 0 where
+  pub civil : IsCivilDate parts.year parts.mon parts.day
+  pub time : IsTimeOfDay parts.hour parts.min parts.sec
+  pub second : seconds_from_civil parts.year parts.mon parts.day parts.hour parts.min parts.sec ≡ secs
+  pub weekday_is : parts.wday ≡ weekday (days_from_civil parts.year parts.mon parts.day)

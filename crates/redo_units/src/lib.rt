@@ -6,12 +6,14 @@
 
 mod dates;
 mod durations;
+mod laws;
 mod sizes;
 mod ticks;
 mod words;
 
 pub use dates::date;
 pub use durations::duration;
+pub use laws::each_second_has_its_date;
 pub use sizes::{size, tenths};
 pub use ticks::{tick, tick_step};
 pub use words::{Word, push_words};

@@ -1,0 +1,74 @@
+-- Rows of long builds, of single targets, and of large sums.
+use Rattle.std.proofs.Common.{◌≡◌, ℕ, true, false, [], ◌∷◌, Option, None, Some, map, refl}
+use Rattle.redo_timeline.specs.declared.span.Span.{Span}
+use Rattle.redo_timeline.specs.declared.span.Window.{Window}
+use Rattle.redo_summary.specs.Callers.{callers_of}
+use Rattle.redo_summary.specs.Ranks.{duration, longest_of}
+use Rattle.redo_summary.specs.Summary.{facts_of, is_timed, total}
+use Rattle.redo_summary.specs.Targets.{only_time}
+use Rattle.redo_summary.specs.Window.{time_over, window_over}
+use Rattle.redo_summary.specs.declared.rank.Rank.{Rank}
+use Rattle.redo_summary.specs.declared.target.Target.{Target}
+
+abbrev span : ℕ → ℕ → ℕ → Span
+span position began ended = record { began = began; position = position; ended = ended; failed = false }
+
+-- A week, a thousand days, the longest time of 2001 to 2286, and times that are too long.
+long_times :
+    (time_over (1600000000000 ∷ 1600604800000 ∷ []) ≡ 604800000) × (time_over (1600000000000 ∷ 1686400000000 ∷ []) ≡ 86400000000)
+    × (time_over (9999999999999 ∷ 1000000000000 ∷ []) ≡ 8999999999999) × (time_over (0 ∷ 0xFFFFFFFFFFF ∷ []) ≡ 0xFFFFFFFFFFF)
+    × (time_over (0 ∷ 0x100000000000 ∷ []) ≡ 0xFFFFFFFFFFF)
+    × (map duration (span 0 0 604800000 ∷ span 1 1000000000000 9999999999999 ∷ []) ≡ 604800000 ∷ 8999999999999 ∷ [])
+long_times = (refl, refl, refl, refl, refl, refl)
+
+abbrev window : ℕ → ℕ → Option Window
+window began width = Some (record { began = began; width = width })
+
+-- A window is as wide as its times, but at least one millisecond.
+windows :
+    (window_over (5 ∷ []) ≡ window 5 1) × (window_over (6 ∷ 5 ∷ []) ≡ window 5 1) × (window_over (5 ∷ 7 ∷ []) ≡ window 5 2)
+    × (window_over (1600000000000 ∷ 1600604800000 ∷ []) ≡ window 1600000000000 604800000)
+windows = (refl, refl, refl, refl)
+
+sums : map (λ n. total (λ (m : ℕ). m) (n ∷ n ∷ [])) (5 ∷ 0x800000000000 ∷ 0x7FFFFFFFFFFFFFFF ∷ 0x8000000000000000 ∷ [])
+    ≡ 10 ∷ 0x1000000000000 ∷ 0xFFFFFFFFFFFFFFFE ∷ 0xFFFFFFFFFFFFFFFF ∷ []
+sums = refl
+
+-- ---- single targets
+
+abbrev target : ℕ → Option ℕ → Option ℕ → Option ℕ → Target
+target position parent began ended =
+    record { position = position; parent = parent; failed = false; times = record { began = began; ended = ended } }
+
+abbrev all : Target
+all = target 0 None (Some 100) (Some 900)
+
+abbrev lib : Target
+lib = target 1 (Some 0) (Some 200) (Some 800)
+
+abbrev object : Target
+object = target 2 (Some 1) (Some 300) (Some 400)
+
+-- A target at the first position may run others, and so may one that it ran.
+callers : callers_of (all ∷ lib ∷ object ∷ []) ≡ span 0 100 900 ∷ span 1 200 800 ∷ []
+callers = refl
+
+-- One recipe is enough for a timeline, and one caller with one recipe. Nothing, or a mark alone, isn't.
+timelines : map (λ targets. is_timed (facts_of [] targets))
+    ([] ∷ (target 0 None (Some 1) (Some 2) ∷ []) ∷ (all ∷ lib ∷ []) ∷ (target 0 None (Some 1) None ∷ []) ∷ [])
+    ≡ false ∷ true ∷ true ∷ false ∷ []
+timelines = refl
+
+-- A requested target of which only the start is known has a mark, and one of which only the end is known has none.
+marks : (only_time None (Some 5) None ≡ Some 5) × (only_time None None (Some 5) ≡ None) × (only_time (Some 0) None (Some 5) ≡ Some 5)
+    × (only_time (Some 0) (Some 5) None ≡ Some 5) × (only_time (Some 0) (Some 5) (Some 6) ≡ None)
+marks = (refl, refl, refl, refl, refl)
+
+-- Eleven recipes, of which the shortest is left out. The position of each row is the recipe's.
+abbrev rank : ℕ → ℕ → Rank
+rank value position = record { value = value; position = position }
+
+ranks : longest_of (span 0 0 11 ∷ span 1 0 10 ∷ span 2 0 9 ∷ span 3 0 8 ∷ span 4 0 7 ∷ span 5 0 1 ∷ span 6 0 6 ∷ span 7 0 5 ∷ span 8 0 4
+    ∷ span 9 0 3 ∷ span 10 0 604800000 ∷ [])
+    ≡ rank 604800000 10 ∷ rank 11 0 ∷ rank 10 1 ∷ rank 9 2 ∷ rank 8 3 ∷ rank 7 4 ∷ rank 6 6 ∷ rank 5 7 ∷ rank 4 8 ∷ rank 3 9 ∷ []
+ranks = refl
