@@ -13,11 +13,11 @@ use Rattle.redo_html.specs.declared.chart.GroupKind.TheVariants.{Axis, Callers, 
 use Rattle.redo_html.specs.Chart.{Attribute, Drawing, Layer, Node, Shape, chart_attributes, drawing_nodes, group_attributes, lanes_word, layer_nodes, meter_nodes, node_html, node_tokens, nodes_html, nodes_tokens, shape_nodes, tag_text}
 use Rattle.redo_html.specs.Chart.Node.{StartTag, EndTag, Words}
 use Rattle.redo_html.specs.Chart.Shape.{LineShape, TickShape, BarShape}
-use Rattle.redo_html.specs.Html.{Context, Step, Token, DataState, Normal, Rcdata, Rawtext, Svg, emit_tag, is_one_of, is_void, lost, nests_in, context_in, read_from, start_name, svg_elements, svg_end_tag, svg_start_tag, tag_of, tags_of}
+use Rattle.redo_html.specs.Html.{Context, Step, Token, DataState, Normal, Rcdata, Rawtext, Svg, are_distinct, emit_tag, emit_whole, is_empty, is_one_of, is_void, keeps_attributes, lost, nests_in, context_in, read_from, start_name, svg_elements, svg_start_tag, tag_of, tags_of}
 use Rattle.redo_html.specs.Html.Token.{Tag}
 use Rattle.redo_html.specs.Style.{plain_style}
 use Rattle.redo_html.proofs.Reading.{title_passage_reads, title_tags}
-use Rattle.redo_html.proofs.TagReading.{emitted, end_tag_read, is_attribute, is_element, is_first_byte, is_element_byte, is_value_byte, not_end, tag_name, tag_read}
+use Rattle.redo_html.proofs.TagReading.{element_attributes, emitted, end_tag_read, is_attribute, is_element, is_first_byte, is_element_byte, is_value_byte, names_of, not_end, tag_attributes, tag_name, tag_read}
 
 -- ---- the context after nodes
 
@@ -30,8 +30,12 @@ Leads context bytes tokens next = (behind : List ℕ)
 abbrev pub may_begin : List ℕ → List ℕ → Bool
 may_begin inner element = not (bytes_eq inner (codes "title")) && is_one_of element svg_elements
 
+-- Whether attributes can be read, each under a name of its own.
+abbrev pub are_attributes : List Attribute → Bool
+are_attributes attributes = list_all is_attribute attributes && are_distinct (names_of attributes)
+
 abbrev pub is_start : List ℕ → List Attribute → Bool
-is_start element attributes = is_element element && (not (is_void element) && list_all is_attribute attributes)
+is_start element attributes = is_element element && (not (is_void element) && are_attributes attributes)
 
 -- The context after a node, if it is well formed.
 abbrev pub next_context : Context → Node → Option Context
@@ -142,55 +146,75 @@ svg_start inner outer tag name is may =
     ap (λ (n : List ℕ). if may_begin inner n then (DataState (Svg n (inner ∷ outer)), Tag tag ∷ []) else lost) is
     ∙ cond-true (may_begin inner name) _ _ may
 
+keeps : (context : Context) (tag : List ℕ) → keeps_attributes tag ≡ true → emit_tag context tag ≡ emit_whole context tag
+keeps context tag is = cond-true (keeps_attributes tag) _ _ is
+
+start_keeps : (element : List ℕ) (attributes : List Attribute) → is_element element ≡ true → are_attributes attributes ≡ true
+    → keeps_attributes (tag_text element attributes) ≡ true
+start_keeps [] attributes is are = absurd (cc)
+start_keeps (byte ∷ element) attributes is are =
+    let slash = not_end byte (and_parts (is_first_byte byte) (list_all is_element_byte (byte ∷ element)) is).0 in
+    let parts = and_parts (list_all is_attribute attributes) (are_distinct (names_of attributes)) are in
+    rw slash (ap are_distinct (tag_attributes (byte ∷ element) attributes is parts.0) ∙ parts.1)
+
 start_in_svg : (inner : List ℕ) (outer : List (List ℕ)) (element : List ℕ) (attributes : List Attribute) → is_element element ≡ true
-    → may_begin inner element ≡ true
+    → are_attributes attributes ≡ true → may_begin inner element ≡ true
     → emit_tag (Svg inner outer) (tag_text element attributes)
     ≡ (DataState (Svg element (inner ∷ outer)), Tag (tag_text element attributes) ∷ [])
-start_in_svg inner outer [] attributes is may = absurd (cc)
-start_in_svg inner outer (byte ∷ element) attributes is may =
+start_in_svg inner outer [] attributes is are may = absurd (cc)
+start_in_svg inner outer (byte ∷ element) attributes is are may =
     let slash = not_end byte (and_parts (is_first_byte byte) (list_all is_element_byte (byte ∷ element)) is).0 in
-    rw slash (svg_start inner outer (tag_text (byte ∷ element) attributes) (byte ∷ element) (tag_name (byte ∷ element) attributes is) may)
+    keeps (Svg inner outer) (tag_text (byte ∷ element) attributes) (start_keeps (byte ∷ element) attributes is are)
+    ∙ rw slash (svg_start inner outer (tag_text (byte ∷ element) attributes) (byte ∷ element) (tag_name (byte ∷ element) attributes is) may)
 
 -- The start tag of an `svg` in HTML.
-start_of_svg : (attributes : List Attribute)
+start_of_svg : (attributes : List Attribute) → are_attributes attributes ≡ true
     → emit_tag Normal (tag_text (codes "svg") attributes) ≡ (DataState in_chart, Tag (tag_text (codes "svg") attributes) ∷ [])
-start_of_svg [] = refl
-start_of_svg (attribute ∷ attributes) = refl
+start_of_svg attributes are =
+    keeps Normal (tag_text (codes "svg") attributes) (start_keeps (codes "svg") attributes refl are) ∙ by attributes
+  where
+    by : (all : List Attribute)
+        → emit_whole Normal (tag_text (codes "svg") all) ≡ (DataState in_chart, Tag (tag_text (codes "svg") all) ∷ [])
+    by [] = refl
+    by (attribute ∷ all) = refl
 
-end_in_svg : (inner : List ℕ) (outer : List (List ℕ)) (element : List ℕ) → bytes_eq element inner ≡ true
-    → svg_end_tag inner outer element ≡ (DataState (context_in outer), Tag (47 ∷ element) ∷ [])
-end_in_svg inner outer element same = cond-true (bytes_eq element inner) _ _ same
+end_in_svg : (inner : List ℕ) (outer : List (List ℕ)) (element : List ℕ) → bytes_eq element inner ≡ true → is_element element ≡ true
+    → emit_tag (Svg inner outer) (47 ∷ element) ≡ (DataState (context_in outer), Tag (47 ∷ element) ∷ [])
+end_in_svg inner outer element same is =
+    keeps (Svg inner outer) (47 ∷ element) (ap is_empty (element_attributes element is)) ∙ cond-true (bytes_eq element inner) _ _ same
 
 node_leads : (context next : Context) (node : Node) → next_context context node ≡ Some next
     → Leads context (node_html node) (node_tokens node) next
 node_leads Normal next (StartTag element attributes) is behind =
     let well = some_if (bytes_eq element (codes "svg") && is_start element attributes) in_chart next is in
     let parts = and_parts (bytes_eq element (codes "svg")) (is_start element attributes) well.0 in
-    let attributes_are = (and_parts (not (is_void element)) (list_all is_attribute attributes)
+    let attributes_are = (and_parts (not (is_void element)) (are_attributes attributes)
     (and_parts (is_element element) _ parts.1).1).1 in
+    let each_is = (and_parts (list_all is_attribute attributes) (are_distinct (names_of attributes)) attributes_are).0 in
     subst (λ p. read_from (DataState Normal) (node_html (StartTag element attributes) ++ behind)
     ≡ Tag (tag_text element attributes) ∷ read_from (DataState p) behind) well.1
     (subst (λ (name : List ℕ). read_from (DataState Normal) (node_html (StartTag name attributes) ++ behind)
     ≡ Tag (tag_text name attributes) ∷ read_from (DataState in_chart) behind) (sym (same_bytes element (codes "svg") parts.0))
-    (tag_read Normal (codes "svg") attributes refl attributes_are behind
-    ∙ emits Normal in_chart (tag_text (codes "svg") attributes) behind (start_of_svg attributes)))
+    (tag_read Normal (codes "svg") attributes refl each_is behind
+    ∙ emits Normal in_chart (tag_text (codes "svg") attributes) behind (start_of_svg attributes attributes_are)))
 node_leads (Svg inner outer) next (StartTag element attributes) is behind =
     let well = some_if (may_begin inner element && is_start element attributes) (Svg element (inner ∷ outer)) next is in
     let parts = and_parts (may_begin inner element) (is_start element attributes) well.0 in
-    let start = and_parts (is_element element) (not (is_void element) && list_all is_attribute attributes) parts.1 in
-    let attributes_are = (and_parts (not (is_void element)) (list_all is_attribute attributes) start.1).1 in
+    let start = and_parts (is_element element) (not (is_void element) && are_attributes attributes) parts.1 in
+    let attributes_are = (and_parts (not (is_void element)) (are_attributes attributes) start.1).1 in
+    let each_is = (and_parts (list_all is_attribute attributes) (are_distinct (names_of attributes)) attributes_are).0 in
     subst (λ p. read_from (DataState (Svg inner outer)) (node_html (StartTag element attributes) ++ behind)
     ≡ Tag (tag_text element attributes) ∷ read_from (DataState p) behind) well.1
-    (tag_read (Svg inner outer) element attributes start.0 attributes_are behind
+    (tag_read (Svg inner outer) element attributes start.0 each_is behind
     ∙ emits (Svg inner outer) (Svg element (inner ∷ outer)) (tag_text element attributes) behind
-    (start_in_svg inner outer element attributes start.0 parts.0))
+    (start_in_svg inner outer element attributes start.0 attributes_are parts.0))
 node_leads (Svg inner outer) next (EndTag element) is behind =
     let well = some_if (bytes_eq element inner && is_element element) (context_in outer) next is in
     let parts = and_parts (bytes_eq element inner) (is_element element) well.0 in
     subst (λ p. read_from (DataState (Svg inner outer)) (node_html (EndTag element) ++ behind)
     ≡ Tag (47 ∷ element) ∷ read_from (DataState p) behind) well.1
     (end_tag_read (Svg inner outer) element parts.1 behind
-    ∙ emits (Svg inner outer) (context_in outer) (47 ∷ element) behind (end_in_svg inner outer element parts.0))
+    ∙ emits (Svg inner outer) (context_in outer) (47 ∷ element) behind (end_in_svg inner outer element parts.0 parts.1))
 node_leads (Svg inner outer) next (Words text) is behind =
     let same : Svg inner outer ≡ next = cc in
     subst (λ p. read_from (DataState (Svg inner outer)) (node_html (Words text) ++ behind)
@@ -238,9 +262,9 @@ start_nests : (element : List ℕ) (attributes : List Attribute) → is_start el
     → nests_in around (tag_text element attributes ∷ tags) ≡ nests_in (element ∷ around) tags
 start_nests [] attributes is around tags = absurd (cc)
 start_nests (byte ∷ bytes) attributes is around tags =
-    let start = and_parts (is_element (byte ∷ bytes)) (not (is_void (byte ∷ bytes)) && list_all is_attribute attributes) is in
+    let start = and_parts (is_element (byte ∷ bytes)) (not (is_void (byte ∷ bytes)) && are_attributes attributes) is in
     let slash = not_end byte (and_parts (is_first_byte byte) (list_all is_element_byte (byte ∷ bytes)) start.0).0 in
-    let void = not-true (is_void (byte ∷ bytes)) (and_parts (not (is_void (byte ∷ bytes))) (list_all is_attribute attributes) start.1).0 in
+    let void = not-true (is_void (byte ∷ bytes)) (and_parts (not (is_void (byte ∷ bytes))) (are_attributes attributes) start.1).0 in
     rw slash (ap (λ (name : List ℕ). if is_void name then nests_in around tags else nests_in (name ∷ around) tags)
     (tag_name (byte ∷ bytes) attributes start.0)
     ∙ ap (λ (v : Bool). if v then nests_in around tags else nests_in ((byte ∷ bytes) ∷ around) tags) void)
@@ -298,9 +322,10 @@ is_well_formed (Words text) = true
 start_well_formed : (element : List ℕ) (attributes : List Attribute) → is_start element attributes ≡ true
     → is_well_formed (StartTag element attributes) ≡ true
 start_well_formed element attributes is =
-    let start = and_parts (is_element element) (not (is_void element) && list_all is_attribute attributes) is in
+    let start = and_parts (is_element element) (not (is_void element) && are_attributes attributes) is in
+    let attributes_are = (and_parts (not (is_void element)) (are_attributes attributes) start.1).1 in
     and_from (is_element element) (list_all is_attribute attributes) start.0
-    (and_parts (not (is_void element)) (list_all is_attribute attributes) start.1).1
+    (and_parts (list_all is_attribute attributes) (are_distinct (names_of attributes)) attributes_are).0
 
 node_well_formed : (context next : Context) (node : Node) → next_context context node ≡ Some next → is_well_formed node ≡ true
 node_well_formed Normal next (StartTag element attributes) is =

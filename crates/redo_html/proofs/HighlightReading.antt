@@ -9,7 +9,7 @@ use Rattle.redo_html.specs.Html.Token.{Tag}
 use Rattle.redo_html.specs.Laws.{ReadsAs}
 use Rattle.redo_html.specs.Shown.{number_text}
 use Rattle.redo_html.specs.Tags.{markup_text, markup_html}
-use Rattle.redo_html.proofs.TagReading.{number_value, value_read}
+use Rattle.redo_html.proofs.TagReading.{names_after_number, number_value, value_read}
 
 -- ---- numbers in an attribute
 
@@ -72,10 +72,10 @@ markup_reads FailedLink behind = refl
 markup_reads SummaryLink behind = refl
 markup_reads TreeLink behind = refl
 markup_reads TimelineLink behind = refl
-markup_reads (TargetLink number) behind = numbered_reads (codes "a href=\"#t") number (λ rest. refl) refl behind
-markup_reads (OutputLink number) behind = numbered_reads (codes "a href=\"#f") number (λ rest. refl) refl behind
+markup_reads (TargetLink number) behind = numbered_reads (codes "a href=\"#t") number (λ rest. refl) (rw (names_after_number number) refl) behind
+markup_reads (OutputLink number) behind = numbered_reads (codes "a href=\"#f") number (λ rest. refl) (rw (names_after_number number) refl) behind
 markup_reads EndLink behind = refl
-markup_reads (Article number) behind = numbered_reads (codes "article id=\"f") number (λ rest. refl) refl behind
+markup_reads (Article number) behind = numbered_reads (codes "article id=\"f") number (λ rest. refl) (rw (names_after_number number) refl) behind
 markup_reads EndArticle behind = refl
 markup_reads Title3 behind = refl
 markup_reads EndTitle3 behind = refl
@@ -89,14 +89,14 @@ markup_reads Unordered behind = refl
 markup_reads Tree behind = refl
 markup_reads EndUnordered behind = refl
 markup_reads Ordered behind = refl
-markup_reads (OrderedFrom number) behind = numbered_reads (codes "ol class=\"list\" start=\"") number (λ rest. refl) refl behind
+markup_reads (OrderedFrom number) behind = numbered_reads (codes "ol class=\"list\" start=\"") number (λ rest. refl) (rw (names_after_number number) refl) behind
 markup_reads EndOrdered behind = refl
 markup_reads Item behind = refl
 markup_reads NoteItem behind = refl
-markup_reads (TargetItem number) behind = numbered_reads (codes "li id=\"t") number (λ rest. refl) refl behind
+markup_reads (TargetItem number) behind = numbered_reads (codes "li id=\"t") number (λ rest. refl) (rw (names_after_number number) refl) behind
 markup_reads EndItem behind = refl
-markup_reads (Details number) behind = numbered_reads (codes "details id=\"t") number (λ rest. refl) refl behind
-markup_reads (OpenDetails number) behind = numbered_reads (codes "details open id=\"t") number (λ rest. refl) refl behind
+markup_reads (Details number) behind = numbered_reads (codes "details id=\"t") number (λ rest. refl) (rw (names_after_number number) refl) behind
+markup_reads (OpenDetails number) behind = numbered_reads (codes "details open id=\"t") number (λ rest. refl) (rw (names_after_number number) refl) behind
 markup_reads QuietDetails behind = refl
 markup_reads MoreDetails behind = refl
 markup_reads EndDetails behind = refl

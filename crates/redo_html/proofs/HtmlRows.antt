@@ -32,8 +32,11 @@ read_rows =
     ∷ row (codes "<p class=\"a>b<i\" id=\"x\">") (tag (codes "p class=\"a>b<i\" id=\"x\""))
     ∷ row (codes "<details open id=\"t1\">") (tag (codes "details open id=\"t1\""))
     ∷ row (codes "<details open>") (tag (codes "details open"))
+    ∷ row (codes "<p a=\"b a c=\" ab=\"a\" b>") (tag (codes "p a=\"b a c=\" ab=\"a\" b"))
+    ∷ row (codes "<p p=\"p\">") (tag (codes "p p=\"p\""))
     ∷ row (codes "<meta http-equiv=\"a\">") (tag (codes "meta http-equiv=\"a\""))
     ∷ row (codes "<pre>\n\na</pre>") (tag (codes "pre") ++ text (codes "\na") ++ tag (codes "/pre"))
+    ∷ row (codes "<pre>\n\n\na") (tag (codes "pre") ++ text (codes "\n\na"))
     ∷ row (codes "<pre>a") (tag (codes "pre") ++ text (codes "a"))
     ∷ row (codes "<pre>") (tag (codes "pre"))
     ∷ row (codes "<pre><i>") (tag (codes "pre") ++ tag (codes "i"))
@@ -59,7 +62,40 @@ reads = (
         refl,
         (
           refl,
-          (refl, (refl, (refl, (refl, (refl, (refl, (refl, (refl, (refl, (refl, (refl, (refl, tt)))))))))))),
+          (
+            refl,
+            (
+              refl,
+              (
+                refl,
+                (
+                  refl,
+                  (
+                    refl,
+                    (
+                      refl,
+                      (
+                        refl,
+                        (
+                          refl,
+                          (
+                            refl,
+                            (
+                              refl,
+                              (
+                                refl,
+                                (refl, (refl, (refl, (refl, tt)))),
+                              ),
+                            ),
+                          ),
+                        ),
+                      ),
+                    ),
+                  ),
+                ),
+              ),
+            ),
+          ),
         ),
       ),
     ),
@@ -210,7 +246,19 @@ loses = (
                                                                                       refl,
                                                                                       (
                                                                                         refl,
-                                                                                        (refl, (refl, (refl, (refl, (refl, tt))))),
+                                                                                        (
+                                                                                          refl,
+                                                                                          (
+                                                                                            refl,
+                                                                                            (
+                                                                                              refl,
+                                                                                              (
+                                                                                                refl,
+                                                                                                (refl, tt),
+                                                                                              ),
+                                                                                            ),
+                                                                                          ),
+                                                                                        ),
                                                                                       ),
                                                                                     ),
                                                                                   ),
@@ -240,6 +288,80 @@ loses = (
                                   ),
                                 ),
                               ),
+                            ),
+                          ),
+                        ),
+                      ),
+                    ),
+                  ),
+                ),
+              ),
+            ),
+          ),
+        ),
+      ),
+    ),
+  ),
+)
+
+-- Elements that no page has; names and references that the model doesn't know; attributes that a browser drops.
+abbrev lost_tags : List Row
+lost_tags =
+    is_lost (codes "<noframes>x")
+    ∷ is_lost (codes "<noembed>x")
+    ∷ is_lost (codes "<template>x")
+    ∷ is_lost (codes "<select>x")
+    ∷ is_lost (codes "<wbr>x")
+    ∷ is_lost (codes "<p-p>")
+    ∷ is_lost (codes "</p-p>")
+    ∷ is_lost (codes "<p:p>")
+    ∷ is_lost (codes "<p a:b=\"c\">")
+    ∷ is_lost (codes "<p a.b=\"c\">")
+    ∷ is_lost (codes "&quot;")
+    ∷ is_lost (codes "&nbsp;")
+    ∷ is_lost (codes "<p a a>")
+    ∷ is_lost (codes "<p c a=\"b\" a>")
+    ∷ is_lost (codes "<p a=\"b\" a=\"c\">")
+    ∷ is_lost (codes "<p a=\"b\" c=\"d\" a>")
+    ∷ is_lost (codes "<details open class=\"s\" open=\"\">")
+    ∷ is_lost (codes "</p a>")
+    ∷ is_lost (codes "</p a=\"b\">")
+    ∷ row (codes "<title></title a>") (tag (codes "title") ++ Lost ∷ [])
+    ∷ row (codes "<title></title >") (tag (codes "title") ++ Lost ∷ [])
+    ∷ []
+
+loses_tags : AllByRecursion (λ r. read r.html ≡ r.tokens) lost_tags
+loses_tags = (
+  refl,
+  (
+    refl,
+    (
+      refl,
+      (
+        refl,
+        (
+          refl,
+          (
+            refl,
+            (
+              refl,
+              (
+                refl,
+                (
+                  refl,
+                  (
+                    refl,
+                    (
+                      refl,
+                      (
+                        refl,
+                        (
+                          refl,
+                          (
+                            refl,
+                            (
+                              refl,
+                              (refl, (refl, (refl, (refl, (refl, (refl, tt)))))),
                             ),
                           ),
                         ),
@@ -305,6 +427,9 @@ lost_svg_rows =
     ∷ row (codes "<svg></svg a=\"b\">") (tag (codes "svg") ++ Lost ∷ [])
     ∷ row (codes "<svg></title>") (tag (codes "svg") ++ Lost ∷ [])
     ∷ row (codes "<svg><a href=\"&lt;\">") (tag (codes "svg") ++ Lost ∷ [])
+    ∷ row (codes "<svg><font>") (tag (codes "svg") ++ Lost ∷ [])
+    ∷ row (codes "<svg><g a=\"b\" a=\"c\">") (tag (codes "svg") ++ Lost ∷ [])
+    ∷ row (codes "<svg><g></g a>") (tag (codes "svg") ++ tag (codes "g") ++ Lost ∷ [])
     ∷ row (codes "<svg><Rect>") (tag (codes "svg") ++ Lost ∷ [])
     ∷ row (codes "<svg>&copy;") (tag (codes "svg") ++ Lost ∷ [])
     ∷ row (codes "<svg><") (tag (codes "svg") ++ Lost ∷ [])
@@ -381,7 +506,19 @@ loses_svg = (
                                                     refl,
                                                     (
                                                       refl,
-                                                      (refl, (refl, (refl, (refl, (refl, (refl, (refl, (refl, (refl, tt))))))))),
+                                                      (
+                                                        refl,
+                                                        (
+                                                          refl,
+                                                          (
+                                                            refl,
+                                                            (
+                                                              refl,
+                                                              (refl, (refl, (refl, (refl, (refl, (refl, (refl, (refl, tt)))))))),
+                                                            ),
+                                                          ),
+                                                        ),
+                                                      ),
                                                     ),
                                                   ),
                                                 ),
@@ -411,7 +548,7 @@ loses_svg = (
 )
 
 -- Tags that nest, and tags that don't.
-nesting : (nests_in [] (codes "!doctype html" ∷ codes "p class=\"a\"" ∷ codes "b" ∷ codes "/b" ∷ codes "wbr" ∷ codes "/p" ∷ []) ≡ true)
+nesting : (nests_in [] (codes "!doctype html" ∷ codes "p class=\"a\"" ∷ codes "b" ∷ codes "/b" ∷ codes "meta charset=\"utf-8\"" ∷ codes "/p" ∷ []) ≡ true)
     × (nests_in [] (codes "p" ∷ []) ≡ false)
     × (nests_in [] (codes "/p" ∷ []) ≡ false) × (nests_in [] (codes "p" ∷ codes "b" ∷ codes "/p" ∷ codes "/b" ∷ []) ≡ false)
     × (nests_in [] ([] ∷ []) ≡ false) × (nests_in [] (codes "meta" ∷ codes "/meta" ∷ []) ≡ false)

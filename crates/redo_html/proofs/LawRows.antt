@@ -1,16 +1,19 @@
 -- Rows of what the laws cite: highlights, bytes, tokens, and how bytes are read. The values are worked out by hand.
-use Rattle.std.proofs.Common.{◌≡◌, true, false, [], ◌∷◌, ◌++◌, inl, inr, map, refl, sym, ◌∙◌}
+use Rattle.std.proofs.Common.{◌≡◌, ℕ, Bool, true, false, List, [], ◌∷◌, ◌++◌, inl, inr, map, refl, sym, ◌∙◌}
 use Rattle.std.proofs.lemmas.Bool.{false≢true}
 use Rattle.std.specs.Char.{encode_utf8}
 use Rattle.std.specs.Prelude.{codes}
 use Rattle.std.specs.Fmt.{digits}
 use Rattle.std.specs.List.{list_all, list_any}
 use Rattle.redo_html.specs.declared.text_kind.TextKind.TheVariants.{Log, Monochrome, Title}
+use Rattle.redo_html.specs.declared.style.Hue.{Hue}
+use Rattle.redo_html.specs.declared.style.Hue.TheVariants.{Plain, Red, Green, Yellow, Blue, Magenta, Cyan}
 use Rattle.redo_html.specs.Html.{tags_of, text_of}
 use Rattle.redo_html.specs.Html.Token.{Character, Tag, Lost}
-use Rattle.redo_html.specs.Laws.{IsChartTag, ReadsAs, is_byte, is_highlight, is_plain}
+use Rattle.redo_html.specs.Laws.{IsChartTag, ReadsAs, highlights, is_byte, is_highlight, is_plain}
 use Rattle.redo_html.specs.Lines.{is_no_escape}
-use Rattle.redo_html.specs.Passage.{passage_tokens}
+use Rattle.redo_html.specs.Passage.{highlight_text, passage_tokens}
+use Rattle.redo_html.specs.Passage.Inline.{UnprintableStart, UnprintableEnd, StyleStart, StyleEnd}
 use Rattle.redo_html.specs.Shown.{is_unprintable, number_text, unprintable_text, notation}
 use Rattle.redo_html.specs.Style.{plain_style}
 use Rattle.redo_html.specs.Symbols.{first_code_point, first_symbol, is_sequence, code_point_len, sequence_len, sequence_numbers, symbol_len, symbols_after}
@@ -19,17 +22,29 @@ use Rattle.redo_html.proofs.ChartTags.{no_script_in_chart}
 
 -- ---- highlights
 
--- An element for unprintable code points; one for bold text, with or without a hue; one for a hue.
-highlights :
+-- An element for unprintable code points; one for bold text, with or without a hue; one for a hue. There are no others.
+abbrev hues : List Hue
+hues = Red ∷ Green ∷ Yellow ∷ Blue ∷ Magenta ∷ Cyan ∷ []
+
+abbrev starts : Bool → List Hue → List (List ℕ)
+starts bold hues = map (λ (hue : Hue). highlight_text (StyleStart (record { bold = bold; hue = hue }))) hues
+
+all_highlights : highlights
+    ≡ highlight_text UnprintableStart ∷ highlight_text UnprintableEnd ∷ starts true (Plain ∷ hues)
+    ++ highlight_text (StyleEnd (record { bold = true; hue = Plain })) ∷ starts false hues
+    ++ highlight_text (StyleEnd (record { bold = false; hue = Red })) ∷ []
+all_highlights = refl
+
+are_highlights :
     list_all is_highlight (codes "i" ∷ codes "/i" ∷ codes "b" ∷ codes "b class=\"r\"" ∷ codes "b class=\"g\"" ∷ codes "b class=\"y\""
     ∷ codes "b class=\"b\"" ∷ codes "b class=\"m\"" ∷ codes "b class=\"c\"" ∷ codes "/b"
     ∷ codes "span class=\"r\"" ∷ codes "span class=\"g\"" ∷ codes "span class=\"y\"" ∷ codes "span class=\"b\"" ∷ codes "span class=\"m\""
     ∷ codes "span class=\"c\"" ∷ codes "/span" ∷ []) ≡ true
-highlights = refl
+are_highlights = refl
 
 -- Other elements, other attributes, other classes.
 no_highlights :
-    list_any is_highlight ([] ∷ codes "script" ∷ codes "/script" ∷ codes "style" ∷ codes "a href=\"x\"" ∷ codes "/a" ∷ codes "img src=\"x\""
+    list_any is_highlight ([] ∷ codes "script" ∷ codes "/script" ∷ codes "style" ∷ codes "a href=\"x\"" ∷ codes "/a" ∷ codes "img" ∷ codes "img src=\"x\""
     ∷ codes "p" ∷ codes "/p" ∷ codes "bdi" ∷ codes "/bdi" ∷ codes "/pre" ∷ codes "svg" ∷ codes "I"
     ∷ codes "i class=\"r\"" ∷ codes "b onclick=\"x\"" ∷ codes "b class=\"r\" onclick=\"x\"" ∷ codes "b class=\"x\"" ∷ codes "b class=\"w\""
     ∷ codes "span" ∷ codes "span class=\"x\"" ∷ codes "span class=\"w\"" ∷ codes "span style=\"x\"" ∷ []) ≡ false

@@ -18,6 +18,7 @@ mod Reading
 mod RepeatLemmas
 mod ShownRows
 mod StyleLemmas
+mod StyleRows
 mod SymbolLemmas
 mod TagReading
 mod TagRows

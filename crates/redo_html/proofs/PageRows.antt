@@ -1,9 +1,9 @@
 -- Rows of parts of a page, and the HTML of them.
 use Rattle.std.proofs.Common.{◌≡◌, ℕ, List, [], ◌∷◌, ◌++◌, map, take, refl}
 use Rattle.std.specs.Char.{encode_utf8}
-use Rattle.std.specs.Prelude.{codes, true}
+use Rattle.std.specs.Prelude.{codes, nat_lt, true}
 use Rattle.std.specs.Fmt.{digits}
-use Rattle.std.specs.List.{AllByRecursion, flat_map}
+use Rattle.std.specs.List.{AllByRecursion, flat_map, list_all}
 use Rattle.redo_html.specs.declared.markup.Markup.TheVariants.{TargetLink, EndLink, Article, OpenDetails, Policy, Pre, EndPre}
 use Rattle.redo_html.specs.declared.style.Hue.TheVariants.{Blue}
 use Rattle.redo_html.specs.Passage.{html_from}
@@ -12,7 +12,7 @@ use Rattle.redo_html.specs.declared.piece.Piece.TheVariants as piece
 use Rattle.redo_html.specs.Parts.Part.{MarkupPart, LogPart, TextPart, NumberPart, TitlePart, StylePart}
 use Rattle.redo_html.specs.Shown.{is_unprintable, notation, number_text, unprintable_text}
 use Rattle.redo_html.specs.Style.{plain_style}
-use Rattle.redo_html.specs.StyleSheet.{style_sheet}
+use Rattle.redo_html.specs.StyleSheet.{occurrences, style_sheet}
 use Rattle.redo_html.specs.Symbols.{first_code_point, code_point_len, sequence_len, sequence_numbers, is_sequence, first_symbol, symbol_len, symbols_after}
 
 record Row : Type 0 where
@@ -47,6 +47,15 @@ style_is_an_element = refl
 sheet_begins : take 5 style_sheet ≡ codes ":root"
 unfolding style_sheet
 sheet_begins = refl
+
+-- The colours of failures and of success: red and green.
+colours : list_all (λ word. nat_lt 0 (occurrences word style_sheet))
+    (codes "--bad:#c3212b;--good:#1a7f37;" ∷ codes "--r:#c3212b;--g:#1a7f37;" ∷ codes "background:var(--good)" ∷ codes ".bad .sign{background:var(--bad)}"
+    ∷ codes "border-left:4px solid var(--bad)" ∷ codes "color:var(--bg);background:var(--bad);" ∷ codes ".e rect.f,"
+    ∷ codes "rect.f{fill:#c62828}" ∷ codes ".r{color:var(--r)}.g{color:var(--g)}" ∷ codes "i{font-style:normal;color:var(--odd);"
+    ∷ codes "white-space:pre-wrap;overflow-wrap:anywhere;" ∷ []) ≡ true
+unfolding style_sheet
+colours = refl
 
 pieces_are_parts : map part_of (piece.Number 7 ∷ piece.Markup EndLink ∷ piece.StyleSheet ∷ [])
     ≡ NumberPart 7 ∷ MarkupPart EndLink ∷ StylePart ∷ []

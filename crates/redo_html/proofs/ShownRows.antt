@@ -43,6 +43,8 @@ shown_rows =
     row Monochrome ((127 ∷ 27 ∷ 27 ∷ []) ++ codes "[x" ++ (27 ∷ []) ++ codes "[3") (codes "^?^[^[[x^[[3") ∷
     row Log ((27 ∷ []) ++ codes "[3;1") (codes "^[[3;1") ∷
     row Log ((27 ∷ []) ++ codes "]0;t" ++ (7 ∷ [])) (codes "^[]0;t^G") ∷
+    row Log ((27 ∷ []) ++ codes "[0Ka" ++ (27 ∷ []) ++ codes "[2Kb" ++ (27 ∷ []) ++ codes "[1;2Kc") (codes "abc") ∷
+    row Log ((27 ∷ []) ++ codes "[4:3mx" ++ (27 ∷ []) ++ codes "[?7m" ++ (27 ∷ []) ++ codes "[1 m") (codes "^[[4:3mx^[[?7m^[[1 m") ∷
     row Monochrome ((226 ∷ 128 ∷ 152 ∷ 195 ∷ 164 ∷ 240 ∷ 159 ∷ 152 ∷ 128 ∷ 226 ∷ 128 ∷ 153 ∷ []))
     ((226 ∷ 128 ∷ 152 ∷ 195 ∷ 164 ∷ 240 ∷ 159 ∷ 152 ∷ 128 ∷ 226 ∷ 128 ∷ 153 ∷ [])) ∷
     row Monochrome ((226 ∷ 128 ∷ 174 ∷ 226 ∷ 128 ∷ 139 ∷ 239 ∷ 187 ∷ 191 ∷ 243 ∷ 160 ∷ 129 ∷ 129 ∷ 194 ∷ 133 ∷ []))
@@ -80,6 +82,10 @@ written_rows =
     row Monochrome ((127 ∷ 27 ∷ 27 ∷ []) ++ codes "[x" ++ (27 ∷ []) ++ codes "[3") (codes "<i>^?^[^[</i>[x<i>^[</i>[3") ∷
     row Log ((27 ∷ []) ++ codes "[3;1") (codes "<i>^[</i>[3;1") ∷
     row Log ((27 ∷ []) ++ codes "]0;t" ++ (7 ∷ [])) (codes "<i>^[</i>]0;t<i>^G</i>") ∷
+    row Log ((27 ∷ []) ++ codes "[31m" ++ (27 ∷ []) ++ codes "[98mr" ++ (27 ∷ []) ++ codes "[107mr" ++ (27 ∷ []) ++ codes "[0Kr")
+    (codes "<span class=\"r\">rrr</span>") ∷
+    row Log ((27 ∷ []) ++ codes "[35mm" ++ (27 ∷ []) ++ codes "[36mc" ++ (27 ∷ []) ++ codes "[34mb" ++ (27 ∷ []) ++ codes "[33my")
+    (codes "<span class=\"m\">m</span><span class=\"c\">c</span><span class=\"b\">b</span><span class=\"y\">y</span>") ∷
     row Monochrome ((226 ∷ 128 ∷ 152 ∷ 195 ∷ 164 ∷ 240 ∷ 159 ∷ 152 ∷ 128 ∷ 226 ∷ 128 ∷ 153 ∷ []))
     ((226 ∷ 128 ∷ 152 ∷ 195 ∷ 164 ∷ 240 ∷ 159 ∷ 152 ∷ 128 ∷ 226 ∷ 128 ∷ 153 ∷ [])) ∷
     row Monochrome ((226 ∷ 128 ∷ 174 ∷ 226 ∷ 128 ∷ 139 ∷ 239 ∷ 187 ∷ 191 ∷ 243 ∷ 160 ∷ 129 ∷ 129 ∷ 194 ∷ 133 ∷ []))
@@ -110,7 +116,25 @@ shown_are = (
                 refl,
                 (
                   refl,
-                  (refl, (refl, (refl, (refl, (refl, (refl, (refl, (refl, (refl, (refl, (refl, (refl, tt)))))))))))),
+                  (
+                    refl,
+                    (
+                      refl,
+                      (
+                        refl,
+                        (
+                          refl,
+                          (
+                            refl,
+                            (
+                              refl,
+                              (refl, (refl, (refl, (refl, (refl, (refl, (refl, (refl, tt)))))))),
+                            ),
+                          ),
+                        ),
+                      ),
+                    ),
+                  ),
                 ),
               ),
             ),
@@ -141,7 +165,25 @@ written_are = (
                 refl,
                 (
                   refl,
-                  (refl, (refl, (refl, (refl, (refl, (refl, (refl, (refl, (refl, (refl, (refl, (refl, tt)))))))))))),
+                  (
+                    refl,
+                    (
+                      refl,
+                      (
+                        refl,
+                        (
+                          refl,
+                          (
+                            refl,
+                            (
+                              refl,
+                              (refl, (refl, (refl, (refl, (refl, (refl, (refl, (refl, tt)))))))),
+                            ),
+                          ),
+                        ),
+                      ),
+                    ),
+                  ),
                 ),
               ),
             ),

@@ -3,7 +3,7 @@ use Rattle.std.proofs.Common.{◌≡◌, ℕ, zero, suc, ◌+◌, ◌-◌, ◌<�
 use Rattle.std.specs.Char.{encode_utf8}
 use Rattle.std.specs.Prelude.{◌==◌, ◌||◌, ◌&&◌, not, nat_lt, nat_le}
 use Rattle.std.specs.List.{list_all, list_any}
-use Rattle.std.proofs.lemmas.Bool.{agree_below_at, cases_lt, and_parts, and_left, and_right, and_from, cond-true, cond-false, eqb-true, eq-eqb, ne_eqb, ltb-true, lt-ltb, le-ltb, le-leb, lt-leb, or_left, or_from, or_cases, not-true}
+use Rattle.std.proofs.lemmas.Bool.{agree_below_at, cases_lt, and_parts, and_left, and_right, and_from, cond-true, cond-false, eqb-true, eq-eqb, ne_eqb, ltb-true, lt-ltb, le-ltb, le-leb, lt-leb, or_from, or_cases, not-true}
 use Rattle.std.proofs.lemmas.Bool.Decides.{nat_tests}
 use Rattle.std.proofs.lemmas.List.{get_or_past, take_at, take_rest, take-append-drop, drop_more}
 use Rattle.std.proofs.lemmas.List.Folds.{list_any-append, list_any_more}
@@ -13,7 +13,7 @@ use Rattle.bstr.proofs.lemmas.SoundLemmas.{SpellsChar-decoded}
 use Rattle.redo_html.specs.declared.text_kind.TextKind.{TextKind}
 use Rattle.redo_html.specs.Passage.{escaped_byte}
 use Rattle.redo_html.specs.Laws.{is_plain}
-use Rattle.redo_html.specs.Shown.{is_unprintable, is_control, is_between, unseen_ranges, Run, with_code_point, runs_of}
+use Rattle.redo_html.specs.Shown.{is_unprintable, is_between, unseen_ranges, Run, with_code_point, runs_of}
 use Rattle.redo_html.specs.Shown.Run.{CodePoints, Restyle}
 use Rattle.redo_html.specs.Symbols.{Symbol, code_point_of, size_of, first_code_point, code_point_len, begins_sequence, final_byte, parameter_count, sequence_len, numbers_from, sequence_numbers, has_colours, is_sequence, first_symbol, symbol_len, symbols_after, symbols}
 use Rattle.redo_html.specs.Symbols.Symbol.{CodePoint, Sequence}
@@ -306,20 +306,11 @@ module _ (kind : TextKind) (bytes : List ℕ) where
 
 -- ---- unprintable code points
 
-pub control_unprintable : (code_point : ℕ) → is_control code_point ≡ true → is_unprintable code_point ≡ true
-unfolding is_unprintable
-control_unprintable code_point is = or_left (is_control code_point) (list_any (is_between code_point) unseen_ranges) is
-
-pub unseen_unprintable : (code_point : ℕ) → is_control code_point ≡ false
-    → is_unprintable code_point ≡ list_any (is_between code_point) unseen_ranges
-unfolding is_unprintable
-unseen_unprintable code_point is = ap (λ (control : Bool). control || list_any (is_between code_point) unseen_ranges) is
-
 -- The ranges are in order: each begins after the end of those before it.
 in_order : (i : ℕ) → i < length unseen_ranges
     → list_all (λ range. nat_lt (get_or unseen_ranges i (0, 0)).1 range.0) (drop (i + 1) unseen_ranges) ≡ true
 in_order i below = agree_below_at (λ k. list_all (λ range. nat_lt (get_or unseen_ranges k (0, 0)).1 range.0) (drop (k + 1) unseen_ranges))
-    (λ k. true) 18 i refl below
+    (λ k. true) 21 i refl below
 
 none_after : (code_point last : ℕ) (ranges : List (ℕ × ℕ)) → code_point ≤ last → list_all (λ range. nat_lt last range.0) ranges ≡ true
     → list_any (is_between code_point) ranges ≡ false

@@ -1,12 +1,12 @@
 -- How a tag with attributes is read: its name, the names of its attributes, and their values.
-use Rattle.std.proofs.Common.{◌≡◌, ℕ, ◌+◌, ◌/◌, ◌%◌, Bool, true, false, List, [], ◌∷◌, ◌++◌, refl, sym, ◌∙◌, ap, arith}
+use Rattle.std.proofs.Common.{◌≡◌, ℕ, ◌+◌, ◌/◌, ◌%◌, Bool, true, false, List, [], ◌∷◌, ◌++◌, ◌<◌, map, refl, sym, ◌∙◌, ap, arith, ⊎_elim}
 use Rattle.std.specs.Prelude.{◌==◌, ◌||◌, ◌&&◌, not, nat_lt, nat_le, codes}
 use Rattle.std.specs.List.{flat_map, list_all}
-use Rattle.std.proofs.lemmas.Bool.{agree_below_at, and_parts, and_from, leb-true, lt-ltb, ne_eqb, not-true, or_parts}
+use Rattle.std.proofs.lemmas.Bool.{agree_below_at, and_parts, and_from, leb-true, lt-ltb, ltb-true, ne_eqb, not-true, or_cases, or_parts}
 use Rattle.std.proofs.lemmas.List.{append_assoc, append-nil}
 use Rattle.redo_html.specs.Chart.{Attribute, Value, attribute_text, last_digit, percent_text, tag_text, value_text}
 use Rattle.redo_html.specs.Chart.Value.{Fixed, Number, Percent}
-use Rattle.redo_html.specs.Html.{Context, State, Token, AfterAttributeValue, AttributeName, AttributeValue, BeforeAttributeName, EndTagOpen, TagName, TagOpen, emit_tag, is_digit, is_lower_letter, read_from, start_name}
+use Rattle.redo_html.specs.Html.{Context, State, Token, AfterAttributeValue, AttributeName, AttributeValue, BeforeAttributeName, EndTagOpen, TagName, TagOpen, attribute_name, attribute_names, attribute_names_in, emit_tag, is_digit, is_lower_letter, read_from, start_name}
 use Rattle.redo_html.specs.Shown.{number_text}
 use Rattle.redo_html.proofs.TextReading.{all_append, all_weaker, number_digits}
 
@@ -269,6 +269,100 @@ tag_name element attributes is = name_before_attributes element (element_bytes e
 pub not_end : (byte : ℕ) → is_first_byte byte ≡ true → (byte == 47) ≡ false
 not_end byte is = (or_parts (byte == 47) (byte == 33)
     (not-true _ (and_parts (not (byte == 47 || byte == 33)) (is_lower_letter byte) is).0)).0
+
+-- ---- names of attributes
+
+-- A byte that doesn't end the name of an attribute, and doesn't begin one.
+abbrev pub continues_name : ℕ → Bool
+continues_name byte = not (byte == 34) && not (byte == 32 || byte == 61)
+
+-- Each low byte with the first property has the second one, if all bytes below 128 show it.
+low_implies : (p q : ℕ → Bool) (byte : ℕ) → is_low byte ≡ true → ((b : ℕ) → b < 128 → (not (p b) || q b) ≡ true) → p byte ≡ true
+    → q byte ≡ true
+low_implies p q byte low all is =
+    ⊎_elim (λ no. absurd (let e : true ≡ false = sym is ∙ not-true (p byte) no in cc)) (λ yes. yes)
+    (or_cases (not (p byte)) (q byte) (all byte (ltb-true byte 128 low)))
+
+name_continues : (byte : ℕ) → is_name_byte byte ≡ true → continues_name byte ≡ true
+name_continues byte is =
+    low_implies is_name_byte continues_name byte (and_parts (is_low byte) _ is).0
+    (λ b below. agree_below_at (λ n. not (is_name_byte n) || continues_name n) (λ n. true) 128 b refl below) is
+
+element_continues : (byte : ℕ) → is_element_byte byte ≡ true → continues_name byte ≡ true
+element_continues byte is =
+    low_implies is_element_byte continues_name byte (and_parts (is_low byte) _ is).0
+    (λ b below. agree_below_at (λ n. not (is_element_byte n) || continues_name n) (λ n. true) 128 b refl below) is
+
+names_after : (name rest : List ℕ) → list_all continues_name name ≡ true
+    → attribute_names_in false (name ++ rest) ≡ attribute_names_in false rest
+names_after [] rest are = refl
+names_after (byte ∷ name) rest are =
+    let parts = and_parts (continues_name byte) (list_all continues_name name) are in
+    let byte_parts = and_parts (not (byte == 34)) (not (byte == 32 || byte == 61)) parts.0 in
+    let quote = not-true (byte == 34) byte_parts.0 in
+    let space = (or_parts (byte == 32) (byte == 61) (not-true _ byte_parts.1)).0 in
+    rw (quote, space) (names_after name rest parts.1)
+
+names_after_value : (value rest : List ℕ) → list_all is_value_byte value ≡ true
+    → attribute_names_in true (value ++ 34 ∷ rest) ≡ attribute_names_in false rest
+names_after_value [] rest are = refl
+names_after_value (byte ∷ value) rest are =
+    let parts = and_parts (is_value_byte byte) (list_all is_value_byte value) are in
+    let four = or_parts (byte == 34 || byte == 38 || byte == 0) (byte == 13)
+    (not-true _ (and_parts (is_low byte) (not (byte == 34 || byte == 38 || byte == 0 || byte == 13)) parts.0).1) in
+    let three = or_parts (byte == 34 || byte == 38) (byte == 0) four.0 in
+    let quote = (or_parts (byte == 34) (byte == 38) three.0).0 in
+    rw quote (names_after_value value rest parts.1)
+
+name_before_value : (name rest : List ℕ) → list_all continues_name name ≡ true → attribute_name (name ++ 61 ∷ rest) ≡ name
+name_before_value [] rest are = refl
+name_before_value (byte ∷ name) rest are =
+    let parts = and_parts (continues_name byte) (list_all continues_name name) are in
+    let ends = not-true _ (and_parts (not (byte == 34)) (not (byte == 32 || byte == 61)) parts.0).1 in
+    rw ends (ap (λ (b : List ℕ). byte ∷ b) (name_before_value name rest parts.1))
+
+name_bytes : (name : List ℕ) → is_attribute_name name ≡ true → list_all continues_name name ≡ true
+name_bytes [] is = absurd (cc)
+name_bytes (byte ∷ name) is =
+    all_weaker is_name_byte continues_name name_continues (byte ∷ name)
+    (and_parts (is_lower_letter byte) (list_all is_name_byte (byte ∷ name)) is).1
+
+-- The names of attributes.
+abbrev pub names_of : List Attribute → List (List ℕ)
+names_of attributes = map (λ (attribute : Attribute). attribute.name) attributes
+
+attributes_names : (attributes : List Attribute) → list_all is_attribute attributes ≡ true
+    → attribute_names_in false (flat_map attribute_text attributes) ≡ names_of attributes
+attributes_names [] are = refl
+attributes_names (attribute ∷ attributes) are =
+    let parts = and_parts (is_attribute attribute) (list_all is_attribute attributes) are in
+    let attribute_parts = and_parts (is_attribute_name attribute.name) (list_all is_value attribute.values) parts.0 in
+    let name = attribute.name in
+    let value = flat_map value_text attribute.values in
+    let more = flat_map attribute_text attributes in
+    let bytes = name_bytes name attribute_parts.0 in
+    ap (attribute_names_in false) (attribute_bytes name value more)
+    ∙ ap (λ (n : List ℕ). n ∷ attribute_names_in false (name ++ 61 ∷ 34 ∷ (value ++ 34 ∷ more)))
+    (name_before_value name (34 ∷ (value ++ 34 ∷ more)) bytes)
+    ∙ ap (λ (names : List (List ℕ)). name ∷ names)
+    (names_after name (61 ∷ 34 ∷ (value ++ 34 ∷ more)) bytes
+    ∙ names_after_value value more (values_bytes attribute.values attribute_parts.1) ∙ attributes_names attributes parts.1)
+
+element_continues_all : (element : List ℕ) → is_element element ≡ true → list_all continues_name element ≡ true
+element_continues_all element is = all_weaker is_element_byte continues_name element_continues element (element_bytes element is)
+
+pub tag_attributes : (element : List ℕ) (attributes : List Attribute) → is_element element ≡ true
+    → list_all is_attribute attributes ≡ true → attribute_names (tag_text element attributes) ≡ names_of attributes
+tag_attributes element attributes is are =
+    names_after element (flat_map attribute_text attributes) (element_continues_all element is) ∙ attributes_names attributes are
+
+-- An end tag has no attributes.
+pub element_attributes : (element : List ℕ) → is_element element ≡ true → attribute_names element ≡ []
+element_attributes element is =
+    ap attribute_names (sym (append-nil element)) ∙ names_after element [] (element_continues_all element is)
+
+pub names_after_number : (number : ℕ) → attribute_names_in true (number_text number ++ 34 ∷ []) ≡ []
+names_after_number number = names_after_value (number_text number) [] (number_value number)
 
 -- ---- ASCII
 

@@ -1,10 +1,14 @@
 -- Rows of tags and their texts, as docs/page.md, tests/page/style.css and tests/page/page_model.py have them.
-use Rattle.std.proofs.Common.{◌≡◌, ℕ, List, [], ◌∷◌, refl}
+use Rattle.std.proofs.Common.{◌≡◌, ℕ, true, List, [], ◌∷◌, ◌++◌, map, refl}
 use Rattle.std.specs.Fmt.{digits}
 use Rattle.std.specs.List.{AllByRecursion}
 use Rattle.std.specs.Prelude.{codes}
 use Rattle.redo_html.specs.declared.markup.Markup.{Markup}
 use Rattle.redo_html.specs.declared.markup.Markup.TheVariants.{Doctype, Html, EndHtml, Head, EndHead, Charset, Viewport, ColorScheme, Referrer, Policy, BodyGood, BodyBad, BodyOpen, EndBody, Header, EndHeader, Title1, EndTitle1, Sign, EndSign, Nav, EndNav, Main, EndMain, FailedSection, SummarySection, TreeSection, TimelineSection, EndSection, FailedHeading, SummaryHeading, TreeHeading, TimelineHeading, EndHeading, FailedLink, SummaryLink, TreeLink, TimelineLink, TargetLink, OutputLink, EndLink, Article, EndArticle, Title3, EndTitle3, Paragraph, MetaParagraph, QuietParagraph, CutParagraph, ProblemParagraph, EndParagraph, Unordered, Tree, EndUnordered, Ordered, OrderedFrom, EndOrdered, Item, NoteItem, TargetItem, EndItem, Details, OpenDetails, QuietDetails, MoreDetails, EndDetails, Summary, EndSummary, Pre, EndPre, Bdi, EndBdi, Code, EndCode, ExitBadge, OpenBadge, EndBadge, Warnings, EndWarnings, Small, EndSmall, Footer, EndFooter, DescriptionList, EndDescriptionList, Div, EndDiv, Term, EndTerm, Description, EndDescription, Columns, Table, EndTable, TableBody, EndTableBody, TableRow, EndTableRow, RowHeading, EndRowHeading, NumberCell, MeterCell, EndCell, TimelineScroll}
+use Rattle.redo_html.specs.declared.style.Hue.TheVariants.{Plain}
+use Rattle.redo_html.specs.Html.{plain_elements, start_name, void_elements}
+use Rattle.redo_html.specs.Passage.{Inline, highlight_text}
+use Rattle.redo_html.specs.Passage.Inline.{UnprintableStart, StyleStart}
 use Rattle.redo_html.specs.Shown.{number_text}
 use Rattle.redo_html.specs.Tags.{markup_text}
 
@@ -230,3 +234,24 @@ numbered =
 these_numbered : HaveTexts numbered
 unfolding number_text digits
 these_numbered = (refl, (refl, (refl, (refl, (refl, (refl, (refl, (refl, (refl, (refl, (refl, (refl, (refl, (refl, tt))))))))))))))
+
+-- ---- elements
+
+-- Each element that is read has a tag above, or is a highlight.
+abbrev names_of : List Markup → List (List ℕ)
+names_of tags = map (λ (tag : Markup). start_name (markup_text tag)) tags
+
+abbrev highlight_name : Inline → List ℕ
+highlight_name inline = start_name (highlight_text inline)
+
+elements : plain_elements
+    ≡ names_of (Html ∷ Head ∷ Charset ∷ BodyGood ∷ Header ∷ Nav ∷ Main ∷ FailedSection ∷ Article 0 ∷ Footer ∷ Title1 ∷ FailedHeading
+    ∷ Title3 ∷ Paragraph ∷ Unordered ∷ Ordered ∷ Item ∷ Details 0 ∷ Summary ∷ TreeLink ∷ [])
+    ++ highlight_name (StyleStart (record { bold = true; hue = Plain })) ∷ names_of (Bdi ∷ Code ∷ Warnings ∷ [])
+    ++ highlight_name UnprintableStart ∷ names_of (Small ∷ Sign ∷ ExitBadge ∷ Table ∷ TableBody ∷ TableRow ∷ RowHeading ∷ NumberCell
+    ∷ DescriptionList ∷ Term ∷ Description ∷ Div ∷ [])
+elements = refl
+
+-- The tags that begin no element.
+void_elements_are : void_elements ≡ names_of (Doctype ∷ Charset ∷ [])
+void_elements_are = refl

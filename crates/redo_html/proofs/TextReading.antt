@@ -200,19 +200,21 @@ pub notation_safe : (code_point : ℕ) → list_all is_safe (notation code_point
 unfolding notation
 notation_safe code_point =
     let Safe : List ℕ → Type 0 = λ bytes. list_all is_safe bytes ≡ true in
+    let four : Safe (upper_hex (code_point / 4096) ∷ upper_hex (code_point / 256) ∷ upper_hex (code_point / 16) ∷ upper_hex code_point
+    ∷ 93 ∷ []) =
+    and_from _ _ (upper_safe (code_point / 4096))
+    (and_from _ _ (upper_safe (code_point / 256))
+    (and_from _ _ (upper_safe (code_point / 16)) (and_from _ _ (upper_safe code_point) refl))) in
+    let five = and_from _ _ (upper_safe (code_point / 65536)) four in
     cond_both (nat_lt code_point 32) _ _ Safe
     (λ is. and_from (is_safe (code_point + 64)) true (high_safe (code_point + 64) (omega arith)) refl)
     (λ not_low. cond_both (code_point == 127) _ _ Safe (λ is. refl)
     (λ not_delete. cond_both (is_between code_point (0xDC00, 0xDCFF)) _ _ Safe
     (λ is. and_from _ _ (lower_safe ((code_point - 0xDC00) / 16)) (and_from _ _ (lower_safe (code_point - 0xDC00)) refl))
     (λ not_byte. cond_both (nat_lt code_point 0x10000) _ _ Safe
-    (λ is. and_from _ _ (upper_safe (code_point / 4096))
-    (and_from _ _ (upper_safe (code_point / 256))
-    (and_from _ _ (upper_safe (code_point / 16)) (and_from _ _ (upper_safe code_point) refl))))
-    (λ large. and_from _ _ (upper_safe (code_point / 65536))
-    (and_from _ _ (upper_safe (code_point / 4096))
-    (and_from _ _ (upper_safe (code_point / 256))
-    (and_from _ _ (upper_safe (code_point / 16)) (and_from _ _ (upper_safe code_point) refl))))))))
+    (λ is. four)
+    (λ large. cond_both (nat_lt code_point 0x100000) _ _ Safe (λ is. five)
+    (λ last. and_from _ _ (upper_safe (code_point / 0x100000)) five)))))
 
 repeat_safe : (count : ℕ) (bytes : List ℕ) → list_all is_safe bytes ≡ true → list_all is_safe (repeat count bytes) ≡ true
 repeat_safe zero bytes safe = refl

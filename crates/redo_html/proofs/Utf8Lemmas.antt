@@ -64,6 +64,11 @@ notation_low : (code_point : ℕ) → list_all is_low (notation code_point) ≡ 
 unfolding notation
 notation_low code_point =
     let Low : List ℕ → Type 0 = λ bytes. list_all is_low bytes ≡ true in
+    let four : Low (upper_hex (code_point / 4096) ∷ upper_hex (code_point / 256) ∷ upper_hex (code_point / 16) ∷ upper_hex code_point
+    ∷ 93 ∷ []) =
+    and_from _ _ (upper_low (code_point / 4096))
+    (and_from _ _ (upper_low (code_point / 256)) (and_from _ _ (upper_low (code_point / 16)) (and_from _ _ (upper_low code_point) refl))) in
+    let five = and_from _ _ (upper_low (code_point / 65536)) four in
     cond_both (nat_lt code_point 32) _ _ Low
     (λ is. let small = ltb-true code_point 32 is in
     and_from (is_low (code_point + 64)) true (lt-ltb (code_point + 64) 128 (omega (arith, small))) refl)
@@ -71,12 +76,9 @@ notation_low code_point =
     (λ not_delete. cond_both (is_between code_point (0xDC00, 0xDCFF)) _ _ Low
     (λ is. and_from _ _ (lower_low ((code_point - 0xDC00) / 16)) (and_from _ _ (lower_low (code_point - 0xDC00)) refl))
     (λ not_byte. cond_both (nat_lt code_point 0x10000) _ _ Low
-    (λ is. and_from _ _ (upper_low (code_point / 4096))
-    (and_from _ _ (upper_low (code_point / 256)) (and_from _ _ (upper_low (code_point / 16)) (and_from _ _ (upper_low code_point) refl))))
-    (λ large. and_from _ _ (upper_low (code_point / 65536))
-    (and_from _ _ (upper_low (code_point / 4096))
-    (and_from _ _ (upper_low (code_point / 256))
-    (and_from _ _ (upper_low (code_point / 16)) (and_from _ _ (upper_low code_point) refl))))))))
+    (λ is. four)
+    (λ large. cond_both (nat_lt code_point 0x100000) _ _ Low (λ is. five)
+    (λ last. and_from _ _ (upper_low (code_point / 0x100000)) five)))))
 
 repeat_low : (count : ℕ) (bytes : List ℕ) → list_all is_low bytes ≡ true → list_all is_low (repeat count bytes) ≡ true
 repeat_low zero bytes low = refl

@@ -73,12 +73,12 @@ abbrev pub is_one_of : List ℕ → List (List ℕ) → Bool
 is_one_of name [] = false
 is_one_of name (one ∷ others) = bytes_eq name one || is_one_of name others
 
--- The elements whose content a browser reads in the data state, wherever in the body of a page they are. In all others it may go to
+-- The elements of a page whose content a browser reads in the data state, wherever in the body of a page they are. In others it may go to
 -- another state: after `script`, `textarea`, `iframe`, `noscript`, `plaintext` and more.
 abbrev pub plain_elements : List (List ℕ)
 plain_elements =
     codes "html" ∷ codes "head" ∷ codes "meta" ∷ codes "body" ∷ codes "header" ∷ codes "nav" ∷ codes "main" ∷ codes "section" ∷ codes "article" ∷ codes "footer" ∷ codes "h1" ∷ codes "h2" ∷ codes "h3" ∷ codes "p" ∷ codes "ul"
-    ∷ codes "ol" ∷ codes "li" ∷ codes "details" ∷ codes "summary" ∷ codes "a" ∷ codes "b" ∷ codes "bdi" ∷ codes "code" ∷ codes "em" ∷ codes "i" ∷ codes "small" ∷ codes "span" ∷ codes "strong" ∷ codes "wbr"
+    ∷ codes "ol" ∷ codes "li" ∷ codes "details" ∷ codes "summary" ∷ codes "a" ∷ codes "b" ∷ codes "bdi" ∷ codes "code" ∷ codes "em" ∷ codes "i" ∷ codes "small" ∷ codes "span" ∷ codes "strong"
     ∷ codes "table" ∷ codes "tbody" ∷ codes "tr" ∷ codes "th" ∷ codes "td" ∷ codes "dl" ∷ codes "dt" ∷ codes "dd" ∷ codes "div" ∷ []
 
 -- A start tag in HTML, and the state after it.
@@ -91,7 +91,7 @@ start_tag tag =
     else if bytes_eq (start_name tag) (codes "svg") then (DataState (Svg (codes "svg") []), Tag tag ∷ [])
     else lost
 
--- The elements that may be in an `svg`. HTML elements such as `b` and `p` would end it (13.2.6.5, "A start tag whose tag name is one of").
+-- The elements of a page that may be in an `svg`. HTML elements such as `b` and `p` would end it (13.2.6.5, "A start tag whose tag name is one of").
 abbrev pub svg_elements : List (List ℕ)
 svg_elements = codes "svg" ∷ codes "g" ∷ codes "a" ∷ codes "rect" ∷ codes "line" ∷ codes "text" ∷ codes "title" ∷ []
 
@@ -111,11 +111,47 @@ context_in (inner ∷ outer) = Svg inner outer
 abbrev pub svg_end_tag : List ℕ → List (List ℕ) → List ℕ → Step
 svg_end_tag inner outer name = if bytes_eq name inner then (DataState (context_in outer), Tag (47 ∷ name) ∷ []) else lost
 
--- A tag. After an end tag in HTML, text is in the data state. An end tag of `svg` in HTML ends nothing, like any end tag without a start tag.
+-- The names of the attributes of a tag. Each begins after a space outside of quotes, and ends before the next space or `=`.
+abbrev pub attribute_name : List ℕ → List ℕ
+attribute_name [] = []
+attribute_name (byte ∷ bytes) = if byte == 32 || byte == 61 then [] else byte ∷ attribute_name bytes
+
+abbrev pub name_begun : Bool → ℕ → List ℕ → List (List ℕ)
+name_begun is_quoted byte bytes = if not is_quoted && byte == 32 then attribute_name bytes ∷ [] else []
+
+abbrev pub is_quoted_after : Bool → ℕ → Bool
+is_quoted_after is_quoted byte = if byte == 34 then not is_quoted else is_quoted
+
+abbrev pub attribute_names_in : Bool → List ℕ → List (List ℕ)
+attribute_names_in is_quoted [] = []
+attribute_names_in is_quoted (byte ∷ bytes) = name_begun is_quoted byte bytes ++ attribute_names_in (is_quoted_after is_quoted byte) bytes
+
+abbrev pub attribute_names : List ℕ → List (List ℕ)
+attribute_names tag = attribute_names_in false tag
+
+abbrev pub are_distinct : List (List ℕ) → Bool
+are_distinct [] = true
+are_distinct (name ∷ names) = not (is_one_of name names) && are_distinct names
+
+abbrev pub is_empty : List (List ℕ) → Bool
+is_empty [] = true
+is_empty (name ∷ names) = false
+
+-- A tag whose attributes a browser keeps. After an end tag in HTML, text is in the data state. An end tag of `svg` in HTML ends nothing, like
+-- any end tag without a start tag.
+abbrev pub emit_whole : Context → List ℕ → Step
+emit_whole context [] = lost
+emit_whole (Svg inner outer) (byte ∷ bytes) = if byte == 47 then svg_end_tag inner outer bytes else svg_start_tag inner outer (byte ∷ bytes)
+emit_whole context (byte ∷ bytes) = if byte == 47 then (DataState Normal, Tag (byte ∷ bytes) ∷ []) else start_tag (byte ∷ bytes)
+
+-- Whether a browser keeps the attributes of a tag. It drops an attribute with the name of an earlier one (13.2.5.33), and all attributes of an
+-- end tag (13.2.5). Both are parse errors.
+abbrev pub keeps_attributes : List ℕ → Bool
+keeps_attributes [] = true
+keeps_attributes (byte ∷ bytes) = if byte == 47 then is_empty (attribute_names bytes) else are_distinct (attribute_names (byte ∷ bytes))
+
 abbrev pub emit_tag : Context → List ℕ → Step
-emit_tag context [] = lost
-emit_tag (Svg inner outer) (byte ∷ bytes) = if byte == 47 then svg_end_tag inner outer bytes else svg_start_tag inner outer (byte ∷ bytes)
-emit_tag context (byte ∷ bytes) = if byte == 47 then (DataState Normal, Tag (byte ∷ bytes) ∷ []) else start_tag (byte ∷ bytes)
+emit_tag context tag = if keeps_attributes tag then emit_whole context tag else lost
 
 abbrev pub is_lower_letter : ℕ → Bool
 is_lower_letter byte = nat_le 97 byte && nat_le byte 122
@@ -219,18 +255,17 @@ abbrev pub tags_of : List Token → List (List ℕ)
 tags_of tokens = flat_map tag_of tokens
 
 -- Elements that have no end tag, and the declaration at the head of a page, which is none.
+abbrev pub void_elements : List (List ℕ)
+void_elements = codes "!doctype" ∷ codes "meta" ∷ []
+
 abbrev pub is_void : List ℕ → Bool
-is_void name = is_one_of name (codes "!doctype" ∷ codes "meta" ∷ codes "wbr" ∷ [])
+is_void name = is_one_of name void_elements
 
 -- Whether each end tag ends the element that was begun last, and no element is open at the end. `around` has the names of the elements that
 -- are open, the innermost first.
 abbrev pub after_end_tag : List ℕ → List (List ℕ) → (List (List ℕ) → Bool) → Bool
 after_end_tag name [] nests = false
 after_end_tag name (inner ∷ outer) nests = bytes_eq name inner && nests outer
-
-abbrev pub is_empty : List (List ℕ) → Bool
-is_empty [] = true
-is_empty (name ∷ names) = false
 
 abbrev pub nests_in : List (List ℕ) → List (List ℕ) → Bool
 nests_in around [] = is_empty around

@@ -18,10 +18,13 @@ abbrev pub ReadsAs : List ℕ → List Token → Type 0
 ReadsAs bytes tokens = (behind : List ℕ) → read_from (DataState Normal) (bytes ++ behind) ≡ tokens ++ read_from (DataState Normal) behind
 
 -- The highlights of a passage.
+abbrev pub highlights : List (List ℕ)
+highlights =
+    codes "i" ∷ codes "/i" ∷ codes "b" ∷ codes "b class=\"r\"" ∷ codes "b class=\"g\"" ∷ codes "b class=\"y\"" ∷ codes "b class=\"b\"" ∷ codes "b class=\"m\"" ∷ codes "b class=\"c\"" ∷ codes "/b"
+    ∷ codes "span class=\"r\"" ∷ codes "span class=\"g\"" ∷ codes "span class=\"y\"" ∷ codes "span class=\"b\"" ∷ codes "span class=\"m\"" ∷ codes "span class=\"c\"" ∷ codes "/span" ∷ []
+
 abbrev pub is_highlight : List ℕ → Bool
-is_highlight tag =
-    is_one_of tag (codes "i" ∷ codes "/i" ∷ codes "b" ∷ codes "b class=\"r\"" ∷ codes "b class=\"g\"" ∷ codes "b class=\"y\"" ∷ codes "b class=\"b\"" ∷ codes "b class=\"m\"" ∷ codes "b class=\"c\"" ∷ codes "/b"
-    ∷ codes "span class=\"r\"" ∷ codes "span class=\"g\"" ∷ codes "span class=\"y\"" ∷ codes "span class=\"b\"" ∷ codes "span class=\"m\"" ∷ codes "span class=\"c\"" ∷ codes "/span" ∷ [])
+is_highlight tag = is_one_of tag highlights
 
 -- A passage is read as its tokens, of which the characters are the text that is shown, and the tags are highlights that nest.
 pub record IsReadAsShown (kind : TextKind) (style : Style) (bytes : List ℕ) : Type 0 where

@@ -6,12 +6,16 @@ use Rattle.redo_html.specs.declared.text_kind.TextKind.{TextKind}
 use Rattle.redo_html.specs.Symbols.{Symbol, symbols}
 use Rattle.redo_html.specs.Symbols.Symbol.{CodePoint, Sequence}
 
--- Characters that can't be seen, or that change the direction of others, by their first and last numbers; and the numbers of bytes that are
--- no part of a character, which are among the surrogates.
+-- Characters that can't be seen, or that change the direction of others, by their first and last numbers; characters that a browser rejects
+-- (U+FDD0 to U+FDEF); and the numbers of bytes that are no part of a character, which are among the surrogates.
+--
+-- All characters with Unicode's property `Default_Ignorable_Code_Point` are here, except U+200C, U+200D and U+FE0F: words of some languages
+-- need the two joiners, and emoji need U+200D and U+FE0F. The others are control characters (U+0080 to U+009F), the separators U+2028 and
+-- U+2029, and the annotation characters U+FFF9 to U+FFFB.
 abbrev pub unseen_ranges : List (ℕ × ℕ)
 unseen_ranges =
     (0x80, 0x9F) ∷ (0xAD, 0xAD) ∷ (0x34F, 0x34F) ∷ (0x61C, 0x61C) ∷ (0x115F, 0x1160) ∷ (0x17B4, 0x17B5) ∷ (0x180B, 0x180F) ∷ (0x200B, 0x200B) ∷ (0x200E, 0x200F) ∷ (0x2028, 0x202E) ∷ (0x2060, 0x206F) ∷ (0x3164, 0x3164)
-    ∷ (0xD800, 0xDFFF) ∷ (0xFE00, 0xFE0E) ∷ (0xFEFF, 0xFEFF) ∷ (0xFFA0, 0xFFA0) ∷ (0xFFF0, 0xFFFB) ∷ (0xE0000, 0xE0FFF) ∷ []
+    ∷ (0xD800, 0xDFFF) ∷ (0xFDD0, 0xFDEF) ∷ (0xFE00, 0xFE0E) ∷ (0xFEFF, 0xFEFF) ∷ (0xFFA0, 0xFFA0) ∷ (0xFFF0, 0xFFFB) ∷ (0x1BCA0, 0x1BCA3) ∷ (0x1D173, 0x1D17A) ∷ (0xE0000, 0xE0FFF) ∷ []
 
 abbrev pub is_between : ℕ → ℕ × ℕ → Bool
 is_between code_point range = nat_le range.0 code_point && nat_le code_point range.1
@@ -20,9 +24,13 @@ is_between code_point range = nat_le range.0 code_point && nat_le code_point ran
 abbrev pub is_control : ℕ → Bool
 is_control code_point = (nat_lt code_point 32 && not (code_point == 9) && not (code_point == 10)) || code_point == 127
 
+-- The last two code points of each plane, U+FFFE and U+FFFF to U+10FFFE and U+10FFFF: a browser rejects them.
+abbrev pub ends_plane : ℕ → Bool
+ends_plane code_point = nat_le 0xFFFE (code_point % 0x10000)
+
 -- Whether a notation is shown instead of a code point.
 unfoldable pub is_unprintable : ℕ → Bool
-is_unprintable code_point = is_control code_point || list_any (is_between code_point) unseen_ranges
+is_unprintable code_point = is_control code_point || (ends_plane code_point || list_any (is_between code_point) unseen_ranges)
 
 abbrev pub lower_hex : ℕ → ℕ
 lower_hex digit = digit_glyph false (digit % 16)
@@ -34,11 +42,12 @@ upper_hex digit = digit_glyph true (digit % 16)
 abbrev pub byte_notation : ℕ → List ℕ
 byte_notation byte = 92 ∷ 120 ∷ lower_hex (byte / 16) ∷ lower_hex byte ∷ []
 
--- The notation of a character by its number: `[U+202E]`.
+-- The notation of a character by its number, in four digits or as many as it has: `[U+202E]`.
 abbrev pub code_point_notation : ℕ → List ℕ
 code_point_notation code_point =
     if nat_lt code_point 0x10000 then 91 ∷ 85 ∷ 43 ∷ upper_hex (code_point / 4096) ∷ upper_hex (code_point / 256) ∷ upper_hex (code_point / 16) ∷ upper_hex code_point ∷ 93 ∷ []
-    else 91 ∷ 85 ∷ 43 ∷ upper_hex (code_point / 65536) ∷ upper_hex (code_point / 4096) ∷ upper_hex (code_point / 256) ∷ upper_hex (code_point / 16) ∷ upper_hex code_point ∷ 93 ∷ []
+    else if nat_lt code_point 0x100000 then 91 ∷ 85 ∷ 43 ∷ upper_hex (code_point / 65536) ∷ upper_hex (code_point / 4096) ∷ upper_hex (code_point / 256) ∷ upper_hex (code_point / 16) ∷ upper_hex code_point ∷ 93 ∷ []
+    else 91 ∷ 85 ∷ 43 ∷ upper_hex (code_point / 0x100000) ∷ upper_hex (code_point / 65536) ∷ upper_hex (code_point / 4096) ∷ upper_hex (code_point / 256) ∷ upper_hex (code_point / 16) ∷ upper_hex code_point ∷ 93 ∷ []
 
 -- The notation of an unprintable code point. The notation of a control character is a caret and the letter 64 places after it: `^M`.
 unfoldable pub notation : ℕ → List ℕ

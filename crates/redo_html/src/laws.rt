@@ -14,6 +14,7 @@ ghost use Rattle.redo_html.specs.Lines.{is_no_escape, line_parts, lines_html, st
 ghost use Rattle.redo_html.specs.Parts.{Part, part_html, part_tokens, part_text};
 ghost use Rattle.redo_html.specs.Parts.Part.{ChartPart};
 ghost use Rattle.redo_html.specs.Shown.{shown_text};
+ghost use Rattle.redo_html.specs.StyleSheet.{HidesNothing, LoadsNothing, style_sheet};
 
 /// Whatever the bytes and the style at their start are, they are read as the text that is shown, and as no other tags than highlights, which nest.
 pub fn passages_are_read_as_shown()
@@ -73,4 +74,10 @@ pub fn only_markup_decides_nesting()
 pub fn charts_have_no_text_in_tags()
     ensures { (replace : List ℕ → List ℕ) (drawing : Drawing) →
         tags_of (part_tokens (ChartPart (reworded replace drawing))) ≡ tags_of (part_tokens (ChartPart drawing)) }
+{}
+
+/// The style sheet loads nothing, and hides nothing but what `hiding_rules` says.
+pub fn style_sheet_is_harmless()
+    ensures loads { LoadsNothing style_sheet }
+    ensures hides { HidesNothing style_sheet }
 {}

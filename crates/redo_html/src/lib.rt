@@ -9,8 +9,8 @@
 //!
 //! - *Code point*: a character of a text, or one byte that is no part of a character, which counts as U+DC00 plus the byte.
 //! - *Sequence*: `ESC [`, digits and semicolons, and `m` (SGR, which sets colours) or `K` (which erases a line).
-//! - *Unprintable code point*: a code point that a browser would hide, change or act on: a control character, an invalid byte, an
-//!   invisible or bidirectional character. Its *notation* is shown instead: `^M`, `\xff`, `[U+202E]`.
+//! - *Unprintable code point*: a code point that a browser would hide, change, reject or act on: a control character, an invalid byte,
+//!   a noncharacter, an invisible or bidirectional character. Its *notation* is shown instead: `^M`, `\xff`, `[U+202E]`.
 //! - *Passage*: a text that begins with a style, and of which all highlights end at its end. A *highlight* is an element around unprintable
 //!   code points or for a style.
 //! - *Markup*: a tag of a page.
@@ -40,11 +40,15 @@
 //! its elements could end HTML around it. So the context of the text has the elements that are open in the `svg`: only
 //! elements of SVG may begin, and only the innermost one may end. Nothing may begin in a `title` of SVG, because a browser
 //! reads start tags there as HTML. Only elements of a list are read, because others switch the tokenizer to other states.
+//! A browser drops an attribute with the name of an earlier one, and all attributes of an end tag, so tags with these are lost.
 //! The model reads bytes, and a browser decodes them first: whatever the bytes of a log are, the page is valid UTF-8
 //! (`html_is_utf8`).
 //!
 //! **Tags** (`Tags`). A tag is a value of an enum that has no bytes, only numbers. So it is a matter of types that no byte
 //! of a log is in a tag.
+//!
+//! **Style sheet** (`StyleSheet`). The model doesn't read it. A law allows only functions that load nothing, and lists the rules
+//! that hide something.
 //!
 //! **Charts** (`Chart`). A chart is typed data: groups of lines, ticks and bars, with numbers and texts. The definition
 //! makes elements of it, whose attributes have text of the program, numbers and percentages. So elements nest by type. The
@@ -74,7 +78,7 @@ pub use chart::{Anchor, Bar, Chart, ChartGroup, ChartItem, GroupKind, write_char
 pub use laws::{
     charts_have_no_text_in_tags, html_is_utf8, lines_show_their_text, only_markup_decides_nesting,
     parts_are_read, parts_show_their_text, passages_are_read_as_shown, plain_lines_are_one_text,
-    plain_text_is_unchanged, titles_have_no_tags,
+    plain_text_is_unchanged, style_sheet_is_harmless, titles_have_no_tags,
 };
 pub use lines::write_log_lines;
 pub use markup::{Markup, write_markup, write_number};

@@ -59,6 +59,7 @@ fn write_byte<W: Sink>(byte: u32, out: &mut W) -> Result<(), Broken>
 fn write_code<W: Sink>(code_point: u32, out: &mut W) -> Result<(), Broken>
     ensures { Writes (W.written out.old) (W.written out.new) (code_point_notation code_point) result }
 {
+    let digit_6 = upper(code_point / 0x100000);
     let digit_5 = upper(code_point / 65536);
     let digit_4 = upper(code_point / 4096);
     let digit_3 = upper(code_point / 256);
@@ -69,11 +70,18 @@ fn write_code<W: Sink>(code_point: u32, out: &mut W) -> Result<(), Broken>
             out,
             &[b'[', b'U', b'+', digit_4, digit_3, digit_2, digit_1, b']'],
         )
-    } else {
+    } else if code_point < 0x100000 {
         push_all(
             out,
             &[
                 b'[', b'U', b'+', digit_5, digit_4, digit_3, digit_2, digit_1, b']',
+            ],
+        )
+    } else {
+        push_all(
+            out,
+            &[
+                b'[', b'U', b'+', digit_6, digit_5, digit_4, digit_3, digit_2, digit_1, b']',
             ],
         )
     }

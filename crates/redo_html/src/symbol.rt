@@ -2,16 +2,16 @@
 ghost use Rattle.std.specs.Prelude.{◌≡◌, ◌≤◌, ◌<◌, ◌==◌, ◌||◌, true, length, take, slice_index};
 ghost use Rattle.std.specs.List.{list_all, list_any, prefix_len};
 ghost use Rattle.redo_html.specs.Laws.{is_plain};
-ghost use Rattle.redo_html.specs.Shown.{is_unprintable, is_control, is_between, unseen_ranges};
+ghost use Rattle.redo_html.specs.Shown.{is_unprintable, is_control, ends_plane, is_between, unseen_ranges};
 ghost use Rattle.redo_html.specs.Symbols.{first_code_point, code_point_len, is_parameter, sequence_len, has_colours, first_symbol, symbol_len};
 ghost use Rattle.redo_html.specs.Private.Writing.{IsVerbatim, unprintable_bit_if, symbol_code_point};
 
 use crate::text_kind::TextKind;
 use bstr::decode_utf8;
 
-// Characters that can't be seen, by their first and last numbers, and bytes that are no part of a character. The ranges are in
-// order.
-const UNSEEN: [(u32, u32); 18] = [
+// Characters that can't be seen or that a browser rejects, by their first and last numbers, and bytes that are no part of a
+// character. The ranges are in order.
+const UNSEEN: [(u32, u32); 21] = [
     (0x80, 0x9F),
     (0xAD, 0xAD),
     (0x34F, 0x34F),
@@ -25,10 +25,13 @@ const UNSEEN: [(u32, u32); 18] = [
     (0x2060, 0x206F),
     (0x3164, 0x3164),
     (0xD800, 0xDFFF),
+    (0xFDD0, 0xFDEF),
     (0xFE00, 0xFE0E),
     (0xFEFF, 0xFEFF),
     (0xFFA0, 0xFFA0),
     (0xFFF0, 0xFFFB),
+    (0x1BCA0, 0x1BCA3),
+    (0x1D173, 0x1D17A),
     (0xE0000, 0xE0FFF),
 ];
 
@@ -224,16 +227,24 @@ fn is_parameter_byte(byte: u8) -> bool
 }
 
 /// Returns whether a notation is shown instead of a code point.
+#[tactic(auto, unfolding(crate::specs::Shown::is_unprintable))]
 pub fn is_unprintable_code_point(code_point: u32) -> bool
     ensures { result ≡ is_unprintable code_point }
 {
-    is_control_code_point(code_point) || is_unseen(code_point)
+    is_control_code_point(code_point) || (ends_plane(code_point) || is_unseen(code_point))
 }
 
 fn is_control_code_point(code_point: u32) -> bool
     ensures { result ≡ is_control code_point }
 {
     (code_point < 32 && code_point != 9 && code_point != 10) || code_point == 127
+}
+
+// Returns whether a code point is one of the last two of its plane.
+fn ends_plane(code_point: u32) -> bool
+    ensures { result ≡ ends_plane code_point }
+{
+    code_point % 0x10000 >= 0xFFFE
 }
 
 fn is_unseen(code_point: u32) -> bool
