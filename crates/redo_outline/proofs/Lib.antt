@@ -1,7 +1,8 @@
 mod CollectingLemmas
 mod ContentsLemmas
 mod FactsLemmas
-pub mod Nodes
+mod LargeRows
+mod LawLemmas
 mod OutlineLemmas
 mod OutlineRows
 mod PositionsLemmas
@@ -10,3 +11,4 @@ mod SummaryLemmas
 mod SweepLemmas
 mod TreeLemmas
 mod WarningLemmas
+pub mod Nodes

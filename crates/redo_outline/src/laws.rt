@@ -2,7 +2,9 @@
 ghost use Rattle.std.specs.Prelude.{ℕ, List};
 ghost use Rattle.redo_logs.specs.Logs.{Log};
 ghost use Rattle.redo_options.specs.declared.options.Options.{Options};
-ghost use Rattle.redo_outline.specs.Laws.{AreInContents};
+ghost use Rattle.redo_outline.specs.Laws.{AllSumUp, AreInContents};
+ghost use Rattle.redo_outline.specs.Outline.{outline_of};
+ghost use Rattle.redo_view.specs.Event.{Event};
 
 use redo_view::logs_nest;
 
@@ -12,3 +14,9 @@ pub fn events_are_in_contents()
 {
     logs_nest();
 }
+
+/// Each node says how many logs are below it, whether a target failed there, and how many warnings are there. If a target failed there,
+/// then one failed that has no failure below it.
+pub fn nodes_sum_up_logs_below()
+    ensures { (logs : List Log) (events : List Event) → AllSumUp (outline_of logs events) }
+{}

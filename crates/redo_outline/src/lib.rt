@@ -19,6 +19,6 @@ mod positions;
 mod sweep;
 
 pub use facts::target_at;
-pub use laws::events_are_in_contents;
+pub use laws::{events_are_in_contents, nodes_sum_up_logs_below};
 pub use node::{Node, RunTimes};
 pub use outline::Outline;
