@@ -6,8 +6,8 @@ use Rattle.redo_html.specs.Parts.Part.{MarkupPart, TextPart}
 use Rattle.redo_logs.specs.Logs.{Log}
 use Rattle.redo_outline.specs.declared.node.Node.{Node}
 use Rattle.redo_page.specs.declared.labels.TheConstants.{BUILD_TOOK}
-use Rattle.redo_page.specs.declared.frame.Verdict.{Verdict}
-use Rattle.redo_page.specs.declared.frame.Verdict.TheVariants.{Failed, Unfinished, Made}
+use Rattle.redo_page.specs.declared.verdict.Verdict.{Verdict}
+use Rattle.redo_page.specs.declared.verdict.Verdict.TheVariants.{Failed, Unfinished, Made}
 use Rattle.redo_page.specs.Frame.{began_parts, date_parts, head_parts, requested_parts, root_parts, timeline_nav, title_parts, failed_nav, header_parts, footer_parts}
 use Rattle.redo_summary.specs.Summary.{Facts}
 use Rattle.redo_page.specs.Timeline.{has_timeline}

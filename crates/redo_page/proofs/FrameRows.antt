@@ -13,12 +13,14 @@ use Rattle.redo_logs.specs.declared.log_state.LogState.TheVariants.{Ended}
 use Rattle.redo_logs.specs.Logs.{Log}
 use Rattle.redo_options.specs.declared.options.Options.{Options}
 use Rattle.redo_outline.specs.declared.node.Node.{Node}
-use Rattle.redo_page.specs.declared.frame.Verdict.TheVariants.{Failed, Unfinished, Made}
+use Rattle.redo_page.specs.declared.verdict.Verdict.TheVariants.{Failed, Unfinished, Made}
 use Rattle.redo_summary.specs.Summary.{Facts}
 use Rattle.redo_timeline.specs.declared.span.Window.{Window}
 use Rattle.redo_units.specs.Dates as dates
 use Rattle.redo_units.specs.Durations.{duration_words}
-use Rattle.redo_page.specs.Frame.{began_parts, timeline_nav, argument, body_markup, command, failed_nav, footer_parts, head_parts, header_parts, is_safe, log_count_parts, nav_parts, quoted, root_parts, sign_text, title_parts, title_text, titled, top_heading_parts, verdict_of, verdict_text}
+use Rattle.redo_page.specs.Command.{argument, command, is_safe, quoted}
+use Rattle.redo_page.specs.Frame.{began_parts, timeline_nav, failed_nav, footer_parts, head_parts, header_parts, log_count_parts, nav_parts, root_parts, title_parts, top_heading_parts}
+use Rattle.redo_page.specs.Verdict.{body_markup, sign_text, title_text, titled, verdict_of, verdict_text}
 use Rattle.redo_page.specs.Laws.{section_links}
 use Rattle.redo_page.specs.Tree.{no_node}
 

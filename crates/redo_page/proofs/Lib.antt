@@ -11,6 +11,7 @@ mod FailedNesting
 mod FailedOrder
 mod FailedRows
 mod FormLemmas
+mod FoundLemmas
 mod FrameIds
 mod FrameNesting
 mod FrameRows
@@ -31,13 +32,14 @@ mod PageTags
 mod PartLemmas
 mod PartLoops
 mod PrintedLemmas
+mod RedLemmas
 mod ShownLemmas
 mod StackLemmas
-mod SummaryIds
-mod SummaryNesting
 mod SummaryRows
 mod TargetNesting
 mod TargetRows
+mod TemplateIds
+mod TemplateNesting
 mod TextLemmas
 mod TimelineLemmas
 mod TimelineRows

@@ -16,16 +16,18 @@ use Rattle.redo_outline.specs.Contents.{Contents, contents_of}
 use Rattle.redo_outline.specs.Facts.{target_status}
 use Rattle.redo_outline.specs.Outline.{log_count, outline_of, with_times}
 use Rattle.std.specs.Prelude.{None, Option, Some}
-use Rattle.redo_page.specs.declared.frame.Verdict.TheVariants.{Failed, Unfinished, Made}
-use Rattle.redo_page.specs.Frame.{command, footer_parts, head_parts, is_unfinished, title_text, verdict_of}
+use Rattle.redo_page.specs.declared.verdict.Verdict.TheVariants.{Failed, Unfinished, Made}
+use Rattle.redo_page.specs.Command.{command}
+use Rattle.redo_page.specs.Frame.{footer_parts, head_parts}
+use Rattle.redo_page.specs.Verdict.{is_unfinished, title_text, verdict_of}
 use Rattle.redo_page.specs.Laws.{article_ids, article_links, charts, is_among, numbers_from, page_chart, part_chart, section_id, section_ids, section_link, section_links, target_ids, target_links}
-use Rattle.redo_page.specs.declared.frame.Verdict.{Verdict}
+use Rattle.redo_page.specs.declared.verdict.Verdict.{Verdict}
 use Rattle.redo_page.specs.Page.{Request, heading_of, options_of, page_contents, page_events, page_facts, page_outline, page_parts, run_times, top_parts_of}
 use Rattle.redo_page.specs.Tree.{articles, root_failures}
 use Rattle.redo_page.proofs.Ids.{Refers, bare_refers, is_section, section, then_refer}
 use Rattle.redo_page.proofs.FrameIds.{footer_bare, head_bare, header_refers, links}
 use Rattle.redo_page.proofs.FailedIds.{failed_refers, failed_section}
-use Rattle.redo_page.proofs.SummaryIds.{summary_refers}
+use Rattle.redo_page.proofs.TemplateIds.{summary_refers}
 use Rattle.redo_page.proofs.TimelineLemmas.{BarsLead, timeline_found, timeline_refers}
 use Rattle.redo_page.specs.Limits.{tree_limits}
 use Rattle.redo_trim.specs.declared.limit.Limit.{Limit}

@@ -16,7 +16,9 @@ use Rattle.redo_options.specs.declared.options.Options.{Options}
 use Rattle.redo_view.specs.Form.{FormWrites}
 use Rattle.redo_outline.specs.declared.node.Node.{Node}
 use Rattle.redo_page.specs.declared.page.Texts.{Texts}
-use Rattle.redo_page.specs.Frame.{command, footer_parts, title_text, verdict_of}
+use Rattle.redo_page.specs.Command.{command}
+use Rattle.redo_page.specs.Frame.{footer_parts}
+use Rattle.redo_page.specs.Verdict.{title_text, verdict_of}
 use Rattle.redo_summary.specs.Summary.{Facts, summary_of}
 use Rattle.redo_page.specs.Page.{Request, body_parts, heading_of, options_of, page_facts, page_html, page_outline, page_parts, top_parts, top_parts_of}
 use Rattle.redo_page.specs.Private.PageTexts.{AreTexts}

@@ -10,9 +10,11 @@ use Rattle.redo_html.specs.Parts.{Part}
 use Rattle.redo_html.specs.Parts.Part.{MarkupPart, TextPart}
 use Rattle.redo_outline.specs.declared.node.Node.{Node}
 use Rattle.redo_page.specs.declared.labels.TheConstants.{COUNT_NOT_CLOSED, FAILED_WITH_THESE, MORE_FAILED, WHAT_FAILED}
-use Rattle.redo_page.specs.declared.frame.Verdict.{Verdict}
+use Rattle.redo_page.specs.declared.verdict.Verdict.{Verdict}
 use Rattle.redo_page.specs.Failed.{article_parts, is_dependent_failure, failed_parts, is_unclosed, list_parts, more_parts, positions_where, section_parts}
-use Rattle.redo_page.specs.Frame.{command, footer_parts, head_parts, header_parts, title_text, verdict_of}
+use Rattle.redo_page.specs.Command.{command}
+use Rattle.redo_page.specs.Frame.{footer_parts, head_parts, header_parts}
+use Rattle.redo_page.specs.Verdict.{title_text, verdict_of}
 use Rattle.redo_page.specs.Laws.{IsPartOf, is_among, page_article, page_tree}
 use Rattle.redo_page.specs.Timeline.{timeline_parts}
 use Rattle.redo_page.specs.Page.{Request, heading_of, options_of, page_facts, page_outline, page_parts, top_parts, top_parts_of}

@@ -9,8 +9,9 @@ use Rattle.redo_html.specs.Parts.Part.{MarkupPart, MeterPart, TextPart, NumberPa
 use Rattle.redo_logs.specs.declared.log_state.LogState.TheVariants.{Ended}
 use Rattle.redo_logs.specs.Logs.{Log}
 use Rattle.redo_outline.specs.declared.node.Node.{Node}
-use Rattle.redo_page.specs.declared.summary.Measure.TheVariants.{Milliseconds, Count}
-use Rattle.redo_page.specs.Summary.{dependents_parts, at_once_parts, failed_counts, known_count, largest_of, measure_parts, meter_width, rank_parts, shown_longest, summary_parts, table_parts, table_start, tables_parts, tile, tile_end, tile_start, tiles, timed_tiles, took_tile, unknown_parts, why_parts}
+use Rattle.redo_page.specs.Scope.{known_count, largest_of, meter_of, shown_longest}
+use Rattle.redo_page.specs.Summary.{build_view, summary_parts}
+use Rattle.redo_page.specs.Template.{nothing, tile_end, tile_start}
 use Rattle.redo_page.specs.Words.{word_part, words_parts}
 use Rattle.redo_summary.specs.declared.rank.Rank.{Rank}
 use Rattle.redo_summary.specs.Summary.{Facts}
@@ -103,41 +104,17 @@ words_are = (refl, refl, refl, refl)
 tile_is :
     (tile_start (codes "t") ≡ tag markup.Div ∷ tag markup.Term ∷ words (codes "t") ∷ tag markup.EndTerm ∷ tag markup.Description ∷ [])
     × (tile_end ≡ tag markup.EndDescription ∷ tag markup.EndDiv ∷ [])
-    × (tile (codes "t") (number 5 ∷ [])
-    ≡ tag markup.Div ∷ tag markup.Term ∷ words (codes "t") ∷ tag markup.EndTerm ∷ tag markup.Description ∷ number 5
-    ∷ tag markup.EndDescription ∷ tag markup.EndDiv ∷ [])
-tile_is = (refl, refl, refl)
-
-failures_are :
-    (dependents_parts 0 ≡ []) × (dependents_parts 1 ≡ words (codes ", and ") ∷ number 1 ∷ words (codes " above") ∷ [])
-    × (failed_counts 0 0 ≡ number 0 ∷ []) × (failed_counts 3 0 ≡ number 3 ∷ [])
-    × (failed_counts 3 2 ≡ number 3 ∷ words (codes ", and ") ∷ number 2 ∷ words (codes " above") ∷ [])
-failures_are = (refl, refl, refl, refl, refl)
+tile_is = (refl, refl)
 
 abbrev tile_of : List ℕ → List Part → List Part → List Part
 tile_of term description rest =
     tag markup.Div ∷ tag markup.Term ∷ words term ∷ tag markup.EndTerm ∷ tag markup.Description
     ∷ (description ++ tag markup.EndDescription ∷ tag markup.EndDiv ∷ rest)
 
--- 125 seconds in 90 are 1.3 at once.
-at_once_is : at_once_parts known ≡ number 1 ∷ words (codes ".") ∷ number 3 ∷ words (codes ", at most ") ∷ number 2 ∷ []
-unfolding tenths_words
-at_once_is = refl
-
-took_is :
-    (took_tile unknown ≡ []) × (took_tile few
-    ≡ tile_of (codes "Took") (number 1 ∷ words (codes " min ") ∷ number 3 ∷ number 0 ∷ words (codes " s") ∷ []) [])
-unfolding duration_words
-took_is = (refl, refl)
-
 abbrev timed : List Part → List Part
 timed rest =
     tile_of (codes "Sum of times") (number 2 ∷ words (codes " min ") ∷ number 0 ∷ number 5 ∷ words (codes " s") ∷ [])
     (tile_of (codes "At once") (number 1 ∷ words (codes ".") ∷ number 3 ∷ words (codes ", at most ") ∷ number 2 ∷ []) rest)
-
-timed_are : (timed_tiles unknown ≡ []) × (timed_tiles few ≡ []) × (timed_tiles known ≡ timed [])
-unfolding duration_words tenths_words
-timed_are = (refl, refl, refl)
 
 abbrev all_tiles : List Part → List Part
 all_tiles rest =
@@ -147,44 +124,16 @@ all_tiles rest =
     (tile_of (codes "Logs") (number 1 ∷ words (codes " byte") ∷ words [] ∷ words [] ∷ [])
     (tile_of (codes "Took") (number 1 ∷ words (codes " min ") ∷ number 3 ∷ number 0 ∷ words (codes " s") ∷ []) (timed rest)))))
 
-tiles_are :
-    (tiles known 3 1 1 ≡ all_tiles [])
-    × (tiles unknown 5 2 0
-    ≡ tile_of (codes "Targets") (number 5 ∷ [])
-    (tile_of (codes "Failed") (number 2 ∷ []) (tile_of (codes "Lines with warning:") (number 4 ∷ [])
-    (tile_of (codes "Logs") (number 46 ∷ words (codes ".") ∷ number 0 ∷ words (codes " kB") ∷ []) []))))
-unfolding duration_words size_words tenths_words
-tiles_are = (refl, refl)
-
--- The words of some parts.
-abbrev words_of : Part → List (List ℕ)
-words_of (TextPart text) = text ∷ []
-words_of part = []
-
-tile_words_are :
-    (flat_map words_of (tiles known 3 1 0)
-    ≡ codes "Targets" ∷ codes "Failed" ∷ codes "Lines with warning:" ∷ codes "Logs" ∷ codes " byte" ∷ [] ∷ [] ∷ codes "Took" ∷ codes " min "
-    ∷ codes " s"
-    ∷ codes "Sum of times" ∷ codes " min " ∷ codes " s" ∷ codes "At once" ∷ codes "." ∷ codes ", at most " ∷ [])
-    × (flat_map words_of (tiles unknown 5 2 0)
-    ≡ codes "Targets" ∷ codes "Failed" ∷ codes "Lines with warning:" ∷ codes "Logs" ∷ codes "." ∷ codes " kB" ∷ [])
-unfolding duration_words size_words tenths_words
-tile_words_are = (refl, refl)
-
 -- ---- tables
 
-measures_are :
-    (measure_parts Count 12345 ≡ number 12345 ∷ [])
-    × (measure_parts Milliseconds 12345 ≡ number 12 ∷ words (codes ".") ∷ number 3 ∷ words (codes " s") ∷ words [] ∷ [])
-unfolding duration_words
-measures_are = (refl, refl)
-
 -- In hundredths of a percent, rounded down. Ten thousand times a value is at most 2^64 - 1.
+abbrev width : ℕ → ℕ → ℕ
+width value largest = meter_of (record (build_view logs nodes known) { rank = rank value 0; largest = largest })
+
 widths_are :
-    (meter_width 10 10 ≡ 10000) × (meter_width 5 10 ≡ 5000) × (meter_width 1 3 ≡ 3333) × (meter_width 0 0 ≡ 0) × (meter_width 2 0 ≡ 20000)
-    × (meter_width 0 7 ≡ 0)
-    × (meter_width 1844674407370955 1 ≡ 18446744073709550000) × (meter_width 1844674407370956 1 ≡ 18446744073709551615)
-    × (meter_width 18446744073709551615 18446744073709551615 ≡ 1)
+    (width 10 10 ≡ 10000) × (width 5 10 ≡ 5000) × (width 1 3 ≡ 3333) × (width 0 0 ≡ 0) × (width 2 0 ≡ 20000) × (width 0 7 ≡ 0)
+    × (width 1844674407370955 1 ≡ 18446744073709550000) × (width 1844674407370956 1 ≡ 18446744073709551615)
+    × (width 18446744073709551615 18446744073709551615 ≡ 1)
 widths_are = (refl, refl, refl, refl, refl, refl, refl, refl, refl)
 
 longest_are : (shown_longest unknown ≡ []) × (shown_longest few ≡ []) × (shown_longest known ≡ rank 60000 2 ∷ rank 5000 1 ∷ [])
@@ -217,13 +166,6 @@ warned_row rest =
     ∷ tag markup.NumberCell ∷ number 8 ∷ tag markup.EndCell ∷ tag markup.MeterCell ∷ MeterPart 10000 ∷ tag markup.EndCell
     ∷ tag markup.EndTableRow ∷ rest
 
-rows_are :
-    (rank_parts logs nodes Milliseconds 60000 (rank 5000 1) ≡ short_row [])
-    × (rank_parts logs nodes Milliseconds 60000 (rank 60000 2) ≡ long_row [])
-    × (rank_parts logs nodes Count 8 (rank 8 1) ≡ warned_row [])
-unfolding rank_parts duration_words
-rows_are = (refl, refl, refl)
-
 abbrev table : List ℕ → List Part → List Part
 table heading rest =
     tag markup.Div ∷ tag markup.Title3 ∷ words heading ∷ tag markup.EndTitle3 ∷ tag markup.Table ∷ tag markup.TableBody ∷ rest
@@ -231,32 +173,10 @@ table heading rest =
 abbrev table_end : List Part → List Part
 table_end rest = tag markup.EndTableBody ∷ tag markup.EndTable ∷ tag markup.EndDiv ∷ rest
 
-table_starts_are : table_start (codes "h") ≡ table (codes "h") []
-table_starts_are = refl
-
--- A meter shows a part of the value of the first row.
-table_is :
-    (table_parts logs nodes Milliseconds (codes "h") [] ≡ [])
-    × (table_parts logs nodes Milliseconds (codes "h") (rank 60000 2 ∷ rank 5000 1 ∷ [])
-    ≡ table (codes "h") (long_row (short_row (table_end []))))
-    × (table_parts logs nodes Count (codes "h") (rank 8 1 ∷ []) ≡ table (codes "h") (warned_row (table_end [])))
-unfolding table_parts rank_parts duration_words
-table_is = (refl, refl, refl)
-
 abbrev both_tables : List Part → List Part
 both_tables rest =
     tag markup.Columns ∷ table (codes "Longest")
     (long_row (short_row (table_end (table (codes "Most warnings") (warned_row (table_end (tag markup.EndDiv ∷ rest)))))))
-
-tables_are :
-    (tables_parts logs nodes [] [] ≡ [])
-    × (tables_parts logs nodes [] (rank 8 1 ∷ [])
-    ≡ tag markup.Columns ∷ table (codes "Most warnings") (warned_row (table_end (tag markup.EndDiv ∷ []))))
-    × (tables_parts logs nodes (rank 60000 2 ∷ []) []
-    ≡ tag markup.Columns ∷ table (codes "Longest") (long_row (table_end (tag markup.EndDiv ∷ []))))
-    × (tables_parts logs nodes (rank 60000 2 ∷ rank 5000 1 ∷ []) (rank 8 1 ∷ []) ≡ both_tables [])
-unfolding tables_parts table_parts rank_parts duration_words
-tables_are = (refl, refl, refl, refl)
 
 -- ---- why there is no timeline
 
@@ -271,15 +191,6 @@ abbrev some_known : ℕ → ℕ → List Part → List Part
 some_known unknown targets rest =
     words (codes "There is no timeline: the logs of ") ∷ number unknown ∷ words (codes " of ") ∷ number targets
     ∷ words (codes " targets do not say when they began, or when they ended.") ∷ rest
-
-unknown_are : (unknown_parts 0 0 ≡ nothing_known ∷ []) × (unknown_parts 1 1 ≡ some_known 1 1 []) × (unknown_parts 2 7 ≡ some_known 2 7 [])
-unknown_are = (refl, refl, refl)
-
-reasons_are :
-    (why_parts known ≡ [])
-    × (why_parts unknown ≡ tag markup.QuietParagraph ∷ nothing_known ∷ tag markup.EndParagraph ∷ [])
-    × (why_parts few ≡ tag markup.QuietParagraph ∷ some_known 1 3 (tag markup.EndParagraph ∷ []))
-reasons_are = (refl, refl, refl)
 
 -- ---- the section
 
@@ -298,7 +209,7 @@ summary_is :
     (tile_of (codes "Logs") (number 46 ∷ words (codes ".") ∷ number 0 ∷ words (codes " kB") ∷ [])
     (tag markup.EndDescriptionList ∷ tag markup.QuietParagraph ∷ nothing_known ∷ tag markup.EndParagraph ∷ tag markup.EndSection ∷ [])))))
     )
-unfolding summary_parts tables_parts table_parts rank_parts duration_words size_words tenths_words
+unfolding summary_parts duration_words size_words tenths_words
 summary_is = (refl, refl)
 
 -- The section's heading, and the number of targets, of those that failed, and of those above.
@@ -308,7 +219,7 @@ summary_begins :
     (tile_of (codes "Targets") (number 3 ∷ [])
     (tag markup.Div ∷ tag markup.Term ∷ words (codes "Failed") ∷ tag markup.EndTerm ∷ tag markup.Description ∷ number 1
     ∷ words (codes ", and ") ∷ number 1 ∷ words (codes " above") ∷ []))
-unfolding summary_parts tables_parts table_parts rank_parts duration_words size_words tenths_words
+unfolding summary_parts duration_words size_words tenths_words
 summary_begins = refl
 
 -- Where the tables and the reason begin.
@@ -320,11 +231,81 @@ milestone (MarkupPart markup.QuietParagraph) = markup.QuietParagraph ∷ []
 milestone (MarkupPart markup.EndSection) = markup.EndSection ∷ []
 milestone part = []
 
+abbrev milestones : Facts → List Markup
+milestones facts = flat_map milestone (summary_parts logs nodes facts)
+
 milestones_are :
-    (flat_map milestone (summary_parts logs nodes known)
-    ≡ markup.EndDescriptionList ∷ markup.Columns ∷ markup.Table ∷ markup.Table ∷ markup.EndSection ∷ [])
-    × (flat_map milestone (summary_parts logs nodes few)
-    ≡ markup.EndDescriptionList ∷ markup.Columns ∷ markup.Table ∷ markup.QuietParagraph ∷ markup.EndSection ∷ [])
-    × (flat_map milestone (summary_parts logs nodes unknown) ≡ markup.EndDescriptionList ∷ markup.QuietParagraph ∷ markup.EndSection ∷ [])
-unfolding summary_parts tables_parts table_parts rank_parts duration_words size_words tenths_words
-milestones_are = (refl, refl, refl)
+    (milestones known ≡ markup.EndDescriptionList ∷ markup.Columns ∷ markup.Table ∷ markup.Table ∷ markup.EndSection ∷ [])
+    × (milestones (record known { longest = [] }) ≡ markup.EndDescriptionList ∷ markup.Columns ∷ markup.Table ∷ markup.EndSection ∷ [])
+    × (milestones (record known { warned = [] }) ≡ markup.EndDescriptionList ∷ markup.Columns ∷ markup.Table ∷ markup.EndSection ∷ [])
+    × (milestones (record known { longest = []; warned = [] }) ≡ markup.EndDescriptionList ∷ markup.EndSection ∷ [])
+    × (milestones few ≡ markup.EndDescriptionList ∷ markup.Columns ∷ markup.Table ∷ markup.QuietParagraph ∷ markup.EndSection ∷ [])
+    × (milestones unknown ≡ markup.EndDescriptionList ∷ markup.QuietParagraph ∷ markup.EndSection ∷ [])
+unfolding summary_parts duration_words size_words tenths_words
+milestones_are = (refl, refl, refl, refl, refl, refl)
+
+-- The words of some parts.
+abbrev words_of : Part → List (List ℕ)
+words_of (TextPart text) = text ∷ []
+words_of part = []
+
+-- A build of which the times of one target of three are unknown, and in which nothing failed with another target.
+few_words_are :
+    flat_map words_of (summary_parts (log (codes "a") ∷ []) (node 0 None (Some (pos 1)) false ∷ []) (record few { warned = [] }))
+    ≡ codes "Summary" ∷ codes "Targets" ∷ codes "Failed" ∷ codes "Lines with warning:" ∷ codes "Logs" ∷ codes " byte" ∷ [] ∷ []
+    ∷ codes "Took" ∷ codes " min " ∷ codes " s"
+    ∷ codes "There is no timeline: the logs of " ∷ codes " of " ∷ codes " targets do not say when they began, or when they ended." ∷ []
+unfolding summary_parts duration_words size_words tenths_words
+few_words_are = refl
+
+-- The values in some parts: numbers, and the widths of meters.
+abbrev values_of : Part → List ℕ
+values_of (NumberPart value) = value ∷ []
+values_of (MeterPart value) = value ∷ []
+values_of part = []
+
+-- 1 target failed, 7 lines have warnings, 1 byte, 1 min 30 s, and the logs of 1 of 3 targets say too little.
+few_values_are :
+    flat_map values_of (summary_parts (log (codes "a") ∷ []) (node 0 None (Some (pos 1)) false ∷ []) (record few { warned = [] }))
+    ≡ 1 ∷ 1 ∷ 7 ∷ 1 ∷ 1 ∷ 3 ∷ 0 ∷ 1 ∷ 3 ∷ []
+unfolding summary_parts duration_words size_words tenths_words
+few_values_are = refl
+
+-- 3 targets, of which 1 failed and 1 with it; 7 lines with warnings, 1 byte, 1 min 30 s, in all 2 min 05 s, 1.3 and 2 at once. Status 2,
+-- 1 min 00 s; 5.00 s; and 8 lines with warnings.
+known_values_are :
+    flat_map values_of (summary_parts logs nodes known)
+    ≡ 3 ∷ 1 ∷ 1 ∷ 7 ∷ 1 ∷ 1 ∷ 3 ∷ 0 ∷ 2 ∷ 0 ∷ 5 ∷ 1 ∷ 3 ∷ 2
+    ∷ 2 ∷ 1 ∷ 0 ∷ 0 ∷ 10000 ∷ 5 ∷ 0 ∷ 0 ∷ 833 ∷ 8 ∷ 10000 ∷ []
+unfolding summary_parts duration_words size_words tenths_words
+known_values_are = refl
+
+-- The targets to which some parts lead.
+abbrev links_of : Part → List ℕ
+links_of (MarkupPart (markup.TargetLink position)) = position ∷ []
+links_of part = []
+
+links_are : flat_map links_of (summary_parts logs nodes known) ≡ 2 ∷ 1 ∷ 1 ∷ []
+unfolding summary_parts duration_words size_words tenths_words
+links_are = refl
+
+abbrev warned : Facts
+warned = record unknown { warned = rank 8 1 ∷ rank 2 2 ∷ [] }
+
+-- The first target has 8 lines with warnings, and the second one, which failed with status 2, a quarter of that.
+warned_are :
+    flat_map values_of (summary_parts logs nodes warned)
+    ≡ 3 ∷ 1 ∷ 1 ∷ 4 ∷ 46 ∷ 0 ∷ 8 ∷ 10000 ∷ 2 ∷ 2 ∷ 2500 ∷ []
+unfolding summary_parts duration_words size_words tenths_words
+warned_are = refl
+
+warned_words_are :
+    flat_map words_of (summary_parts logs nodes warned)
+    ≡ codes "Summary" ∷ codes "Targets" ∷ codes "Failed" ∷ codes ", and " ∷ codes " above" ∷ codes "Lines with warning:" ∷ codes "Logs"
+    ∷ codes "." ∷ codes " kB" ∷ codes "Most warnings" ∷ codes "a" ∷ codes "b" ∷ codes " " ∷ codes "exit " ∷ []
+    ∷ codes "There is no timeline: the logs do not say when the targets ran." ∷ []
+unfolding summary_parts duration_words size_words tenths_words
+warned_words_are = refl
+
+nothing_is : nothing (record {}) (build_view logs nodes unknown) ≡ []
+nothing_is = refl

@@ -16,7 +16,7 @@ use Rattle.redo_html.specs.Parts.Part.{ChartPart, MarkupPart, TextPart}
 use Rattle.redo_logs.specs.Logs.{Log}
 use Rattle.redo_outline.specs.declared.node.Node.{Node}
 use Rattle.redo_page.specs.declared.labels.TheConstants.{TIMELINE}
-use Rattle.redo_page.specs.Summary.{known_count}
+use Rattle.redo_page.specs.Scope.{known_count}
 use Rattle.redo_page.specs.Targets.{parts_if}
 use Rattle.redo_page.specs.Timeline.{facts_drawing, marks_parts, timeline_if, timeline_parts, timeline_section, timeline_start}
 use Rattle.redo_summary.specs.Laws.{AreSpansBelow}

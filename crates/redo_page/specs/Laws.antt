@@ -1,35 +1,66 @@
 -- What the laws state.
-use Rattle.std.specs.Prelude.{◌≡◌, ◌⊎◌, ℕ, zero, suc, ◌+◌, ◌<◌, ◌==◌, ◌||◌, Bool, true, not, List, [], ◌∷◌, ◌++◌, map, Option, None, Some, codes}
-use Rattle.std.specs.List.{AllByRecursion, filter, flat_map, list_any}
+use Rattle.std.specs.Prelude.{◌≡◌, ◌⊎◌, ℕ, zero, suc, ◌+◌, ◌<◌, ◌==◌, ◌||◌, Bool, true, not, List, [], ◌∷◌, ◌++◌, map, Option, None, Some, codes, false, nat_eq, take}
+use Rattle.std.specs.List.{AllByRecursion, filter, flat_map, list_any, starts_with}
 use Rattle.redo_line.specs.declared.entry.Entry.TheVariants.{Text, Done, Note}
 use Rattle.redo_line.specs.Lines.{with_line_feed}
 use Rattle.redo_logs.specs.Logs.{Log, log_number}
 use Rattle.redo_view.specs.Event.{Event}
 use Rattle.redo_view.specs.Event.Event.{Requested, Mentioned, EntryShown}
 use Rattle.redo_html.specs.declared.markup.Markup.{Markup}
-use Rattle.redo_html.specs.declared.markup.Markup.TheVariants.{FailedSection, SummarySection, TimelineSection, TreeSection, FailedLink, SummaryLink, TimelineLink, TreeLink, TargetLink, OutputLink, Article, TargetItem, Details, OpenDetails}
+use Rattle.redo_html.specs.declared.markup.Markup.TheVariants.{BodyBad, BodyGood, BodyOpen, FailedSection, SummarySection, TimelineSection, TreeSection, FailedLink, SummaryLink, TimelineLink, TreeLink, TargetLink, OutputLink, Article, TargetItem, Details, OpenDetails}
 use Rattle.redo_html.specs.declared.chart.GroupKind.{GroupKind}
 use Rattle.redo_html.specs.Chart.{Drawing, drawing_links}
 use Rattle.redo_html.specs.Html.{is_one_of}
 use Rattle.redo_html.specs.Laws.{IsChartTag, is_highlight}
 use Rattle.redo_html.specs.Parts.{Part}
-use Rattle.redo_html.specs.Parts.Part.{MarkupPart, LogPart, ChartPart}
+use Rattle.redo_html.specs.Parts.Part.{MarkupPart, LogPart, TitlePart, ChartPart}
 use Rattle.redo_html.specs.Tags.{markup_text}
 use Rattle.redo_outline.specs.declared.node.Node.{Node}
 use Rattle.redo_outline.specs.Contents.{Contents, contents_of}
 use Rattle.redo_outline.specs.Contents.Contents.{Nothing, Shown, Opened}
 use Rattle.redo_outline.specs.Outline.{log_count}
-use Rattle.redo_page.specs.Failed.{article_parts}
+use Rattle.redo_page.specs.Failed.{article_parts, is_dependent_failure}
 use Rattle.redo_page.specs.Page.{Request, options_of, page_contents, page_events, page_facts, page_outline}
 use Rattle.redo_page.specs.Timeline.{facts_drawing}
 use Rattle.redo_chart.specs.Laws.{DrawsAll, shapes_of}
 use Rattle.redo_summary.specs.Summary.{is_timed}
 use Rattle.redo_timeline.specs.declared.span.Span.{Span}
 use Rattle.redo_timeline.specs.declared.span.Window.{Window}
-use Rattle.redo_page.specs.Tree.{Build, is_moved_if, is_same_position, node_at, tree_parts}
+use Rattle.redo_page.specs.Tree.{Build, has_failed, is_moved_if, is_root_failure, is_same_position, node_at, tree_parts}
 use Rattle.redo_page.specs.Limits.{tree_limits}
 use Rattle.redo_trim.specs.declared.limit.Limit.{Limit}
 use Rattle.redo_trim.specs.Trim.{limit_of}
+
+-- ---- what became of a build
+
+-- The start tag of the body.
+abbrev pub body_tag : Part → List Markup
+body_tag (MarkupPart BodyGood) = BodyGood ∷ []
+body_tag (MarkupPart BodyOpen) = BodyOpen ∷ []
+body_tag (MarkupPart BodyBad) = BodyBad ∷ []
+body_tag part = []
+
+-- The text of the element `title`.
+abbrev pub title_in : Part → List (List ℕ)
+title_in (TitlePart title) = title ∷ []
+title_in part = []
+
+abbrev pub first : {X : Type 0} → List X → Option X
+first [] = None
+first (item ∷ items) = Some item
+
+-- The body of a page in the colours of a failed build.
+abbrev pub IsRed : List Part → Type 0
+IsRed parts = first (flat_map body_tag parts) ≡ Some BodyBad
+
+-- A title that begins with the sign of a failed build, a ballot cross (U+2717) in UTF-8.
+abbrev pub says_failed : Option (List ℕ) → Bool
+says_failed None = false
+says_failed (Some title) = starts_with nat_eq title (0xE2 ∷ 0x9C ∷ 0x97 ∷ [])
+
+-- Whether a target that a page shows failed.
+abbrev pub shows_failure : Request → List Log → List (List ℕ) → Bool
+shows_failure request logs requested = list_any has_failed (page_outline request logs requested)
 
 -- ---- ids and links
 
@@ -115,6 +146,12 @@ IsListedBefore nodes position other =
 abbrev pub AreInOrderOfEnd : List Node → List ℕ → Type 0
 AreInOrderOfEnd nodes [] = Unit {0}
 AreInOrderOfEnd nodes (position ∷ positions) = AllByRecursion (IsListedBefore nodes position) positions × AreInOrderOfEnd nodes positions
+
+-- Among the targets below each dependent failure is a root failure. `take node.below nodes` are the nodes of the targets below.
+abbrev pub ContainRoots : List Node → Type 0
+ContainRoots [] = Unit {0}
+ContainRoots (node ∷ nodes) =
+    (is_dependent_failure node ≡ true → list_any is_root_failure (take node.below nodes) ≡ true) × ContainRoots nodes
 
 -- ---- charts
 

@@ -1,4 +1,5 @@
 pub mod Blocks
+pub mod Command
 pub mod Errors
 pub mod Excerpt
 pub mod Failed
@@ -7,8 +8,11 @@ pub mod Laws
 pub mod Limits
 pub mod Page
 pub mod Private
+pub mod Scope
 pub mod Summary
 pub mod Targets
+pub mod Template
 pub mod Timeline
 pub mod Tree
+pub mod Verdict
 pub mod Words

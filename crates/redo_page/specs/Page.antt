@@ -11,8 +11,10 @@ use Rattle.redo_outline.specs.declared.node.RunTimes.{RunTimes}
 use Rattle.redo_outline.specs.Contents.{Contents, contents_of}
 use Rattle.redo_outline.specs.Outline.{outline_of, with_times}
 use Rattle.redo_page.specs.Failed.{failed_parts}
-use Rattle.redo_page.specs.Frame.{command, head_parts, header_parts, footer_parts, title_text, verdict_of, verdict_text}
-use Rattle.redo_page.specs.declared.frame.Verdict.{Verdict}
+use Rattle.redo_page.specs.Command.{command}
+use Rattle.redo_page.specs.Frame.{head_parts, header_parts, footer_parts}
+use Rattle.redo_page.specs.Verdict.{title_text, verdict_of, verdict_text}
+use Rattle.redo_page.specs.declared.verdict.Verdict.{Verdict}
 use Rattle.redo_page.specs.declared.page.PageRequest.{PageRequest}
 use Rattle.redo_page.specs.Limits.{tree_limits}
 use Rattle.redo_page.specs.Summary.{summary_parts}

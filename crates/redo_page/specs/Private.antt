@@ -4,5 +4,6 @@ pub mod PageTexts
 pub mod Printed
 pub mod Referring
 pub mod Texts
+pub mod Viewing
 pub mod Walking
 pub mod Writing

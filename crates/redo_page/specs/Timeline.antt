@@ -8,7 +8,7 @@ use Rattle.redo_html.specs.Parts.{Part}
 use Rattle.redo_html.specs.Parts.Part.{ChartPart, MarkupPart, TextPart, NumberPart}
 use Rattle.redo_outline.specs.declared.node.Node.{Node}
 use Rattle.redo_page.specs.declared.labels.TheConstants.{BARS_LEAD, MARKS_OF, MARKS_UNKNOWN, OF, PALE_BARS, TIMELINE}
-use Rattle.redo_page.specs.Summary.{known_count}
+use Rattle.redo_page.specs.Scope.{known_count}
 use Rattle.redo_page.specs.Targets.{parts_if}
 use Rattle.redo_summary.specs.Summary.{Facts, is_timed}
 use Rattle.redo_timeline.specs.declared.span.Window.{Window}

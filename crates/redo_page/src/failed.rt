@@ -3,8 +3,8 @@ ghost use Rattle.std.specs.Prelude.{◌≡◌, ◌∷◌, ◌++◌, true, false,
 ghost use Rattle.std.specs.List.{flat_map};
 ghost use Rattle.redo_html.specs.declared.markup.Markup.TheVariants.{EndDetails, EndOrdered, Ordered, OrderedFrom};
 ghost use Rattle.redo_html.specs.Parts.Part.{MarkupPart};
-ghost use Rattle.redo_page.specs.Failed.{AreFailures, article_parts, article_row, cause_if, is_dependent_failure, failed_parts, is_unclosed, list_parts, more_parts, positions_where, row_parts, section_parts, target_row, unlisted_parts};
-ghost use Rattle.redo_page.specs.Tree.{end_cmp, failure_cmp, root_failures};
+ghost use Rattle.redo_page.specs.Failed.{AreFailures, article_parts, article_row, cause_if, failed_parts, list_parts, more_parts, row_parts, section_parts, target_row, unlisted_parts};
+ghost use Rattle.redo_page.specs.Tree.{end_cmp, failure_cmp};
 ghost use Rattle.redo_timeline.specs.Order.{sort};
 ghost use Rattle.redo_page.specs.Private.Writing.{WroteParts};
 ghost use Rattle.redo_page.specs.declared.labels.TheConstants.{COUNT_NOT_CLOSED, FAILED_WITH_THESE, MORE_FAILED};
@@ -43,28 +43,27 @@ pub struct Failures {
 pub fn find_failures(alloc: Global, nodes: &[Node]) -> Result<Failures, AllocError>
     ensures { IfOk result (AreFailures nodes.now) }
 {
-    let roots = root_failures(alloc, nodes)?;
-    let dependents = dependent_failures(alloc, nodes)?;
-    let unclosed = unclosed_targets(alloc, nodes)?;
+    let mut roots = Vec::new(alloc);
+    let mut dependents = Vec::new(alloc);
+    let mut unclosed = Vec::new(alloc);
+    for position in 0..nodes.len() {
+        let node = nodes[position];
+        if has_failed(&node) && !node.fails_below {
+            roots.push(position)?;
+        }
+        if has_failed(&node) && node.fails_below {
+            dependents.push(position)?;
+        }
+        if node.status.is_none() && node.below == 0 && node.parent.is_some() {
+            unclosed.push(position)?;
+        }
+    }
+    sort_by_end(nodes, &mut roots);
     Ok(Failures {
         roots,
         dependents,
         unclosed,
     })
-}
-
-fn root_failures(alloc: Global, nodes: &[Node]) -> Result<Vec<usize>, AllocError>
-    ensures { IfOk result (λ positions. positions.items ≡ root_failures nodes.now) }
-{
-    let mut positions = Vec::new(alloc);
-    for position in 0..nodes.len() {
-        let node = nodes[position];
-        if has_failed(&node) && !node.fails_below {
-            positions.push(position)?;
-        }
-    }
-    sort_by_end(nodes, &mut positions);
-    Ok(positions)
 }
 
 // Sorts positions of targets by when the targets ended.
@@ -90,32 +89,6 @@ fn end_cmp(ended: Option<u64>, other: Option<u64>) -> Ordering
         (None, Some(_)) => Ordering::Greater,
         (None, None) => Ordering::Equal,
     }
-}
-
-fn dependent_failures(alloc: Global, nodes: &[Node]) -> Result<Vec<usize>, AllocError>
-    ensures { IfOk result (λ positions. positions.items ≡ positions_where is_dependent_failure 0 nodes.now) }
-{
-    let mut positions = Vec::new(alloc);
-    for position in 0..nodes.len() {
-        let node = nodes[position];
-        if has_failed(&node) && node.fails_below {
-            positions.push(position)?;
-        }
-    }
-    Ok(positions)
-}
-
-fn unclosed_targets(alloc: Global, nodes: &[Node]) -> Result<Vec<usize>, AllocError>
-    ensures { IfOk result (λ positions. positions.items ≡ positions_where is_unclosed 0 nodes.now) }
-{
-    let mut positions = Vec::new(alloc);
-    for position in 0..nodes.len() {
-        let node = nodes[position];
-        if node.status.is_none() && node.below == 0 && node.parent.is_some() {
-            positions.push(position)?;
-        }
-    }
-    Ok(positions)
 }
 
 /// Returns the first positions, at most `count` of them.
@@ -338,7 +311,7 @@ fn write_others<W: Sink>(
     ensures { WroteParts W.written page.old page.new
         (more_parts table.now nodes.now (OrderedFrom 11) true MORE_FAILED.now positions.now) }
 {
-    let list = Markup::OrderedFrom(11);
+    let list = Markup::OrderedFrom(MAX_ARTICLES as u64 + 1);
     write_more(table, nodes, list, true, MORE_FAILED, positions, page)
 }
 

@@ -9,7 +9,7 @@ ghost use Rattle.redo_options.specs.declared.options.Options.{Options};
 ghost use Rattle.redo_view.specs.View.{find_unknown};
 ghost use Rattle.redo_outline.specs.declared.node.Node.{Node};
 ghost use Rattle.redo_outline.specs.Contents.{Contents};
-ghost use Rattle.redo_page.specs.Laws.{AreInOrderOfEnd, HaveSameLogs, IsOwnTag, IsPartOf, article_ids, article_links, blanked, event_lines, is_among, kept_lines, lines_at, log_bytes, markups, numbers_from, page_article, page_chart, page_lines, page_tree, positioned_bytes, section_ids, section_links, target_ids, target_links, texts_of, unmoved_lines, charts, ChartDraws, HasTimeline, page_limit};
+ghost use Rattle.redo_page.specs.Laws.{AreInOrderOfEnd, ContainRoots, HaveSameLogs, IsOwnTag, IsPartOf, IsRed, article_ids, article_links, blanked, event_lines, is_among, kept_lines, lines_at, log_bytes, markups, numbers_from, page_article, page_chart, page_lines, page_tree, positioned_bytes, section_ids, section_links, target_ids, target_links, texts_of, unmoved_lines, charts, ChartDraws, HasTimeline, first, page_limit, says_failed, shows_failure, title_in};
 ghost use Rattle.redo_page.specs.Failed.{is_dependent_failure, positions_where};
 ghost use Rattle.redo_page.specs.Limits.{bytes_shown, highest_cap};
 ghost use Rattle.redo_page.specs.Page.{Request, page_build, page_events, page_facts, page_html, page_outline, page_parts};
@@ -27,7 +27,7 @@ use redo_html::{
     charts_have_no_text_in_tags, only_markup_decides_nesting, parts_are_read,
     parts_show_their_text, passages_are_read_as_shown,
 };
-use redo_outline::events_are_in_contents;
+use redo_outline::{events_are_in_contents, nodes_sum_up_logs_below};
 use redo_summary::{positions_are_of_nodes, spans_are_callers_or_recipes};
 use redo_trim::{head_and_tail_are_kept, trimmed_events_are_in_tree, unlimited_logs_are_whole};
 use redo_view::logs_show_their_lines;
@@ -72,13 +72,30 @@ pub fn links_lead_to_ids()
     trimmed_events_are_in_tree();
 }
 
+/// The body of a page has the colours of a failed build, and its title the sign of one, exactly if a target that the page shows failed.
+pub fn failed_builds_are_red()
+    ensures red { (request : Request) (logs : List Log) (requested : List (List ℕ)) →
+        shows_failure request logs requested ≡ true → IsRed (page_parts request logs requested) }
+    ensures only { (request : Request) (logs : List Log) (requested : List (List ℕ)) →
+        shows_failure request logs requested ≡ false → IsRed (page_parts request logs requested) → ⊥ }
+    ensures title { (request : Request) (logs : List Log) (requested : List (List ℕ)) →
+        says_failed (first (flat_map title_in (page_parts request logs requested))) ≡ shows_failure request logs requested }
+{
+    nodes_sum_up_logs_below();
+}
+
 /// Each target that failed is exactly once among the root failures or among the dependent ones. The root failures are in the order in
 /// which the targets ended. Targets with an unknown end follow all others. Equal ends, and unknown ones, are in the order of the tree.
+/// Each dependent failure contains a root failure.
 pub fn failures_are_listed()
     ensures listed { (nodes : List Node) →
         IsPermutation (positions_where has_failed 0 nodes) (root_failures nodes ++ positions_where is_dependent_failure 0 nodes) }
     ensures in_order { (nodes : List Node) → AreInOrderOfEnd nodes (root_failures nodes) }
-{}
+    ensures found { (request : Request) (logs : List Log) (requested : List (List ℕ)) →
+        ContainRoots (page_outline request logs requested) }
+{
+    nodes_sum_up_logs_below();
+}
 
 /// The contents of a page have the text lines of the events, each once and in order, if each requested target has a log. The tree shows
 /// those that are left of long logs, in order, except the lines of logs whose output is in an article. Such an article shows exactly the

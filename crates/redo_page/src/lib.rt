@@ -5,6 +5,7 @@ mod article;
 mod block;
 mod build;
 mod cause;
+mod command;
 mod excerpt;
 mod failed;
 mod frame;
@@ -17,18 +18,21 @@ mod logs;
 mod nodes;
 mod page;
 mod printed;
+mod scope;
 mod step;
 mod summary;
 mod targets;
+mod template;
 mod texts;
 mod timeline;
 mod tree;
+mod verdict;
 mod words;
 mod writer;
 
 pub use laws::{
-    failures_are_listed, lines_are_shown, links_lead_to_ids, page_is_read, tags_are_its_own,
-    tags_nest, times_are_shown,
+    failed_builds_are_red, failures_are_listed, lines_are_shown, links_lead_to_ids, page_is_read,
+    tags_are_its_own, tags_nest, times_are_shown,
 };
 pub use page::{PageRequest, write_page};
 pub use redo_view::FormFault;

@@ -17,11 +17,13 @@ ghost use Rattle.redo_summary.specs.Targets.{time_between};
 ghost use Rattle.redo_page.specs.Private.PageTexts.{AreTexts};
 ghost use Rattle.redo_page.specs.Private.Writing.{WroteParts};
 
+use crate::command::command;
 use crate::failed::{Failures, MAX_ARTICLES, find_failures, first_of, write_failed};
-use crate::frame::{Verdict, command, title_text, write_footer, write_head, write_header};
+use crate::frame::{write_footer, write_head, write_header};
 use crate::summary::write_summary;
 use crate::timeline::write_timeline;
 use crate::tree::write_tree;
+use crate::verdict::{Verdict, title_text};
 use crate::writer::PageWriter;
 use redo_device::{Broken, Sink};
 use redo_line::TargetName;

@@ -10,7 +10,7 @@ ghost use Rattle.redo_page.specs.Timeline.{facts_drawing, has_timeline, marks_pa
 ghost use Rattle.redo_page.specs.Private.Writing.{WroteParts};
 
 use crate::labels::{BARS_LEAD, MARKS_OF, MARKS_UNKNOWN, OF, PALE_BARS, TIMELINE};
-use crate::summary::known_count;
+use crate::scope::known_count;
 use crate::writer::PageWriter;
 use redo_device::{Broken, Sink};
 use redo_html::{Markup, Piece, write_pieces};

@@ -3,7 +3,8 @@ use Rattle.std.specs.Prelude.{◌≡◌, ℕ, List}
 use Rattle.redo_options.specs.declared.options.Options.{Options}
 use Rattle.redo_outline.specs.declared.node.Node.{Node}
 use Rattle.redo_page.specs.declared.page.Texts.{Texts}
-use Rattle.redo_page.specs.Frame.{command, title_text, verdict_of}
+use Rattle.redo_page.specs.Command.{command}
+use Rattle.redo_page.specs.Verdict.{title_text, verdict_of}
 use Rattle.redo_page.specs.Page.{Request, heading_of}
 
 pub record AreTexts (request : Request) (options : Options) (requested : List (List ℕ)) (nodes : List Node) (texts : Texts) : Type 0 where

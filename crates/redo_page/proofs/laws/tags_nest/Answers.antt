@@ -5,14 +5,15 @@ use Rattle.std.proofs.lemmas.List.{append-nil}
 use Rattle.redo_logs.specs.Logs.{Log}
 use Rattle.redo_html.specs.Html.{nests_in, tags_of}
 use Rattle.redo_html.specs.Parts.{part_tokens}
-use Rattle.redo_page.specs.Frame.{command, title_text, verdict_of}
+use Rattle.redo_page.specs.Command.{command}
+use Rattle.redo_page.specs.Verdict.{title_text, verdict_of}
 use Rattle.redo_outline.specs.declared.node.Node.{Node}
-use Rattle.redo_page.specs.declared.frame.Verdict.{Verdict}
+use Rattle.redo_page.specs.declared.verdict.Verdict.{Verdict}
 use Rattle.redo_page.specs.Page.{Request, heading_of, options_of, page_contents, page_facts, page_outline, page_parts, top_parts_of}
 use Rattle.redo_page.proofs.Nesting.{Leads, Nest, lead_around, lead_in, then_lead}
 use Rattle.redo_page.proofs.FrameNesting.{head_leads, header_leads, footer_leads}
 use Rattle.redo_page.proofs.FailedNesting.{failed_nests}
-use Rattle.redo_page.proofs.SummaryNesting.{summary_nests}
+use Rattle.redo_page.proofs.TemplateNesting.{summary_nests}
 use Rattle.redo_page.proofs.TimelineLemmas.{timeline_nests}
 use Rattle.redo_page.proofs.TreeNesting.{tree_nests}
 use Rattle.redo_summary.specs.Summary.{Facts}

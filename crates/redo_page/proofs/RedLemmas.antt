@@ -1,0 +1,121 @@
+-- A page is red exactly if a target failed.
+use Rattle.std.proofs.Common.{◌≡◌, ℕ, suc, zero, Bool, true, false, List, [], ◌∷◌, ◌++◌, map, length, take, refl, sym, ◌∙◌, ap, subst, arith}
+use Rattle.std.specs.Prelude.{◌&&◌, ◌||◌, nat_lt, not, if◌then◌else◌}
+use Rattle.std.specs.List.{flat_map, list_any}
+use Rattle.std.proofs.lemmas.Bool.{lt-ltb}
+use Rattle.std.proofs.lemmas.List.Sorted.{length_permutation}
+use Rattle.redo_html.specs.Parts.{Part}
+use Rattle.redo_logs.specs.Logs.{Log}
+use Rattle.redo_outline.specs.declared.node.Node.{Node}
+use Rattle.redo_outline.specs.declared.node.RunTimes.{RunTimes}
+use Rattle.redo_outline.specs.Laws.{AllSumUp}
+use Rattle.redo_outline.specs.Outline.{with_times}
+use Rattle.redo_page.specs.declared.verdict.Verdict.{Verdict}
+use Rattle.redo_page.specs.declared.verdict.Verdict.TheVariants.{Failed, Unfinished, Made}
+use Rattle.redo_page.specs.Command.{command}
+use Rattle.redo_page.specs.Failed.{failed_parts}
+use Rattle.redo_page.specs.Frame.{footer_parts, head_parts, header_parts}
+use Rattle.redo_page.specs.Laws.{IsRed, first, says_failed, title_in}
+use Rattle.redo_page.specs.Page.{Request, body_parts, heading_of, options_of, page_facts, page_outline}
+use Rattle.redo_page.specs.Summary.{summary_parts}
+use Rattle.redo_page.specs.Tree.{failure_cmp, has_failed, root_failures, root_failures_from}
+use Rattle.redo_page.specs.Verdict.{is_unfinished, title_text, verdict_of}
+use Rattle.redo_timeline.proofs.OrderLemmas.{sort-permutation}
+
+any_taken : (nodes : List Node) (count : ℕ) → list_any has_failed (take count nodes) ≡ true → list_any has_failed nodes ≡ true
+any_taken nodes zero any = absurd (cc)
+any_taken [] (suc count) any = any
+any_taken (node ∷ nodes) (suc count) any = by (has_failed node) any (any_taken nodes count)
+  where
+    by : (failed : Bool) → (failed || list_any has_failed (take count nodes)) ≡ true
+        → (list_any has_failed (take count nodes) ≡ true → list_any has_failed nodes ≡ true) → (failed || list_any has_failed nodes) ≡ true
+    by true any more = refl
+    by false any more = more any
+
+-- A node that says that a target below it failed is followed by a target that failed.
+abbrev AllTell : List Node → Type 0
+AllTell [] = Unit {0}
+AllTell (node ∷ nodes) = (node.fails_below ≡ true → list_any has_failed nodes ≡ true) × AllTell nodes
+
+tell : (nodes : List Node) → AllSumUp nodes → AllTell nodes
+tell [] sums = tt
+tell (node ∷ nodes) sums = (λ below. any_taken nodes node.below (sym sums.0.failures ∙ below), tell nodes sums.1)
+
+any_timed : (times : List RunTimes) (nodes : List Node) → list_any has_failed (map (with_times times) nodes) ≡ list_any has_failed nodes
+any_timed times [] = refl
+any_timed times (node ∷ nodes) = ap (λ (any : Bool). has_failed node || any) (any_timed times nodes)
+
+timed_tell : (times : List RunTimes) (nodes : List Node) → AllTell nodes → AllTell (map (with_times times) nodes)
+timed_tell times [] tells = tt
+timed_tell times (node ∷ nodes) tells = (λ below. any_timed times nodes ∙ tells.0 below, timed_tell times nodes tells.1)
+
+-- There is a root failure exactly if a target failed.
+some_root : (position : ℕ) (nodes : List Node) → AllTell nodes
+    → nat_lt 0 (length (root_failures_from position nodes)) ≡ list_any has_failed nodes
+some_root position [] tells = refl
+some_root position (node ∷ nodes) tells = by (has_failed node) node.fails_below tells.0 (some_root (suc position) nodes tells.1)
+  where
+    by : (failed below : Bool) → (below ≡ true → list_any has_failed nodes ≡ true)
+        → nat_lt 0 (length (root_failures_from (suc position) nodes)) ≡ list_any has_failed nodes
+        → nat_lt 0 (length ((if failed && not below then position ∷ [] else []) ++ root_failures_from (suc position) nodes))
+        ≡ (failed || list_any has_failed nodes)
+    by true false tells more =
+        lt-ltb 0 (suc (length (root_failures_from (suc position) nodes))) (omega arith)
+    by true true tells more = more ∙ tells refl
+    by false below tells more = more
+
+failures_some : (nodes : List Node) → AllTell nodes → nat_lt 0 (length (root_failures nodes)) ≡ list_any has_failed nodes
+failures_some nodes tells =
+    ap (nat_lt 0) (length_permutation (root_failures_from 0 nodes) (root_failures nodes)
+    (sort-permutation (failure_cmp nodes) (root_failures_from 0 nodes))) ∙ some_root 0 nodes tells
+
+-- ---- the page
+
+abbrev verdict_if : Bool → Bool → Verdict
+verdict_if failed unfinished = if failed then Failed else if unfinished then Unfinished else Made
+
+pub verdict_is : (times : List RunTimes) (nodes : List Node) → AllSumUp nodes
+    → verdict_of (map (with_times times) nodes)
+    ≡ verdict_if (list_any has_failed (map (with_times times) nodes)) (list_any is_unfinished (map (with_times times) nodes))
+verdict_is times nodes sums =
+    ap (λ (failed : Bool). verdict_if failed (list_any is_unfinished (map (with_times times) nodes)))
+    (failures_some (map (with_times times) nodes) (timed_tell times nodes (tell nodes sums)))
+
+-- A page that begins with this head.
+abbrev page_of : Verdict → List ℕ → List ℕ → List Part → List Part
+page_of verdict title heading rest = head_parts (title_text title verdict heading) verdict ++ rest
+
+pub red_if : (failed unfinished : Bool) (verdict : Verdict) (title heading : List ℕ) (rest : List Part)
+    → verdict ≡ verdict_if failed unfinished → failed ≡ true → IsRed (page_of verdict title heading rest)
+red_if failed unfinished verdict title heading rest is failing =
+    subst (λ (v : Verdict). IsRed (page_of v title heading rest)) (sym (is ∙ ap (λ (b : Bool). verdict_if b unfinished) failing)) refl
+
+pub red_only : (failed unfinished : Bool) (verdict : Verdict) (title heading : List ℕ) (rest : List Part)
+    → verdict ≡ verdict_if failed unfinished → failed ≡ false → IsRed (page_of verdict title heading rest) → ⊥
+red_only failed unfinished verdict title heading rest is none red =
+    by unfinished (subst (λ (v : Verdict). IsRed (page_of v title heading rest)) (is ∙ ap (λ (b : Bool). verdict_if b unfinished) none) red)
+  where
+    by : (unfinished : Bool) → IsRed (page_of (if unfinished then Unfinished else Made) title heading rest) → ⊥
+    by true red = absurd (cc)
+    by false red = absurd (cc)
+
+pub title_if : (failed unfinished : Bool) (verdict : Verdict) (title heading : List ℕ) (rest : List Part)
+    → verdict ≡ verdict_if failed unfinished → says_failed (first (flat_map title_in (page_of verdict title heading rest))) ≡ failed
+title_if failed unfinished verdict title heading rest is =
+    ap (λ (v : Verdict). says_failed (first (flat_map title_in (page_of v title heading rest)))) is ∙ by failed unfinished
+  where
+    by : (failed unfinished : Bool)
+        → says_failed (first (flat_map title_in (page_of (verdict_if failed unfinished) title heading rest))) ≡ failed
+    by true unfinished = refl
+    by false true = refl
+    by false false = refl
+
+-- What follows the head of a page.
+abbrev pub page_rest : Request → List Log → List (List ℕ) → List Part
+page_rest request logs requested =
+    let nodes = page_outline request logs requested in
+    let facts = page_facts request logs requested in
+    (header_parts request.title logs (verdict_of nodes) (heading_of nodes) nodes facts
+    ++ (failed_parts logs nodes ++ summary_parts logs nodes facts))
+    ++ (body_parts logs (options_of request) request.max_bytes requested nodes facts
+    ++ footer_parts request.dir (command request.dir (options_of request) requested) (length nodes))

@@ -1,0 +1,187 @@
+-- The elements of a template nest if this is computed of its tags.
+use Rattle.std.proofs.Common.{◌≡◌, ℕ, Bool, true, false, List, [], ◌∷◌, ◌++◌, Option, None, Some, refl, ◌∙◌, ap, subst}
+use Rattle.std.specs.Prelude.{◌==◌, ◌&&◌, bytes_eq, if◌then◌else◌}
+use Rattle.std.specs.List.{flat_map}
+use Rattle.redo_logs.specs.Logs.{Log}
+use Rattle.redo_outline.specs.declared.node.Node.{Node}
+use Rattle.redo_html.specs.Html.{after_end_tag, is_void, nests_in, start_name}
+use Rattle.redo_html.specs.Laws.{markup_tag}
+use Rattle.redo_html.specs.Parts.{Part}
+use Rattle.redo_html.specs.Tags.{markup_text}
+use Rattle.redo_page.specs.declared.summary.TheConstants.{SECTION}
+use Rattle.redo_page.specs.declared.template.Around.{Around}
+use Rattle.redo_page.specs.declared.template.Around.TheVariants.{If, Each}
+use Rattle.redo_page.specs.declared.template.Item.{Item}
+use Rattle.redo_page.specs.declared.template.Item.TheVariants as item
+use Rattle.redo_page.specs.Scope.{View, holds, measure_words, row_name, row_node, row_view, rows_of}
+use Rattle.redo_page.specs.Summary.{build_view, summary_parts}
+use Rattle.redo_page.specs.Template.{around_parts, parts_of_item, parts_of_items, nothing, template_parts, tile_end, tile_start}
+use Rattle.redo_page.specs.Words.{word_part}
+use Rattle.redo_page.proofs.Nesting.{Leads, Nest, lead_in, nest_each, nest_if, then_lead}
+use Rattle.redo_page.proofs.TargetNesting.{badge_nests, linked_nests, word_nests}
+use Rattle.redo_summary.specs.Summary.{Facts}
+
+abbrev pub Ref : Type 0 → Type 0
+Ref X = record { now : X }
+
+-- The names of the open elements, the innermost first, or nothing if an end tag has another name.
+abbrev pub Open : Type 0
+Open = Option (List (List ℕ))
+
+abbrev then_open : Open → (List (List ℕ) → Open) → Open
+then_open None after = None
+then_open (Some stack) after = after stack
+
+abbrev after_end : List ℕ → List (List ℕ) → Open
+after_end name [] = None
+after_end name (inner ∷ outer) = if bytes_eq name inner then Some outer else None
+
+abbrev after_tag : List (List ℕ) → List ℕ → Open
+after_tag stack [] = None
+after_tag stack (byte ∷ bytes) =
+    if byte == 47 then after_end bytes stack
+    else if is_void (start_name (byte ∷ bytes)) then Some stack
+    else Some (start_name (byte ∷ bytes) ∷ stack)
+
+abbrev after_tags : List (List ℕ) → List (List ℕ) → Open
+after_tags stack [] = Some stack
+after_tags stack (tag ∷ tags) = then_open (after_tag stack tag) (λ next. after_tags next tags)
+
+-- The fixed tags of an item.
+abbrev item_tags : {T B : Type 0} → Item T B → List (List ℕ)
+item_tags (item.Tag markup) = markup_text markup ∷ []
+item_tags (item.Tile term) = flat_map markup_tag (tile_start [])
+item_tags item.EndTile = flat_map markup_tag tile_end
+item_tags item = []
+
+-- What an item contains ends what it begins.
+abbrev if_closed : Open → List (List ℕ) → Open
+if_closed None stack = None
+if_closed (Some []) stack = Some stack
+if_closed (Some (name ∷ names)) stack = None
+
+module _ {T B : Type 0} (inner : B → Open) where
+  abbrev after_item : List (List ℕ) → Item T B → Open
+  after_item stack (item.In around block) = if_closed (inner block) stack
+  after_item stack item = after_tags stack (item_tags item)
+
+  abbrev after_items : List (List ℕ) → List (Item T B) → Open
+  after_items stack [] = Some stack
+  after_items stack (item ∷ items) = then_open (after_item stack item) (λ next. after_items next items)
+
+abbrev pub after_nothing : Unit {0} → Open
+after_nothing block = Some []
+
+abbrev pub after_block : {B : Type 0} → (B → Open) → Ref (List (Item (Ref (List ℕ)) B)) → Open
+after_block inner block = after_items inner [] block.now
+
+-- ---- what is computed is so
+
+abbrev stack_of : Open → List (List ℕ)
+stack_of None = []
+stack_of (Some stack) = stack
+
+end_leads : (name : List ℕ) (stack next around tags : List (List ℕ)) → after_end name stack ≡ Some next
+    → after_end_tag name (stack ++ around) (λ outer. nests_in outer tags) ≡ nests_in (next ++ around) tags
+end_leads name [] next around tags is = absurd (cc)
+end_leads name (inner ∷ outer) next around tags is = by (bytes_eq name inner) is
+  where
+    by : (same : Bool) → (if same then Some outer else None) ≡ Some next
+        → (same && nests_in (outer ++ around) tags) ≡ nests_in (next ++ around) tags
+    by true is = ap (λ stack. nests_in (stack_of stack ++ around) tags) is
+    by false is = absurd (cc)
+
+tag_leads : (tag : List ℕ) (stack next around tags : List (List ℕ)) → after_tag stack tag ≡ Some next
+    → nests_in (stack ++ around) (tag ∷ tags) ≡ nests_in (next ++ around) tags
+tag_leads [] stack next around tags is = absurd (cc)
+tag_leads (byte ∷ bytes) stack next around tags is = by (byte == 47) (is_void (start_name (byte ∷ bytes))) is
+  where
+    by : (ends void : Bool)
+        → (if ends then after_end bytes stack else if void then Some stack else Some (start_name (byte ∷ bytes) ∷ stack)) ≡ Some next
+        → (if ends then after_end_tag bytes (stack ++ around) (λ outer. nests_in outer tags)
+        else if void then nests_in (stack ++ around) tags
+        else nests_in (start_name (byte ∷ bytes) ∷ (stack ++ around)) tags) ≡ nests_in (next ++ around) tags
+    by true void is = end_leads bytes stack next around tags is
+    by false true is = ap (λ stack. nests_in (stack_of stack ++ around) tags) is
+    by false false is = ap (λ stack. nests_in (stack_of stack ++ around) tags) is
+
+tags_lead : (texts stack next around tags : List (List ℕ)) → after_tags stack texts ≡ Some next
+    → nests_in (stack ++ around) (texts ++ tags) ≡ nests_in (next ++ around) tags
+tags_lead [] stack next around tags is = ap (λ stack. nests_in (stack_of stack ++ around) tags) is
+tags_lead (text ∷ texts) stack next around tags is =
+    by (after_tag stack text) refl is (λ middle rest. tags_lead texts middle next around tags rest)
+  where
+    by : (opened : Open) → after_tag stack text ≡ opened → then_open opened (λ middle. after_tags middle texts) ≡ Some next
+        → ((middle : List (List ℕ)) → after_tags middle texts ≡ Some next
+        → nests_in (middle ++ around) (texts ++ tags) ≡ nests_in (next ++ around) tags)
+        → nests_in (stack ++ around) ((text ∷ texts) ++ tags) ≡ nests_in (next ++ around) tags
+    by None first is others = absurd (cc)
+    by (Some middle) first is others = tag_leads text stack middle around (texts ++ tags) first ∙ others middle is
+
+stays : {parts : List Part} (stack next : List (List ℕ)) → Nest parts → Some stack ≡ Some next → Leads stack parts next
+stays {parts} stack next nests is = subst (λ opened. Leads stack parts (stack_of opened)) is (lead_in stack nests)
+
+closed : (opened : Open) (stack next : List (List ℕ)) → if_closed opened stack ≡ Some next → opened ≡ Some []
+closed None stack next is = absurd (cc)
+closed (Some []) stack next is = refl
+closed (Some (name ∷ names)) stack next is = absurd (cc)
+
+closed_stays : (opened : Open) (stack next : List (List ℕ)) → if_closed opened stack ≡ Some next → Some stack ≡ Some next
+closed_stays None stack next is = absurd (cc)
+closed_stays (Some []) stack next is = is
+closed_stays (Some (name ∷ names)) stack next is = absurd (cc)
+
+pub record Nests {B : Type 0} (parts : B → View → List Part) (opened : B → Open) : Type 0 where
+  pub nests : (block : B) → opened block ≡ Some [] → (view : View) → Nest (parts block view)
+
+module _ {B : Type 0} (inner : B → View → List Part) (opened : B → Open) (inner_nests : Nests inner opened) (view : View) where
+  around_nests : (around : Around) (block : B) → opened block ≡ Some [] → Nest (around_parts inner view around block)
+  around_nests (If test) block is = nest_if (holds view test) (inner_nests.nests block is view)
+  around_nests (Each rows) block is =
+      nest_each (λ rank. inner block (row_view view (rows_of view rows) rank))
+      (λ rank. inner_nests.nests block is (row_view view (rows_of view rows) rank)) (rows_of view rows)
+
+  item_leads : {T : Type 0} (text_of : T → List ℕ) (item : Item T B) (stack next : List (List ℕ))
+      → after_item opened stack item ≡ Some next → Leads stack (parts_of_item text_of inner view item) next
+  item_leads text_of (item.Tag markup) stack next is =
+      record { leads = λ around tags. tags_lead (markup_text markup ∷ []) stack next around tags is }
+  item_leads text_of (item.Tile term) stack next is =
+      record { leads = λ around tags. tags_lead (flat_map markup_tag (tile_start [])) stack next around tags is }
+  item_leads text_of item.EndTile stack next is =
+      record { leads = λ around tags. tags_lead (flat_map markup_tag tile_end) stack next around tags is }
+  item_leads text_of (item.Text text) stack next is = stays stack next (record { leads = λ around tags. refl }) is
+  item_leads text_of (item.Number count) stack next is = stays stack next (record { leads = λ around tags. refl }) is
+  item_leads text_of item.Meter stack next is = stays stack next (record { leads = λ around tags. refl }) is
+  item_leads text_of (item.Measure measure) stack next is =
+      stays stack next (nest_each word_part word_nests (measure_words view measure)) is
+  item_leads text_of item.Link stack next is = stays stack next (linked_nests (Some view.rank.position) (row_name view)) is
+  item_leads text_of item.Badge stack next is = stays stack next (badge_nests (row_node view).status) is
+  item_leads text_of (item.In around block) stack next is =
+      stays stack next (around_nests around block (closed (opened block) stack next is)) (closed_stays (opened block) stack next is)
+
+  items_lead : {T : Type 0} (text_of : T → List ℕ) (items : List (Item T B)) (stack next : List (List ℕ))
+      → after_items opened stack items ≡ Some next → Leads stack (parts_of_items text_of inner view items) next
+  items_lead text_of [] stack next is = stays stack next (record { leads = λ around tags. refl }) is
+  items_lead {T} text_of (item ∷ items) stack next is =
+      by (after_item opened stack item) refl is (λ middle rest. items_lead text_of items middle next rest)
+    where
+      by : (found : Open) → after_item opened stack item ≡ found → then_open found (λ middle. after_items opened middle items) ≡ Some next
+          → ((middle : List (List ℕ)) → after_items opened middle items ≡ Some next
+          → Leads middle (parts_of_items text_of inner view items) next)
+          → Leads stack (parts_of_items text_of inner view (item ∷ items)) next
+      by None first is others = absurd (cc)
+      by (Some middle) first is others = then_lead (item_leads text_of item stack middle first) (others middle is)
+
+pub template_nests : {B : Type 0} (inner : B → View → List Part) (opened : B → Open) → Nests inner opened
+    → Nests (template_parts inner) (after_block opened)
+template_nests inner opened inner_nests =
+    record { nests = λ block is view. items_lead inner opened inner_nests view (λ text. text.now) block.now [] [] is }
+
+nothing_nests : Nests nothing after_nothing
+nothing_nests = record { nests = λ block is view. record { leads = λ around tags. refl } }
+
+pub summary_nests : (logs : List Log) (nodes : List Node) (facts : Facts) → Nest (summary_parts logs nodes facts)
+unfolding summary_parts
+summary_nests logs nodes facts =
+    (template_nests _ _ (template_nests _ _ (template_nests _ _ (template_nests nothing after_nothing nothing_nests)))).nests
+    SECTION refl (build_view logs nodes facts)

@@ -1,8 +1,0 @@
-use Rattle.std.proofs.Common.{◌≡◌, ◌++◌, take}
-use Rattle.std.specs.List.{flat_map}
-use Rattle.redo_page.specs.Frame.{quoted_byte}
-use Rattle.redo_page.proofs.frame.push_bytes.Given as goal
-
--- Everything so far was appended.
-abbrev pub invariant-loop-byte : goal.invariant-loop-byte
-invariant-loop-byte l = l.command.items ≡ l.initial.command.items ++ flat_map quoted_byte (take l.byte-index l.word)

@@ -1,5 +1,0 @@
-use Rattle.redo_page.proofs.WriterLemmas.{wrote_then}
-use Rattle.redo_page.proofs.summary.write_words_tile.Goals as goal
-
-pub returns : goal.returns
-returns g c = wrote_then c.write_tile_start.ensures (wrote_then c.write_words.ensures c.write_tile_end.ensures)

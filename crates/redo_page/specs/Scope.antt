@@ -1,0 +1,87 @@
+-- What templates say about a build: the values of their holes, src/scope.rt.
+use Rattle.std.specs.Prelude.{ℕ, ◌+◌, ◌*◌, ◌/◌, max, ◌==◌, ◌&&◌, not, Bool, List, [], ◌∷◌, is_some, length, if◌then◌else◌}
+use Rattle.redo_logs.specs.Logs.{Log}
+use Rattle.redo_outline.specs.declared.node.Node.{Node}
+use Rattle.redo_outline.specs.Facts.{saturated, target_at}
+use Rattle.redo_page.specs.declared.scope.Count.{Count}
+use Rattle.redo_page.specs.declared.scope.Count.TheVariants.{Targets, Roots, Dependents, Warnings, Most, Unknown, Known, Value}
+use Rattle.redo_page.specs.declared.scope.Measure.{Measure}
+use Rattle.redo_page.specs.declared.scope.Measure.TheVariants.{Size, Took, Sum, AtOnce, Duration}
+use Rattle.redo_page.specs.declared.scope.Rows.{Rows}
+use Rattle.redo_page.specs.declared.scope.Rows.TheVariants.{Longest, Warned}
+use Rattle.redo_page.specs.declared.scope.Test.{Test}
+use Rattle.redo_page.specs.declared.scope.Test.TheVariants.{HasDependents, HasWindow, IsTimed, IsUntimed, NoneKnown, SomeKnown, HasTables, HasLongest, HasWarned}
+use Rattle.redo_page.specs.Tree.{node_at}
+use Rattle.redo_summary.specs.declared.rank.Rank.{Rank}
+use Rattle.redo_summary.specs.Summary.{Facts, is_timed}
+use Rattle.redo_units.specs.Durations.{duration_words}
+use Rattle.redo_units.specs.Sizes.{size_words, tenths_words}
+use Rattle.redo_units.specs.Words.{WordValue}
+
+-- The targets of a build, how many failed, what else is known, and a row of a table.
+pub record View : Type 0 where
+  pub logs : List Log
+  pub nodes : List Node
+  pub facts : Facts
+  pub roots : ℕ
+  pub dependents : ℕ
+  pub rank : Rank
+  pub largest : ℕ
+
+-- The recipes that took longest, unless too little is known.
+abbrev pub shown_longest : Facts → List Rank
+shown_longest facts = if is_timed facts then facts.longest else []
+
+-- The number of targets of which at least one time is known.
+abbrev pub known_count : Facts → ℕ
+known_count facts = saturated (length facts.callers + length facts.recipes + length facts.marks)
+
+-- The value of the first rank.
+abbrev pub largest_of : List Rank → ℕ
+largest_of [] = 0
+largest_of (rank ∷ ranks) = rank.value
+
+abbrev pub row_node : View → Node
+row_node view = node_at view.nodes view.rank.position
+
+abbrev pub row_name : View → List ℕ
+row_name view = target_at view.logs (row_node view).number
+
+-- How much of the largest value the row's value is, in hundredths of a percent.
+abbrev pub meter_of : View → ℕ
+meter_of view = saturated (view.rank.value * 10000) / max 1 view.largest
+
+abbrev pub count_of : View → Count → ℕ
+count_of view Targets = length view.nodes
+count_of view Roots = view.roots
+count_of view Dependents = view.dependents
+count_of view Warnings = view.facts.warnings
+count_of view Most = view.facts.most
+count_of view Unknown = length view.facts.marks
+count_of view Known = known_count view.facts
+count_of view Value = view.rank.value
+
+abbrev pub measure_words : View → Measure → List WordValue
+measure_words view Size = size_words view.facts.bytes
+measure_words view Took = duration_words view.facts.took
+measure_words view Sum = duration_words view.facts.sum
+measure_words view AtOnce = tenths_words view.facts.sum view.facts.took
+measure_words view Duration = duration_words view.rank.value
+
+abbrev pub holds : View → Test → Bool
+holds view HasDependents = not (view.dependents == 0)
+holds view HasWindow = is_some view.facts.window
+holds view IsTimed = is_timed view.facts
+holds view IsUntimed = not (is_timed view.facts)
+holds view NoneKnown = known_count view.facts == 0
+holds view SomeKnown = not (known_count view.facts == 0)
+holds view HasTables = not (length (shown_longest view.facts) == 0 && length view.facts.warned == 0)
+holds view HasLongest = not (length (shown_longest view.facts) == 0)
+holds view HasWarned = not (length view.facts.warned == 0)
+
+abbrev pub rows_of : View → Rows → List Rank
+rows_of view Longest = shown_longest view.facts
+rows_of view Warned = view.facts.warned
+
+abbrev pub row_view : View → List Rank → Rank → View
+row_view view ranks rank = record view { rank = rank; largest = largest_of ranks }

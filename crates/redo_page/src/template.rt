@@ -1,0 +1,178 @@
+//! Templates: a section of a page as data, and the function that writes it.
+ghost use Rattle.std.specs.Prelude.{◌≡◌, ℕ, List};
+ghost use Rattle.std.specs.List.{flat_map};
+ghost use Rattle.redo_html.specs.Parts.{Part};
+ghost use Rattle.redo_page.specs.Private.Viewing.{view_of};
+ghost use Rattle.redo_page.specs.Private.Writing.{WroteParts};
+ghost use Rattle.redo_page.specs.Scope.{View, row_view};
+ghost use Rattle.redo_page.specs.Template.{around_parts, parts_of_item, parts_of_items, nothing, tile_end, tile_start};
+
+use crate::scope::{Count, Measure, Rows, Scope, Test};
+use crate::targets::{write_badge, write_linked};
+use crate::writer::PageWriter;
+use redo_device::Sink;
+use redo_html::{Markup, Piece};
+use redo_summary::Rank;
+
+/// What a template consists of. `T` is a text, and `B` is what an item contains.
+#[derive(Clone, Copy)]
+pub enum Item<T, B> {
+    /// A tag.
+    Tag(Markup),
+    /// Words of the program.
+    Text(T),
+    /// The start of a term and its description.
+    Tile(T),
+    /// The end of the description.
+    EndTile,
+    /// A number.
+    Number(Count),
+    /// A number with a unit.
+    Measure(Measure),
+    /// The name of the row's target, which leads to the target in the tree.
+    Link,
+    /// The badge of the row's target.
+    Badge,
+    /// A meter that shows how large the row's value is.
+    Meter,
+    /// What is shown if something holds, or for each row of a table.
+    In(Around, B),
+}
+
+/// When what an item contains is shown.
+#[derive(Clone, Copy)]
+pub enum Around {
+    /// If this holds.
+    If(Test),
+    /// Once for each of these rows.
+    Each(Rows),
+}
+
+/// What an item can contain.
+pub trait Block {
+    /// The parts that it writes.
+    ghost parts: { Self → View → List Part };
+
+    /// Writes it.
+    fn write<W: Sink>(&self, scope: &Scope<'_>, page: &mut PageWriter<'_, W>)
+        ensures { WroteParts W.written page.old page.new (parts self.now (view_of scope.now)) };
+}
+
+/// The innermost items contain nothing.
+impl Block for () {
+    ghost parts = { nothing };
+
+    fn write<W: Sink>(&self, _scope: &Scope<'_>, _page: &mut PageWriter<'_, W>) {}
+}
+
+/// A text of a template.
+pub trait Label {
+    /// Its bytes.
+    ghost bytes: { Self → List ℕ };
+
+    /// Returns its bytes.
+    fn get(&self) -> &'static [u8]
+        ensures { result.now ≡ bytes self.now };
+}
+
+impl Label for &'static [u8] {
+    ghost bytes = { λ text. text.now };
+
+    fn get(&self) -> &'static [u8] {
+        *self
+    }
+}
+
+impl<T: Label, B: Block> Block for &'static [Item<T, B>] {
+    ghost parts = { λ block view. parts_of_items T.bytes B.parts view block.now };
+
+    fn write<W: Sink>(&self, scope: &Scope<'_>, page: &mut PageWriter<'_, W>) {
+        write_items(*self, scope, page);
+    }
+}
+
+fn write_items<T: Label, B: Block, W: Sink>(
+    items: &[Item<T, B>],
+    scope: &Scope<'_>,
+    page: &mut PageWriter<'_, W>,
+)
+    ensures { WroteParts W.written page.old page.new (parts_of_items T.bytes B.parts (view_of scope.now) items.now) }
+{
+    for item in items {
+        write_item(item, scope, page);
+    }
+}
+
+fn write_item<T: Label, B: Block, W: Sink>(
+    item: &Item<T, B>,
+    scope: &Scope<'_>,
+    page: &mut PageWriter<'_, W>,
+)
+    ensures { WroteParts W.written page.old page.new (parts_of_item T.bytes B.parts (view_of scope.now) item.now) }
+{
+    match item {
+        Item::Tag(markup) => page.put(&[Piece::Markup(*markup)]),
+        Item::Text(text) => page.put(&[Piece::Text(text.get())]),
+        Item::Tile(term) => write_tile_start(term.get(), page),
+        Item::EndTile => write_tile_end(page),
+        Item::Number(count) => page.put(&[Piece::Number(scope.count(*count))]),
+        Item::Measure(measure) => scope.write_measure(*measure, page),
+        Item::Link => write_linked(Some(scope.rank.position), scope.name(), page),
+        Item::Badge => write_badge(scope.status(), page),
+        Item::Meter => page.put(&[Piece::Meter(scope.meter())]),
+        Item::In(around, block) => write_in(*around, block, scope, page),
+    }
+}
+
+fn write_tile_start<W: Sink>(term: &[u8], page: &mut PageWriter<'_, W>)
+    ensures { WroteParts W.written page.old page.new (tile_start term.now) }
+{
+    page.put(&[
+        Piece::Markup(Markup::Div),
+        Piece::Markup(Markup::Term),
+        Piece::Text(term),
+        Piece::Markup(Markup::EndTerm),
+        Piece::Markup(Markup::Description),
+    ]);
+}
+
+fn write_tile_end<W: Sink>(page: &mut PageWriter<'_, W>)
+    ensures { WroteParts W.written page.old page.new tile_end }
+{
+    page.put(&[
+        Piece::Markup(Markup::EndDescription),
+        Piece::Markup(Markup::EndDiv),
+    ]);
+}
+
+fn write_in<B: Block, W: Sink>(
+    around: Around,
+    block: &B,
+    scope: &Scope<'_>,
+    page: &mut PageWriter<'_, W>,
+)
+    ensures { WroteParts W.written page.old page.new (around_parts B.parts (view_of scope.now) around block.now) }
+{
+    match around {
+        Around::If(test) => {
+            if scope.holds(test) {
+                block.write(scope, page);
+            }
+        }
+        Around::Each(rows) => write_each(scope.rows(rows), block, scope, page),
+    }
+}
+
+fn write_each<B: Block, W: Sink>(
+    ranks: &[Rank],
+    block: &B,
+    scope: &Scope<'_>,
+    page: &mut PageWriter<'_, W>,
+)
+    ensures { WroteParts W.written page.old page.new
+        (flat_map (λ rank. B.parts block.now (row_view (view_of scope.now) ranks.now rank)) ranks.now) }
+{
+    for rank in ranks {
+        block.write(&scope.at_row(ranks, *rank), page);
+    }
+}
