@@ -1,5 +1,5 @@
 -- Examples of command lines, computed: the jobs that they describe, and which of them are rejected or request help.
-use Rattle.std.proofs.Common.{◌≡◌, ℕ, Bool, true, false, List, [], ◌∷◌, Option, Some, None, refl}
+use Rattle.std.proofs.Common.{◌≡◌, ℕ, Bool, true, false, List, [], ◌∷◌, Option, Some, None, replicate, refl}
 use Rattle.std.specs.Prelude.{codes}
 use Rattle.std.specs.List.{AllByRecursion}
 use Rattle.clap.proofs.OnLiterals.{clap_on_literals}
@@ -85,3 +85,8 @@ asking_for_help =
 these_ask_for_help : AllByRecursion (λ words. fault_of_words words ≡ Some Help) asking_for_help
 unfolding redo_log_html clap_on_literals
 these_ask_for_help = (refl, (refl, (refl, (refl, tt))))
+
+-- A hundred and one arguments request as many targets.
+many_targets : (parse_parts (replicate 101 (codes "a"))).targets ≡ replicate 101 (codes "a")
+unfolding redo_log_html clap_on_literals
+many_targets = refl

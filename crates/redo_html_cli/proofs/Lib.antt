@@ -1,1 +1,2 @@
+mod RequestRows
 mod Results

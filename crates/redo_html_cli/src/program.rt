@@ -1,5 +1,6 @@
 ghost use Rattle.std.specs.Prelude.{◌≡◌, ◌⊎◌};
-ghost use Rattle.redo_command.specs.declared.failure.Failure.TheVariants.{Memory};
+ghost use Rattle.redo_command.specs.declared.failure.Failure.TheVariants.{Memory, Run};
+ghost use Rattle.redo_run.specs.declared.run_fault.RunFault.TheVariants as run;
 ghost use Rattle.redo_command.specs.Failure.{IsBeforeRun, IsStatus, status_of};
 
 use crate::job::show_job;
@@ -42,14 +43,14 @@ pub fn command<
     }
 }
 
-/// Writes the text of `--version`, and returns the exit status.
+/// Writes the text of `--version`, and returns the exit status: 0 if it was written.
 pub fn print_version<W: Write, E: Write>(
     alloc: Global,
     version: &str,
     out: &mut W,
     err: &mut E,
 ) -> u8
-    ensures { IsStatus result }
+    ensures { (result ≡ 0) ⊎ (result ≡ status_of (Run run.Write)) ⊎ (result ≡ status_of Memory) }
 {
     print(alloc, PROGRAM, version, out, err)
 }

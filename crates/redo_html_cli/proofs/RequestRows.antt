@@ -1,0 +1,55 @@
+-- Rows of what the page of a job is asked: each option reaches its own part of the request.
+use Rattle.std.proofs.Common.{◌≡◌, ℕ, Bool, true, false, List, [], ◌∷◌, Option, None, Some, refl}
+use Rattle.std.specs.Prelude.{codes}
+use Rattle.std.specs.List.{AllByRecursion}
+use Rattle.redo_html_args.specs.Job.{PageParts}
+use Rattle.redo_html_cli.specs.Request.{request_for}
+use Rattle.redo_page.specs.Page.{Request}
+use Rattle.redo_times.specs.declared.times.Times.{Times}
+
+record Row : Type 0 where
+  job : PageParts
+  times : List Times
+  request : Request
+
+abbrev times : List Times
+times = record { began = Some 1600000000000; ended = Some 1600000001000 } ∷ record { began = None; ended = None } ∷ []
+
+-- `redo-log-html --dir d --title t --output f --senders 5 a`, and these options.
+abbrev row : Option (List ℕ) → List ℕ → Bool → Bool → ℕ → List Times → Row
+row title title_is unchanged debug_locks max_bytes times = record {
+  job =
+      record {
+        dir = codes "d";
+        output = Some (codes "f");
+        title = title;
+        unchanged = unchanged;
+        debug_locks = debug_locks;
+        max_bytes = max_bytes;
+        senders = 5;
+        targets = codes "a" ∷ [];
+      };
+  times = times;
+  request =
+      record {
+        title = title_is;
+        dir = codes "d";
+        unchanged = unchanged;
+        debug_locks = debug_locks;
+        max_bytes = max_bytes;
+        times = times;
+      };
+}
+
+-- Neither of two options, each of them, and both. The largest number of bytes, and none.
+abbrev rows : List Row
+rows =
+    row (Some (codes "t")) (codes "t") false false 16000000 times
+    ∷ row (Some (codes "t")) (codes "t") true false 16000000 []
+    ∷ row (Some (codes "t")) (codes "t") false true 16000000 times
+    ∷ row (Some []) [] true true 0 times
+    ∷ row None [] false false 18446744073709551615 times
+    ∷ []
+
+these_requests : AllByRecursion (λ r. request_for r.job r.times ≡ r.request) rows
+these_requests = (refl, (refl, (refl, (refl, (refl, tt)))))
