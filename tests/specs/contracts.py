@@ -176,7 +176,7 @@ def parts_of(item):
     if item[2] != "impl":
         return ("trait" if item[2] == "trait" else None), WORD.match(item[3])[0]
     trait, _, subject = re.sub(r"^<.*?>(?= )", "", item[3]).rpartition(" for ")
-    return (WORD.findall(trait.split("<")[0])[-1] if trait else "own"), WORD.search(subject)[0]
+    return (WORD.findall(trait.split("<")[0])[-1] if trait else "own"), (WORD.search(subject) or [subject])[0]
 
 
 is_private = lambda place: ".specs.Private." in place[0]
