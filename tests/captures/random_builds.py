@@ -50,13 +50,15 @@ class Make:
         self.depth = 0 if parent is None else parent.make.depth + 1
         # Whether its output leads to a pipe, and whether it may be in the logs of other targets, or in none.
         self.is_piped = self.is_elsewhere = False
-        # Whether it tolerates all failures, whether it says nothing about failures that it tolerates, and about any failure.
-        self.ignores = self.is_silent = self.is_mute = False
+        # Whether it tolerates all failures, and whether it says nothing about failures that it tolerates.
+        self.ignores = self.is_silent = False
+        self.is_out_lost = self.is_err_lost = False  # whether standard output, and standard error, lead to /dev/null
         self.is_redirected = False  # standard error, so that nothing about its recipes is printed
         if parent:
             above = parent.make
             self.is_piped, self.is_elsewhere = above.is_piped, above.is_elsewhere
-            self.ignores, self.is_silent, self.is_mute = above.ignores, above.is_silent, above.is_mute
+            self.ignores, self.is_silent = above.ignores, above.is_silent
+            self.is_out_lost, self.is_err_lost = above.is_out_lost, above.is_err_lost
             self.is_redirected = above.is_redirected
         self.is_one_shell = self.has_shell = self.has_shared = False
         self.head, self.rules = [], []
@@ -227,18 +229,21 @@ class Build:
         to = ""
         if kind > 0.6:
             prefix = self.repeated_token(owner)
+            # Whether the output is piped, whether it may be in the logs of other targets, and where standard output and error lead.
+            out, err, is_lost, file = parent.is_out_lost, parent.is_err_lost, True, False
             ways = {
-                f" 2>{log}": (False, False), f" >{log} 2>&1": (False, False), " >/dev/null": (False, False), " 2>/dev/null": (False, False),
-                " >/dev/null 2>&1": (False, False), " >&2": (False, True), " 2>&1": (False, True), f" 2>&1 | cat >{log}": (True, False),
-                f" 2>&1 | sed 's|^|{prefix} |'": (True, False), f" 2>&1 | sed 's|^|{prefix} |' >&2": (True, False),
+                f" 2>{log}": (False, False, out, file), f" >{log} 2>&1": (False, False, file, file), " >/dev/null": (False, False, is_lost, err),
+                " 2>/dev/null": (False, False, out, is_lost), " >/dev/null 2>&1": (False, False, is_lost, is_lost), " >&2": (False, True, err, err),
+                " 2>&1": (False, True, out, out), f" 2>&1 | cat >{log}": (True, False, file, file),
+                f" 2>&1 | sed 's|^|{prefix} |'": (True, False, out, out), f" 2>&1 | sed 's|^|{prefix} |' >&2": (True, False, err, err),
             }  # fmt: skip
             to = rng.choice(list(ways))
-            sub.is_piped, sub.is_elsewhere = (old or new for old, new in zip((sub.is_piped, sub.is_elsewhere), ways[to]))
+            is_piped, is_elsewhere, sub.is_out_lost, sub.is_err_lost = ways[to]
+            sub.is_piped, sub.is_elsewhere = parent.is_piped or is_piped, parent.is_elsewhere or is_elsewhere
         flags = rng.choice(("", "", "", "-s", "-k", "--no-print-directory", "-w"))
         if self.keeps_going and rng.random() < 0.15:
             flags += rng.choice((" -j2", " -j3", " -i"))
         sub.is_silent |= "-s" in flags
-        sub.is_mute |= "/dev/null" in to and "2>" in to
         sub.is_redirected |= "2>" in to
         sub.ignores |= "-i" in flags
         goal = rng.choice(("", "all"))
@@ -593,7 +598,7 @@ class Printed:
 def is_untold(rule):
     """Whether a line of the recipe may fail and nobody sees that make says so."""
     is_tolerated = rule.make.ignores or any("-" in re.match("[-+@]*", line.text)[0] for line in rule.lines)
-    return rule.make.is_mute or (rule.make.is_silent and is_tolerated)
+    return rule.make.is_err_lost or (rule.make.is_silent and is_tolerated)
 
 
 def compared(seed, folder, tool=TOOL, program=PROGRAM):
