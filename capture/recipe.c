@@ -135,12 +135,13 @@ static void add_usage(struct usage *sum, struct usage usage) {
   if (usage.peak_kb > sum->peak_kb) sum->peak_kb = usage.peak_kb;
 }
 
-/* A process that the line left behind may be in the middle of a line of text. It gets the time to end it, unless the line failed: then
-   all text is shown. */
+/* A process that the line left behind may be in the middle of a line of text. It gets the time to end it, unless the text is shown now:
+   then all of it is. */
 static void end_output(struct line *line, int has_failed, int is_shown) {
   struct target *target = line->target;
-  if (line->pipe && !drain_pipe(line->pipe, has_failed && is_shown) && has_failed) flush_pipe(line->pipe);
-  if (has_failed || !target->log.mid_line_pipe) complete_line(target);
+  int shows_all = has_failed || (is_shown && show_mode == SHOW_ALL);
+  if (line->pipe && !drain_pipe(line->pipe, has_failed && is_shown) && shows_all) flush_pipe(line->pipe);
+  if (shows_all || !target->log.mid_line_pipe) complete_line(target);
 }
 
 struct line *find_line(const struct make *make, pid_t process) {

@@ -6,6 +6,7 @@ must have the same status, files and output. Every printed line is unique (`[TAR
 line is found, and a line in the log of another target. The statuses of the summary are compared with what make itself says. With
 seeds as arguments (also FIRST-END), each build stays in a directory of /tmp, with what it printed. RANDOM_MAKE names another make.
 """
+import itertools
 import multiprocessing
 import os
 import random
@@ -29,6 +30,8 @@ FIXED = 300
 DAILY = 300
 # The end of text that has no line feed. Such text and what another process prints next are one line, or two.
 UNENDED = "<unended>"
+# make writes the text of $(info) and the line feed after it in two parts. So another process may print between them.
+INFO = "<info>"
 SIGNALS = ("KILL", "TERM", "SEGV", "ABRT", "PIPE", "HUP", "USR1")
 STATUSES = (1, 2, 3, 77, 126, 127, 130, 255)
 
@@ -180,7 +183,7 @@ class Build:
         if kind < 0.75:
             text = self.saying(make, owner)
         elif kind < 0.80:
-            text = rng.choice(("true", "cat", "# nothing", "sleep 0.01", "$(info " + self.repeated_token(make.owner) + ")true"))
+            text = rng.choice(("true", "cat", "# nothing", "sleep 0.01", f"$(info {self.repeated_token(make.owner)}{INFO})true"))
         elif kind < 0.84:
             text = f"$(warning {self.repeated_token(make.owner)})" + self.saying(make, owner)
         elif kind < 0.88:
@@ -252,7 +255,8 @@ class Build:
         else:
             local = f"d{number}"
             text = rng.choice((f"$(MAKE) {flags} -C {local} -f {sub.file} {goal}{to}", f"cd {local} && $(MAKE) {flags} -f {sub.file} {goal}{to}"))
-            if text.startswith("cd") and log in to:
+            # In one shell, the lines after it run in the same directory.
+            if text.startswith("cd") and (log in to or parent.is_one_shell):
                 text = f"(cd {local} && $(MAKE) {flags} -f {sub.file} {goal}){to}"
         more = rng.choice(("",) * 5 + (" || true", " || exit 3", f"; echo '{self.token(owner)} after' >&2", f" && {self.saying(parent, owner)}"))
         text = f"({text}){more}" if text.startswith("cd") and more.startswith(" &&") else text + more
@@ -288,7 +292,7 @@ class Build:
             (0.08, f"$(warning {self.repeated_token(make.owner)} read)"), (0.08, f"X := $(shell echo '{self.repeated_token(make.owner)} read' >&2)"),
             (0.06, ".SILENT:"), (0.05, ".IGNORE:"), (0.08, ".NOTPARALLEL:"), (0.08, ".DELETE_ON_ERROR:"), (0.05, ".SECONDEXPANSION:"),
             (0.05, ".EXPORT_ALL_VARIABLES:"), (0.04, ".POSIX:"), (0.06, "SHELL = /bin/bash"), (0.05, ".SHELLFLAGS = -ec"),
-            (0.04, "MAKEFLAGS += --no-print-directory"), (0.05, ".SUFFIXES:"), (0.04, "$(info " + self.repeated_token(make.owner) + ")"),
+            (0.04, "MAKEFLAGS += --no-print-directory"), (0.05, ".SUFFIXES:"), (0.04, f"$(info {self.repeated_token(make.owner)}{INFO})"),
         ):  # fmt: skip
             if rng.random() < chance:
                 make.head.append(text)
@@ -436,7 +440,13 @@ def lines_of(data):
     text = data.decode("utf-8", "surrogateescape")
     # A shell writes its name and what it says in two parts. Another process may write to the same file between them.
     text = text.replace("/bin/sh: 1: ", "")
-    return re.sub(f"{UNENDED}\n?", UNENDED + "\n", text).splitlines()
+    text, late_line_feeds = re.subn(f"{INFO}(?!\n)", INFO + "\n", text)
+    lines = re.sub(f"{UNENDED}\n?", UNENDED + "\n", text).splitlines()
+    # A script puts a token before each line of some makes.
+    empty = [line for line in lines if re.fullmatch(r"(\[[^\[\]~]+ ~\d+\] )?", line)]
+    for line in empty[:late_line_feeds]:
+        lines.remove(line)
+    return lines
 
 
 def determined(build, lines):
@@ -538,8 +548,8 @@ def possible_statuses(build, words):
         failed = {word.status for word in own if not word.is_ignored}
         tolerated = {word.status for word in own if word.is_last}
         if build.recipe_count[name] > 1:
-            # The last recipe that failed decides.
-            statuses[name] = failed | tolerated | (set() if failed else {0})
+            # The last recipe that failed decides, but only recipes of the last make that ran one count.
+            statuses[name] = failed | tolerated | ({0} if not failed or build.maker_count[name] > 1 else set())
         else:
             # In one shell, or by a pattern rule, the place of the failed line isn't known.
             unknown = {0} if any(word.line.kind == "any" for word in own) else set()
@@ -577,22 +587,43 @@ class Printed:
 
     def __init__(self, build, err, known):
         self.others, self.headers, self.messages = [], [], []
-        rest = 0  # how many lines of a command may still follow
+        following = following_lines(build)
+        rest, last = 0, None  # how many lines of a command may still follow, and the last line, if it was one of a command
         for line in err:
             if line.startswith("redo-log-capture: "):
                 found = HEADER.match(line)
                 name, status = found.groups()
-                rest, least = 0, 0
+                rest, last = 0, None
                 if status is not None:
                     self.headers.append((name, int(status)))
-                    rest, least = 12, 1
+                    rest = 12
                 elif name not in build.names:
                     self.messages.append(line.removeprefix("redo-log-capture: "))
-            elif rest and (least > 0 or not (line in known or TOKEN.match(as_text(line)) or re.match(r"make(\[\d+\])?: ", line))):
-                rest, least = rest - 1, least - 1
+            elif rest and (last is None or line in following.get(last, ()) or not self.is_output(line, known)):
+                rest, last = rest - 1, line
             else:
                 rest = 0
                 self.others.append(as_printed(line))
+
+    @staticmethod
+    def is_output(line, known):
+        """Whether a line below a command is printed by a recipe or by make."""
+        return line in known or TOKEN.match(as_text(line)) or re.match(r"make(\[\d+\])?: ", line)
+
+
+def following_lines(build):
+    """What may follow a line of a command. A shell gets a line that ends with a backslash together with the next one, and with .ONESHELL
+    it gets all lines."""
+    following = {}
+    for make in build.makes:
+        for rule in make.rules:
+            texts = [line.text for line in rule.lines]
+            for text, local in itertools.product(["\n".join(texts)] if make.is_one_shell else texts, rule.locals):
+                text = re.sub(r"\$\((info|warning|shell) .*?\)", "", text).replace("$(D)$@", make.name(local)).replace("$$", "$")
+                lines = [re.sub(r"^[-+@\t]*", "", part) for part in text.split("\n")]
+                for line, after in zip(lines, lines[1:]):
+                    following.setdefault(line, set()).add(after)
+    return following
 
 
 def is_untold(rule):
@@ -605,11 +636,13 @@ def compared(seed, folder, tool=TOOL, program=PROGRAM):
     """Runs both builds and returns the differences, and what else is wrong."""
     build = Build(seed)
     build.names = {rule.make.name(local) for rules in build.rules_by_place.values() for rule, _ in rules for local in rule.locals}
-    build.recipe_count = Counter()
+    build.recipe_count, makers = Counter(), set()
     for make in build.makes:
         for rule in make.rules:
             for local in rule.locals[:1] if rule.is_group else rule.locals:
                 build.recipe_count[make.name(local)] += bool(rule.lines)
+                makers.update({(make, make.name(local))} if rule.lines else ())
+    build.maker_count = Counter(name for _, name in makers)
     build.untold = {make.name(local) for make in build.makes for rule in make.rules for local in rule.locals if is_untold(rule)}
     plain = Outcome(build, folder, "plain", build.command)
     summary = os.path.join(folder, "summary")
@@ -640,6 +673,15 @@ def differences(build, plain, captured, summary, program):
     yield from status_differences(build, plain, logs, words, summary)
     yield from message_differences(build, captured, printed, words)
     yield from view_differences(build, place, program, in_logs, summary)
+
+
+def makes_by_target(build):
+    """The makes that make each target. Makes in one directory may make targets of the same name."""
+    makes = {}
+    for make in build.makes:
+        for name in {make.name(local) for rule in make.rules for local in rule.locals}:
+            makes.setdefault(name, []).append(make)
+    return makes
 
 
 def output_differences(build, plain, captured, printed, in_logs):
@@ -675,18 +717,19 @@ def output_differences(build, plain, captured, printed, in_logs):
     if direct - found:
         yield f"lost: {list((direct - found).elements())[:5]}"
     blocks = found - direct
-    makes = {make.name(local): make for make in build.makes for rule in make.rules for local in rule.locals}
+    makes = makes_by_target(build)
     if blocks - in_logs:
         yield f"printed and in no log, or too often: {list((blocks - in_logs).elements())[:5]}"
     if "--quiet" in build.options and blocks:
         yield f"printed in spite of --quiet: {list(blocks.elements())[:5]}"
     if "--live" in build.options:
-        missing = [line for line in in_logs - blocks if (found := TOKEN.match(line)) and not line.endswith("late") and not makes[found[1]].is_redirected]
+        missing = [line for line in in_logs - blocks if (found := TOKEN.match(line)) and not line.endswith("late")]
+        missing = [line for line in missing if not any(make.is_redirected for make in makes[TOKEN.match(line)[1]])]
         if missing:
             yield f"not printed in spite of --live: {missing[:5]}"
     for line in direct:
         owner = TOKEN.match(as_text(line))
-        if owner and owner[1] != "-" and not makes[owner[1]].is_elsewhere:
+        if owner and owner[1] != "-" and not any(make.is_elsewhere for make in makes[owner[1]]):
             yield f"in no log: {line}"
 
 
@@ -703,17 +746,17 @@ def difference(found, wanted):
 
 def misplaced(build, logs):
     """Each line of a recipe is in the log of its target, or of a recipe that runs its make if that gets its output."""
-    makes = {make.name(local): make for make in build.makes for rule in make.rules for local in rule.locals}
+    makes = makes_by_target(build)
     for name, lines in logs.items():
         for line in lines:
             found = TOKEN.match(as_text(line))
             if not found or found[1] == name:
                 continue
-            make = makes.get(found[1])
             above = set()
-            while make and make.parent and (make.is_elsewhere or make.is_piped):
-                above.add(make.parent.name)
-                make = make.parent.make
+            for make in makes.get(found[1], ()):
+                while make.parent and (make.is_elsewhere or make.is_piped):
+                    above.add(make.parent.name)
+                    make = make.parent.make
             if name not in above:
                 yield f"in the log of {name}: {line}"
 
@@ -745,17 +788,20 @@ def status_differences(build, plain, logs, words, summary):
 
 def causes(build, words):
     """The targets that failed by themselves and whose failure no recipe tolerated; and those whose failure a recipe tolerated."""
-    decisive = {}  # the line by which a target failed
+    decisive = {}  # the lines by which a target may have failed
     for word in words:
-        if not word.is_ignored or (word.is_last and word.name not in decisive):
-            decisive[word.name] = word.line
+        if not word.is_ignored or (word.is_last and word.name not in decisive) or build.recipe_count[word.name] > 1:
+            lines = decisive.setdefault(word.name, set())
+            if build.recipe_count[word.name] == 1:
+                lines.clear()
+            lines.add(word.line)
     untolerated, failed = set(), set()
     for word in words:
         make, is_tolerated, is_sure = word.make, False, not word.is_ignored
         while make.parent:
-            line = decisive.get(make.parent.name)
-            is_tolerated |= line is None or (line is not make.line and line.kind != "any")
-            is_sure &= line is make.line
+            lines = decisive.get(make.parent.name, set())
+            is_tolerated |= make.line not in lines and not any(line.kind == "any" for line in lines) if lines else make.parent.name not in build.untold
+            is_sure &= lines == {make.line} and build.recipe_count[make.parent.name] == 1
             make = make.parent.make
         if not is_tolerated:
             untolerated.add(word.name)
@@ -768,8 +814,10 @@ def message_differences(build, captured, printed, words):
     for message in printed.messages:
         if TROUBLE.search(message):
             yield f"message: {message}"
-    if any(re.match("no recipe failed", message) for message in printed.messages) and any(not word.is_ignored for word in words):
-        yield f"no recipe failed, but {[word.name for word in words if not word.is_ignored]}"
+    failed = {"no recipe failed;": {word.name for word in words if not word.is_ignored}, "no recipe failed, except": causes(build, words)[0]}
+    for start, names in failed.items():
+        if names and any(message.startswith(start) for message in printed.messages):
+            yield f"{start} but {names}"
     said = Counter((word.name, word.status) for word in words)
     blocks = Counter(printed.headers)
     unknown = [one for one in (blocks - said).elements() if one[0] not in build.untold]

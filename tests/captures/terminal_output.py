@@ -74,6 +74,13 @@ def live(checks, at):
     checks.expect("and what failed", make(folder, "C=1", options=["--live"]), (2, "", text + failed("c")))
     folder = project(at("both"), "all: ; @echo out; echo err >&2\n")
     checks.expect("both outputs", make(folder, options=["--live", "--both"]), (0, "", "redo-log-capture: all\nout\nerr\n"))
+    # The process that is left behind ends when the build has ended, because it waits for a writer of the pipe.
+    text = "all: ; @mkfifo wait; { read line <wait; } >/dev/null & printf 'no line feed' >&2\n"
+    folder = project(at("unended"), text)
+    expected = (0, "", "redo-log-capture: all\nno line feed\n")
+    checks.expect("text without a line feed, beside a process that is left behind", make(folder, options=["--live"]), expected)
+    with open(os.path.join(folder, "wait"), "w", encoding="ascii"):
+        pass
 
 
 def last_words(checks, at):
