@@ -25,6 +25,13 @@ def contents(path):
         return file.read()
 
 
+def require(*programs):
+    """Exits with a message if one of the programs isn't built."""
+    for program in programs:
+        if not os.path.exists(program):
+            sys.exit(f"{os.path.relpath(program, TOP)} is missing: run `make build` first")
+
+
 def version():
     """The version of the program, from its source."""
     return re.search(r'^const VERSION: &str = "redo-log (\d+\.\d+\.\d+)\\n";$', contents("crates/redo_log/src/main.rt"), re.M)[1]
