@@ -1,6 +1,6 @@
-"""The generated parts of docs/guarantees.md and docs/mutants.md, and the names that these pages cite.
+"""The table of counts in docs/mutants.md, the lists that `run` prints, and the names that docs/guarantees.md and docs/mutants.md cite.
 
-A part is between a line `<!-- generated: NAME -->` and the next line `<!-- end -->`. What kills each mutant is in killers.txt;
+The table is between the lines `<!-- generated: counts -->` and `<!-- end -->`. What kills each mutant is in killers.txt;
 the rest comes from the files of the crates and of tests/definition_mutants."""
 import functools
 import os
@@ -15,7 +15,7 @@ from kept import crates_kept, kept  # noqa: E402
 GUARANTEES, MUTANTS, KILLERS = "docs/guarantees.md", "docs/mutants.md", "tests/specs/killers.txt"
 # The directories of a crate with its mutants: those that `rt ci` tries, and those that tests/mutants/run tries.
 FOLDERS = ("must-fail", "mutants")
-PART = re.compile(r"^(<!-- generated: ([\w ]+) -->\n)(.*?)(^<!-- end -->$)", re.M | re.S)
+COUNTS = re.compile(r"^(<!-- generated: counts -->\n)(.*?)(^<!-- end -->$)", re.M | re.S)
 TABLE = re.compile(r"^Guarantee \| Clause \| Definition\n[-|]+\n((?:.* \| .*\n?)+)", re.M)
 LAWS = "## What each law rules out"
 QUOTED = re.compile(r"`([^`]+)`")
@@ -28,17 +28,17 @@ CITED = re.compile(r"((?:`[\w:]+`, )*`[\w:]+`): (?:requires )?((?:`\w+`, )*`\w+`
 
 
 def rows_of_files(specs):
-    """Yields a table of the public files of specs/: per crate, each file after those that it cites, with the numbers of lines."""
+    """Yields the public files of specs/: per crate, each file after those that it cites, with its number of lines and its title."""
     public = {module: row for module, row in specs.files.items() if not is_private((module,))}
-    yield from ("", "File (lines) | Title", "---|---")
     for crate in dict.fromkeys(row[0] for row in public.values()):
         left = [module for module, row in public.items() if row[0] == crate]
-        yield f"**`{crate}`** ({sum(public[module][2] for module in left)}) |"
+        yield f"{sum(public[module][2] for module in left):6} {crate}"
         while left:
             module = next((one for one in left if not cited_in(specs, one) & set(left) - {one}), left[0])
             left.remove(module)
-            yield f"{public[module][1]} ({public[module][2]}) | {public[module][3]}"
-    yield from (f"**in all** ({sum(row[2] for row in public.values())}) |", "")
+            _, file, lines, title = public[module]
+            yield f"{lines:6}   {file}: {title}"
+    yield f"{sum(row[2] for row in public.values()):6} in all"
 
 
 def cited_in(specs, module):
@@ -72,16 +72,13 @@ def killers():
 
 
 def rows_of_mutants():
-    """Yields a table per crate: for each file that its mutants change, these mutants and what kills each."""
+    """Yields the mutants of each crate, by the file that they change, and what kills each."""
     killed, changed = killers()[0], mutants()
     for crate in libraries():
         own = {name: file for (other, name), file in changed.items() if other == crate}
-        if own:
-            yield from ("", f"### `{crate}`", "", "Mutant | Killed by", "---|---")
         for file in sorted(set(own.values())):
-            yield f"**{file}** |"
-            yield from (f"`{name}` | {killed.get((crate, name), '')}" for name in sorted(own) if own[name] == file)
-    yield ""
+            yield f"{crate}, {file.replace('`', '')}"
+            yield from (f"  {name}: {killed.get((crate, name), '')}" for name in sorted(own) if own[name] == file)
 
 
 def rows_of_counts():
@@ -96,50 +93,36 @@ def rows_of_counts():
     yield from (" | ".join(["in all", *(str(sum(column)) for column in zip(*rows))]), "")
 
 
-def parts(specs):
-    """Returns the rows of each generated part."""
-    return {"files": rows_of_files(specs), "mutants": rows_of_mutants(), "counts": rows_of_counts()}
+def write():
+    """Writes the table of counts of docs/mutants.md."""
+    rows = "".join(row + "\n" for row in rows_of_counts())
+    text = COUNTS.sub(lambda part: part[1] + rows + part[3], read(MUTANTS))
+    with open(os.path.join(TOP, MUTANTS), "w", encoding="utf-8") as file:
+        file.write(text)
 
 
-def with_parts(page, texts):
-    """Returns a page with these generated parts."""
-    return PART.sub(lambda part: part[1] + "".join(row + "\n" for row in texts.get(part[2], ())) + part[4], page)
+def stale():
+    """Yields the differences between the table of counts of docs/mutants.md and what is generated."""
+    part, rows = COUNTS.search(read(MUTANTS)), list(rows_of_counts())
+    has = part[2].splitlines() if part else []
+    yield from (f"{MUTANTS} lacks: {row}" for row in rows if row not in has)
+    yield from (f"{MUTANTS} has a stale row: {row}" for row in has if row not in rows)
+    if has != rows:
+        yield f"{MUTANTS} is not as generated: tests/specs/run --write writes it"
 
 
-def write(specs, *pages):
-    """Writes the generated parts of these pages."""
-    for path in pages:
-        text = with_parts(read(path), {name: list(rows) for name, rows in parts(specs).items()})
-        with open(os.path.join(TOP, path), "w", encoding="utf-8") as file:
-            file.write(text)
-
-
-def stale(specs, path, names):
-    """Yields the differences between some parts of a page and what is generated."""
-    has = {part[2]: part[3].splitlines() for part in PART.finditer(read(path))}
-    for name, rows in parts(specs).items():
-        rows = list(rows)
-        if name in names and name not in has:
-            yield f"{path} has no part '<!-- generated: {name} -->'"
-        elif name in names and has[name] != rows:
-            yield from (f"{path} lacks: {row}" for row in rows if row not in has[name])
-            yield from (f"{path} has a stale row: {row}" for row in has[name] if row not in rows)
-            yield f"{path} is not as generated: tests/specs/run --write writes it"
-
-
-def faults_of_mutants(specs):
+def faults_of_mutants():
     """Returns the mutants without a line in killers.txt, the lines without a mutant, and what is stale in docs/mutants.md."""
     (killed, faults), there = killers(), mutants()
     faults += [f"{KILLERS}: {crate} has no mutant {name}" for crate, name in killed if (crate, name) not in there]
     faults += [f"{KILLERS} lacks {crate}: {name}" for crate, name in there if (crate, name) not in killed]
     faults += [f"{KILLERS}: {name}: {fault}" for (_, name), cell in killed.items() for fault in unknown(cell)]
-    return faults + list(stale(specs, MUTANTS, ("mutants", "counts")))
+    return faults + list(stale())
 
 
 def faults_of_guarantees(specs):
-    """Returns what docs/guarantees.md cites that does not exist, and what is stale in it."""
-    places = {(module.rsplit(".", 1)[-1], name) for module, name in specs.texts}
-    faults = list(stale(specs, GUARANTEES, ("files",)))
+    """Returns what docs/guarantees.md cites that does not exist."""
+    places, faults = {(module.rsplit(".", 1)[-1], name) for module, name in specs.texts}, []
     for row in (row for table in TABLE.findall(read(GUARANTEES)) for row in table.splitlines()):
         cells = [cell.strip() for cell in re.split(r" \|(?: |$)", row)]
         faults += [f"{GUARANTEES}: {cells[0][:50]}: not three cells"] * (len(cells) != 3)
