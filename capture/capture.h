@@ -331,6 +331,12 @@ struct source {
 
 /* pipe.c: the output of recipes */
 
+/* Whether recipes get terminals instead of pipes, as long as there are any (--colour). Below, a pipe may be a terminal. */
+extern int uses_terminals;
+/* Whether this is the end of a terminal that the server reads. */
+int is_terminal(int descriptor);
+/* Gives all terminals the size of the window, which has changed. */
+void resize_terminals(void);
 struct pipe;
 /* Takes ownership of the descriptor. Nothing is read before start_pipe. If memory can't be allocated, takes one of some pipes that are
    kept for this; if there is none left, copies the output to standard error, and returns NULL. */

@@ -59,6 +59,7 @@ void block_signals(void) {
     sigaddset(&blocked, forwarded_signals[i]);
     if (sigaction(forwarded_signals[i], NULL, &former) == 0 && former.sa_handler == SIG_IGN) sigaddset(&ignored, forwarded_signals[i]);
   }
+  if (uses_terminals) sigaddset(&blocked, SIGWINCH);
   sigprocmask(SIG_BLOCK, &blocked, &former_mask);
   sigaction(SIGCHLD, &by_default, NULL);
   raise_limits();
@@ -223,6 +224,7 @@ int handle_signals(void) {
   struct signalfd_siginfo info;
   while (signal_fd >= 0 && read(signal_fd, &info, sizeof info) == sizeof info) {
     if (info.ssi_signo == SIGCHLD) reap_children();
+    else if (info.ssi_signo == SIGWINCH) resize_terminals();
     else if (!has_ended) handle_signal(&info);
   }
   return has_ended;

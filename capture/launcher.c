@@ -3,8 +3,7 @@
 #define _GNU_SOURCE
 #include "capture.h"
 #include "run_variable.h"
-#include <errno.h>
-#include <fcntl.h>
+#include "terminal.h"
 #include <signal.h>
 #include <spawn.h>
 #include <stdlib.h>
@@ -95,7 +94,7 @@ static int connect_to_run(void) {
   return receive(&welcome, sizeof welcome) == sizeof welcome ? 0 : -1;
 }
 
-/* Announces the target and the command. Returns the write end of the pipe, or -1 if nothing is captured. */
+/* Announces the target and the command. Returns the write end of the pipe or terminal, or -1 if nothing is captured. */
 static int announce_command(const char *target, const char *prerequisites, char **command) {
   struct names names = {NAMES};
   struct recipe recipe = {RECIPE, 1};
@@ -103,7 +102,8 @@ static int announce_command(const char *target, const char *prerequisites, char 
   char *words;
   size_t size, left = strlen(prerequisites);
   int pair[2];
-  if (pipe2(pair, O_CLOEXEC) < 0 || strlen(target) >= MAX_BODY) return -1;
+  if (strlen(target) >= MAX_BODY) return -1;
+  if ((!welcome.uses_terminals || open_terminal(pair) < 0) && pipe2(pair, O_CLOEXEC) < 0) return -1;
   FILE *stream = xopen_memstream(&words, &size);
   for (char **word = command; *word; word++) fwrite(*word, 1, strlen(*word) + 1, stream);
   xclose_memstream(stream);

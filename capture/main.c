@@ -21,18 +21,19 @@ static const char help[] =
     "  <COMMAND>...  A make command, or a command that runs make\n"
     "\n"
     "Options:\n"
-    "      --dir <DIR>       The capture directory [default: .redo-log]\n"
-    "      --both            Capture standard output too\n"
-    "      --commands        Record the command of every line; by default, those of lines that failed are recorded\n"
-    "      --live            Print the output of every recipe, whenever a line of it ends\n"
-    "      --quiet           Print no output of recipes; by default, the output of failed recipes is printed\n"
-    "      --summary <FILE>  Write a line per target to FILE: status, seconds, log number, name, processor time, memory\n"
-    "      --html <FILE>     Write a page of the build to FILE with redo-log-html\n"
-    "      --progress[=<S>]  Print a line about the build every S seconds [default: 60]\n"
-    "      --must-close      Set the must-close flag of closed logs: redo-log then rejects truncated copies of them\n"
-    "      --finish          Finish the logs of a build that was killed\n"
-    "  -h, --help            Print help\n"
-    "  -V, --version         Print version\n"
+    "      --dir <DIR>        The capture directory [default: .redo-log]\n"
+    "      --both             Capture standard output too\n"
+    "      --colour[=<WHEN>]  Let recipes print colours: auto, if standard error is a terminal; always; or never [default: never]\n"
+    "      --commands         Record the command of every line; by default, those of lines that failed are recorded\n"
+    "      --live             Print the output of every recipe, whenever a line of it ends\n"
+    "      --quiet            Print no output of recipes; by default, the output of failed recipes is printed\n"
+    "      --summary <FILE>   Write a line per target to FILE: status, seconds, log number, name, processor time, memory\n"
+    "      --html <FILE>      Write a page of the build to FILE with redo-log-html\n"
+    "      --progress[=<S>]   Print a line about the build every S seconds [default: 60]\n"
+    "      --must-close       Set the must-close flag of closed logs: redo-log then rejects truncated copies of them\n"
+    "      --finish           Finish the logs of a build that was killed\n"
+    "  -h, --help             Print help\n"
+    "  -V, --version          Print version\n"
     "\n"
     "Example:\n"
     "  redo-log-capture make -j8 all      captures a build\n"
@@ -87,6 +88,14 @@ static void finish_capture(void) {
   find_moved_directory();
   report(command_name, is_quiet);
   if (summary) write_summary(summary);
+}
+
+/* Returns whether recipes get terminals. */
+static int parse_colour(const char *when) {
+  const char *no_colour = getenv("NO_COLOR");
+  if (strcmp(when, "auto") == 0) return isatty(2) && (!no_colour || !*no_colour);
+  if (strcmp(when, "always") != 0 && strcmp(when, "never") != 0) die(2, "--colour: not auto, always or never: %s", when);
+  return strcmp(when, "always") == 0;
 }
 
 static int parse_seconds(const char *text) {
@@ -146,6 +155,9 @@ static char **parse_options(char **arguments) {
     if (strcmp(argument, "-V") == 0 || strcmp(argument, "--version") == 0) print_and_exit("redo-log-capture " VERSION "\n");
     if (strcmp(argument, "--both") == 0) captures_output = 1;
     else if (strcmp(argument, "--commands") == 0) records_all_commands = 1;
+    else if (strcmp(argument, "--colour") == 0 || strcmp(argument, "--color") == 0) uses_terminals = parse_colour("auto");
+    else if (strncmp(argument, "--colour=", 9) == 0) uses_terminals = parse_colour(argument + 9);
+    else if (strncmp(argument, "--color=", 8) == 0) uses_terminals = parse_colour(argument + 8);
     else if (strcmp(argument, "--live") == 0) show_mode = SHOW_ALL;
     else if (strcmp(argument, "--quiet") == 0) show_mode = SHOW_NOTHING, is_quiet = 1;
     else if (strcmp(argument, "--must-close") == 0) must_close = 1;

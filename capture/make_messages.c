@@ -32,7 +32,7 @@ static int handle_hello(struct make *make, const char *message, size_t size, int
   if (watch_source(&make->notes) < 0) return -1;
   make->directory = xasprintf("%s", message + sizeof hello);
   receive_from_parent(make);
-  struct welcome welcome = {make->number, show_mode, captures_output, makes_are_asked()};
+  struct welcome welcome = {make->number, show_mode, captures_output, makes_are_asked(), uses_terminals};
   make->is_waiting = 0;
   return send_to_make(make, &welcome, sizeof welcome);
 }
@@ -65,13 +65,21 @@ static int handle_recipe(struct make *make, const char *message, size_t size) {
 /* Whether names of this size can follow the head of a message, of which `left` bytes are left. */
 static int are_valid_names(const struct make *make, size_t size, size_t left) { return size == 0 || (size <= left && !make->names); }
 
-/* Whether this is the read end of a pipe. */
+/* Whether this is the read end of a pipe, or of a terminal. */
 static int is_pipe_reader(int descriptor) {
-  return descriptor >= 0 && fcntl(descriptor, F_GETPIPE_SZ) >= 0 && (fcntl(descriptor, F_GETFL) & O_ACCMODE) == O_RDONLY;
+  if (descriptor >= 0 && fcntl(descriptor, F_GETPIPE_SZ) >= 0) return (fcntl(descriptor, F_GETFL) & O_ACCMODE) == O_RDONLY;
+  return descriptor >= 0 && is_terminal(descriptor);
 }
 
-/* Takes the read end of a pipe. Its output goes to standard error until a line starts. */
+static void warn_no_terminal(void) {
+  static int has_warned;
+  if (!has_warned) warn("--colour: no terminal is left: some recipes get a pipe, and may print without colours");
+  has_warned = 1;
+}
+
+/* Takes the read end of a pipe or terminal. Its output goes to standard error until a line starts. */
 static struct pipe *take_pipe(int *descriptor) {
+  if (uses_terminals && !is_terminal(*descriptor)) warn_no_terminal();
   struct pipe *pipe = new_pipe(*descriptor, &no_target);
   *descriptor = -1;
   return pipe;

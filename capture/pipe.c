@@ -2,22 +2,21 @@
    same time don't mix their lines. */
 #define _GNU_SOURCE
 #include "capture.h"
-#include <errno.h>
-#include <fcntl.h>
+#include "terminal.h"
 #include <poll.h>
 #include <signal.h>
 #include <stdlib.h>
 #include <string.h>
-#include <sys/ioctl.h>
 #include <unistd.h>
 
-/* In bytes: CHUNK, the most that is read at once, and MAX_HELD, the longest unended line that is held back. In milliseconds:
-   FLUSH_MS, how long an unended line is held back if nothing follows; and how long to wait for more output of a failed recipe:
-   POLL_MS, if nothing arrives, and DRAIN_MS, in all. */
+/* In bytes: CHUNK, the most that is read at once, and more than a terminal contains; and MAX_HELD, the longest unended line that is held
+   back. In milliseconds: FLUSH_MS, how long an unended line is held back if nothing follows; and how long to wait for more output of a
+   failed recipe: POLL_MS, if nothing arrives, and DRAIN_MS, in all. */
 enum { CHUNK = 65536, MAX_HELD = 64 << 20, FLUSH_MS = 200, POLL_MS = 20, DRAIN_MS = 100 };
 
 struct pipe {
   struct source source;
+  int is_terminal;
   int is_started, is_watched, is_old, is_spare; /* is_old: watch_pipes has seen it; is_spare: it is one of spare_pipes */
   struct target *target;
   char *held; /* the unended line */
@@ -34,6 +33,24 @@ static int spare_count;
 static struct pipe *pipes, *closed_pipes;
 static int has_unwatched; /* whether a pipe was started that the loop doesn't wait for yet */
 
+int uses_terminals;
+static int is_resized; /* whether the size of the window has changed */
+
+int is_terminal(int descriptor) {
+  unsigned number;
+  return uses_terminals && ioctl(descriptor, TIOCGPTN, &number) == 0;
+}
+
+static void resize_terminal(const struct pipe *pipe) {
+  struct winsize size;
+  if (pipe->is_terminal && pipe->source.fd >= 0 && find_window_size(&size) == 0) ioctl(pipe->source.fd, TIOCSWINSZ, &size);
+}
+
+void resize_terminals(void) {
+  is_resized = 1;
+  for (struct pipe *pipe = pipes; pipe; pipe = pipe->next) resize_terminal(pipe);
+}
+
 /* Copies to standard error what a pipe contains until nobody can write to it. */
 static void copy_until_end(int descriptor) {
   static char bytes[CHUNK];
@@ -48,8 +65,10 @@ struct pipe *new_pipe(int descriptor, struct target *target) {
   int is_spare = !pipe;
   if (is_spare && spare_count == SPARE_PIPES) return copy_until_end(descriptor), NULL;
   if (is_spare) pipe = &spare_pipes[spare_count++];
-  *pipe = (struct pipe){.source = {PIPE, descriptor}, .is_spare = is_spare, .target = target, .next = pipes, .link = &pipes};
+  *pipe = (struct pipe){.source = {PIPE, descriptor}, .is_terminal = is_terminal(descriptor), .is_spare = is_spare, .target = target,
+                        .next = pipes, .link = &pipes};
   fcntl(descriptor, F_SETFL, O_NONBLOCK);
+  if (is_resized) resize_terminal(pipe);
   if (pipes) pipes->link = &pipe->next;
   pipes = pipe;
   return pipe;
@@ -125,13 +144,24 @@ static void add_output(struct pipe *pipe, const char *bytes, size_t size) {
   if (complete < size) hold_back(pipe, bytes + complete, size - complete);
 }
 
-/* Reads once. Returns the number of bytes; 0 at the end of input; -1 if there is nothing now. */
+/* Reads at most CHUNK bytes. Returns their number; 0 at the end of input; -1 if there is nothing now. A terminal passes on at most 4 KiB
+   at once, and reports an error at the end of input, after all that was written. */
+static ssize_t read_bytes(const struct pipe *pipe, char *bytes) {
+  ssize_t size, total = 0;
+  do {
+    while ((size = read(pipe->source.fd, bytes + total, CHUNK - total)) < 0 && errno == EINTR) continue;
+    if (size > 0) total += size;
+  } while (pipe->is_terminal && size > 0 && total < CHUNK);
+  if (total > 0) return total;
+  return size < 0 && errno != EAGAIN ? 0 : size;
+}
+
+/* Reads once, as read_bytes does. */
 static ssize_t read_once(struct pipe *pipe) {
   static char bytes[CHUNK];
-  ssize_t size;
-  while ((size = read(pipe->source.fd, bytes, sizeof bytes)) < 0 && errno == EINTR) continue;
+  ssize_t size = read_bytes(pipe, bytes);
   if (size > 0) add_output(pipe, bytes, size);
-  return size < 0 && errno != EAGAIN ? 0 : size;
+  return size;
 }
 
 static void end_pipe(struct pipe *pipe) {
@@ -145,9 +175,10 @@ size_t read_pipe(struct pipe *pipe) {
   return size > 0 ? size : 0;
 }
 
-/* Returns the number of bytes that a pipe contains now. */
+/* Returns the number of bytes that a pipe contains now, or more for a terminal, which doesn't count what it will pass on next. */
 static int waiting_bytes(const struct pipe *pipe) {
   int size = 0;
+  if (pipe->is_terminal) return CHUNK;
   return ioctl(pipe->source.fd, FIONREAD, &size) < 0 ? 0 : size;
 }
 
@@ -193,12 +224,15 @@ void forward_pipes(void) {
     if (pipe->held_size > 0) write_all(2, pipe->held, pipe->held_size);
     pipe->held_size = 0;
     for (int left = waiting_bytes(pipe); left >= 0 && size > 0; left -= size) {
-      size = read(pipe->source.fd, bytes, sizeof bytes);
+      size = read_bytes(pipe, bytes);
       if (size > 0) write_all(2, bytes, size);
     }
     if (size == 0) close_source(&pipe->source);
   }
 }
+
+/* Whether a process may still write, as the last read found. */
+static int may_continue(ssize_t size) { return size > 0 || (size < 0 && (errno == EAGAIN || errno == EINTR)); }
 
 /* Reads and discards until no process can write any more. */
 static void discard_until_closed(struct pollfd *files, size_t count) {
@@ -206,7 +240,7 @@ static void discard_until_closed(struct pollfd *files, size_t count) {
   for (size_t open = count; open > 0;) {
     poll(files, count, -1);
     for (size_t i = 0; i < count; i++) {
-      if (files[i].fd < 0 || !files[i].revents || read(files[i].fd, bytes, sizeof bytes) != 0) continue;
+      if (files[i].fd < 0 || !files[i].revents || may_continue(read(files[i].fd, bytes, sizeof bytes))) continue;
       close(files[i].fd);
       files[i].fd = -1, open--;
     }

@@ -11,7 +11,7 @@
    A line needs a reply if it is the first one of its make, because the build may be uncaptured; after the server has sent ASK,
    because it runs out of descriptors or memory; and if it may remove the capture directory, because `rm` fails if files appear
    meanwhile: the server creates the log first. Otherwise the server takes each pipe: if a recipe can't be captured, its output goes to
-   the server's standard error. */
+   the server's standard error. With --colour, a terminal takes the place of a pipe. */
 #include <stdint.h>
 
 /* make exports this variable to each recipe, with the number of the recipe as its value. The hook removes it again. */
@@ -55,6 +55,7 @@ struct hello {
 struct welcome {
   uint32_t make; /* the number of this make in the run */
   uint32_t show_mode, captures_output, asks; /* asks: as after ASK */
+  uint32_t uses_terminals; /* lines get terminals instead of pipes, as long as there are any */
 };
 struct reply {
   uint32_t kind, value;

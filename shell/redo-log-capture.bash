@@ -1,4 +1,5 @@
-# Completion for redo-log-capture in bash: its options, a directory after --dir, a file after --summary or --html, and a command.
+# Completion for redo-log-capture in bash: its options, a directory after --dir, a file after --summary or --html, a word after
+# --colour=, and a command.
 # The command's arguments are completed by the command's own completion if bash-completion is loaded, otherwise as file names.
 
 _redo_log_capture() {
@@ -10,8 +11,8 @@ _redo_log_capture() {
         ((index++))
         [[ ${COMP_WORDS[index]} == = ]] && ((index++))
         ;;
-      --progress)
-        option=--progress
+      --progress | --colour)
+        option=${COMP_WORDS[index]}
         [[ ${COMP_WORDS[index + 1]} == = ]] && ((index += 2))
         ;;
       --both | --commands | --live | --quiet | --must-close | --finish) ;;
@@ -31,6 +32,7 @@ _redo_log_capture() {
         [[ $2 == */ && -d $2.capture ]] || compopt -o dirnames
         ;;
       --summary | --html) compopt -o default ;;
+      --colour) mapfile -t COMPREPLY < <(compgen -W 'auto always never' -- "${2#=}") ;;
     esac
   elif ((index < COMP_CWORD)); then
     if declare -F _command_offset >/dev/null; then
@@ -39,7 +41,7 @@ _redo_log_capture() {
       compopt -o default
     fi
   elif [[ $2 == -* ]]; then
-    mapfile -t COMPREPLY < <(compgen -W '--dir --both --commands --live --quiet --summary --html --progress --must-close --finish -h --help -V --version' -- "$2")
+    mapfile -t COMPREPLY < <(compgen -W '--dir --both --colour --commands --live --quiet --summary --html --progress --must-close --finish -h --help -V --version' -- "$2")
   else
     mapfile -t COMPREPLY < <(compgen -c -- "$2")
   fi

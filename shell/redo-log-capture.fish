@@ -1,5 +1,5 @@
-# Completion for redo-log-capture in fish: its options, a directory after --dir, a file after --summary or --html, and a
-# command.
+# Completion for redo-log-capture in fish: its options, a directory after --dir, a file after --summary or --html, a word
+# after --colour=, and a command.
 
 function __redo_log_capture_is_before_command -d 'Whether the command line has no command yet'
     set -l words (commandline -poc)
@@ -23,6 +23,8 @@ complete -c redo-log-capture -x -a '(__fish_complete_subcommand -- --dir --summa
 complete -c redo-log-capture -n __redo_log_capture_is_before_command -l dir -x \
     -a '(__fish_complete_directories (commandline -ct))' -d 'The capture directory'
 complete -c redo-log-capture -n __redo_log_capture_is_before_command -l both -d 'Capture standard output too'
+complete -c redo-log-capture -n __redo_log_capture_is_before_command -l colour -f -a 'auto always never' \
+    -d 'Let recipes print colours: auto, if standard error is a terminal; always; or never'
 complete -c redo-log-capture -n __redo_log_capture_is_before_command -l commands \
     -d 'Record the command of every line; by default, those of lines that failed are recorded'
 complete -c redo-log-capture -n __redo_log_capture_is_before_command -l live \

@@ -159,6 +159,7 @@ static int send_hello(void) {
   close_descriptor(&pair[1]);
   if (error || receive(&welcome, sizeof welcome) != sizeof welcome) return disconnect(), -1;
   run.make = welcome.make, run.show_mode = welcome.show_mode, run.captures_output = welcome.captures_output, run.asks = welcome.asks;
+  run.uses_terminals = welcome.uses_terminals;
   return 0;
 }
 

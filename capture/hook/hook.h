@@ -1,5 +1,5 @@
 /* The hook: a shared object that each make of a captured build loads. It reports each line of a recipe to the server, and gives
-   the line a pipe to the server as standard error.
+   the line a pipe to the server as standard error, or, with --colour, a terminal. Below, a pipe may be a terminal.
 
    It replaces the functions of the C library by which make starts and reaps children. Its own functions call the originals. It
    runs inside make, partly in a signal handler, so it doesn't call malloc and leaves errno alone. It imports only what make itself
@@ -38,7 +38,7 @@ struct run {
   int is_redirected[3];            /* by descriptor */
   struct file_identity own_output; /* make's own standard output */
   uint32_t make;                   /* as the server numbers it */
-  int show_mode, captures_output;
+  int show_mode, captures_output, uses_terminals;
   int asks, is_captured; /* whether lines need a reply: always, or because none was captured yet */
 };
 extern struct run run;

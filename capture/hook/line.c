@@ -1,8 +1,7 @@
 /* A line of a recipe, up to its start. */
 #define _GNU_SOURCE
 #include "hook.h"
-#include "syscalls.h"
-#include <fcntl.h>
+#include "../terminal.h"
 #include <sys/stat.h>
 
 /* The maximum number of bytes of a command that is sent. A longer command is truncated. */
@@ -23,6 +22,12 @@ long recipe_number_of(char *const *environment) {
     return number;
   }
   return -1;
+}
+
+/* Opens a pipe, or a terminal if lines get terminals. Sets both ends to -1 on failure. */
+static void open_pipe(int ends[2]) {
+  if (run.uses_terminals && open_terminal(ends) == 0) return;
+  if (SYSCALL(pipe2, ends, O_CLOEXEC, 0, 0) < 0) ends[0] = ends[1] = -1;
 }
 
 /* Joins the arguments of a command, each followed by a NUL. The last NUL is missing if the command was truncated. */
@@ -59,7 +64,7 @@ int announce_line(uint32_t recipe, char *const *command) {
   line.wants_reply |= may_remove(words, size);
   size += line.names_size;
   int writes = !run.is_redirected[2] || (run.captures_output && !run.is_redirected[1]);
-  if (writes && SYSCALL(pipe2, pair, O_CLOEXEC, 0, 0) < 0) pair[0] = pair[1] = -1;
+  if (writes) open_pipe(pair);
   if (!line.wants_reply) {
     if (send_note(&line, sizeof line, body, size, pair[0]) == 0) reply = CAPTURED;
   } else {

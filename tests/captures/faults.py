@@ -50,7 +50,7 @@ PIECES = 'lines said' ' 4\n'
 # Without a capture, other recipes may print between two parts of a line.
 WITH_JOBS = ("-j2", "PIECES='lines said 4\\n'")
 # What is added to the command, and the status with which recipes fail.
-WAYS = (((), 3), (("--both",), 3), ((), 0), (("--quiet",), 3), (("--live",), 3), (("--live", "--both"), 0))
+WAYS = (((), 3), (("--both",), 3), ((), 0), (("--quiet",), 3), (("--live",), 3), (("--live", "--both"), 0), (("--colour=always",), 3))
 
 
 def sampled(numbers, way=0):
@@ -180,7 +180,7 @@ HOOK_CALLS = {
     "socket": ("EMFILE",), "connect": ("ECONNREFUSED", "EAGAIN", "EINTR"), "getsockopt": ("ENOPROTOOPT",), "socketpair": ("EMFILE",),
     "sendmsg": ("EPIPE", "ENOBUFS", "EINTR", "ETOOMANYREFS"), "recvfrom": ("ECONNRESET", "EINTR"), "fcntl": ("EMFILE",),
     "pipe2": ("EMFILE",), "getcwd": ("ENOENT",), "mmap": ("ENOMEM",), "mprotect": ("ENOMEM", "EACCES"), "fstat": ("EIO",),
-    "clock_gettime": ("EINVAL",),
+    "clock_gettime": ("EINVAL",), "openat": ("ENOSPC", "EMFILE", "EINTR"), "ioctl": ("EIO", "EINTR"),
 }  # fmt: skip
 # System calls that only the hook makes in a build.
 OWN_CALLS = {"socket": 2, "connect": 2, "getsockopt": 2, "socketpair": 2, "sendmsg": 40, "recvfrom": 15}
@@ -303,6 +303,8 @@ def failing_server(checks, at):
     for way in range(len(WAYS)):
         counts = Counter(call for call, _ in traced(f"counted{way}", way, [])[2])
         for call, errors in SERVER_CALLS.items():
+            if call == "ioctl" and "--colour=always" in WAYS[way][0]:
+                continue  # whether a descriptor is a terminal can always be found out
             items += [(way, call, error, number) for error in errors for number in sampled(range(1, counts[call] + 1), way)]
             if call in LASTING:
                 items += [(way, call, errors[0], f"{number}+") for number in range(1 + way, counts[call] + 1, 2 * len(WAYS))]
@@ -635,8 +637,8 @@ class Liar:
         connection, (notes, other) = self.connect(), self.pair()
         self.send(connection, hello(self.token, **{"directory": self.folder.encode() + b"\0", **more}), other.fileno())
         other.close()
-        welcome = self.answer(connection, 16)
-        return connection, notes, struct.unpack("@I", welcome[:4])[0] if len(welcome) == 16 else 0
+        welcome = self.answer(connection, 20)
+        return connection, notes, struct.unpack("@I", welcome[:4])[0] if len(welcome) == 20 else 0
 
     def begin(self, name, text=b"", process=77, command=b"/bin/sh\0-c\0true\0", time=ORDINARY, **more):
         """A make with one recipe, of which a line is running and has printed something."""

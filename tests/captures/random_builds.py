@@ -28,6 +28,9 @@ from checks import CAPTURES, PROGRAM, environment, install_capture  # noqa: E402
 MOST_SECONDS = 300  # for one build
 FIXED = 300
 DAILY = 300
+# Of each 100,000 seeds, those of builds that may be captured with --colour; and how many of them are tried, fixed ones and daily ones.
+COLOURED = range(50000, 100000)
+FIXED_COLOURED = DAILY_COLOURED = 60
 # The end of text that has no line feed. Such text and what another process prints next are one line, or two.
 UNENDED = "<unended>"
 # make writes the text of $(info) and the line feed after it in two parts. So another process may print between them.
@@ -121,6 +124,8 @@ class Build:
             self.add_shared(top, seconds[0])
         self.command = self.script(top, seconds)
         self.options = self.choose_options()
+        if seed % 100000 in COLOURED:
+            self.options += rng.choice(("", "--colour=always", "--colour=always", "--color=always")).split()
         for make in self.makes:
             self.files[make.directory + make.file] = self.text_of(make)
 
@@ -814,7 +819,9 @@ def message_differences(build, captured, printed, words):
     for message in printed.messages:
         if TROUBLE.search(message):
             yield f"message: {message}"
-    failed = {"no recipe failed;": {word.name for word in words if not word.is_ignored}, "no recipe failed, except": causes(build, words)[0]}
+    # The status of a target that two makes make is that of the make that ended it last.
+    shared = {name for name, count in build.recipe_count.items() if count > 1}
+    failed = {"no recipe failed;": {word.name for word in words if not word.is_ignored}, "no recipe failed, except": causes(build, words)[0] - shared}
     for start, names in failed.items():
         if names and any(message.startswith(start) for message in printed.messages):
             yield f"{start} but {names}"
@@ -834,7 +841,6 @@ def message_differences(build, captured, printed, words):
         return
     named = {name for message in printed.messages if "failed" in message for name in named_by(message)}
     failed, untolerated = causes(build, words)
-    shared = {name for name, count in build.recipe_count.items() if count > 1}
     is_cut = any(re.search(r"\d+ more|\d+ of them", message) for message in printed.messages if "failed" in message)
     if failed - named - shared and not is_cut:
         yield f"not named as failed: {failed - named - shared}; named: {named}"
@@ -899,7 +905,10 @@ def results(seeds, folder, keeps=False):
 
 def random_builds(checks, at):
     first = int(time.time()) // 86400 * 100000
-    for seed, found in results([*range(FIXED), *range(first, first + DAILY)], at("builds")):
+    seeds = [*range(FIXED), *range(first, first + DAILY)]
+    for base, count in ((0, FIXED_COLOURED), (first, DAILY_COLOURED)):
+        seeds += range(base + COLOURED.start, base + COLOURED.start + count)
+    for seed, found in results(seeds, at("builds")):
         checks.expect(f"a random build; repeat it with tests/captures/random_builds.py {seed}", found, [])
 
 
