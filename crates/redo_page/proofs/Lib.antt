@@ -7,6 +7,7 @@ mod ExcerptLemmas
 mod ExcerptRows
 mod FailedIds
 mod FailedLines
+mod FailedNames
 mod FailedNesting
 mod FailedOrder
 mod FailedRows
@@ -21,13 +22,16 @@ mod KeptLines
 mod LawRows
 mod LimitLemmas
 mod LimitRows
+mod NameLemmas
 mod Nesting
+mod OpeningLemmas
 mod OtherTags
 mod PageIds
 mod PageLemmas
 mod PageLines
-mod PageRows
+mod PageNames
 mod PagePartLemmas
+mod PageRows
 mod PageTags
 mod PartLemmas
 mod PartLoops
@@ -45,6 +49,7 @@ mod TimelineLemmas
 mod TimelineRows
 mod TreeIds
 mod TreeLines
+mod TreeNames
 mod TreeNesting
 mod TreePartRows
 mod TreeRows

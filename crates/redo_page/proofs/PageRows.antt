@@ -2,7 +2,7 @@
 use Rattle.std.proofs.Common.{Bor, ◌≡◌, ℕ, Bool, true, false, List, [], ◌∷◌, ◌++◌, map, Option, None, Some, pos, length, replicate, refl}
 use Rattle.std.specs.Fmt.{digits}
 use Rattle.std.specs.List.{filter, flat_map, starts_with}
-use Rattle.std.specs.Prelude.{bytes_eq, codes, nat_eq, sum_by, take}
+use Rattle.std.specs.Prelude.{bytes_eq, codes, nat_eq, sum_by, take, if◌then◌else◌}
 use Rattle.redo_line.specs.declared.entry.Entry.{Entry}
 use Rattle.redo_line.specs.declared.entry.Entry.TheVariants.{Text, Mention, Closing}
 use Rattle.redo_line.specs.declared.entry.How.TheVariants.{Made}
@@ -46,6 +46,24 @@ words text = TextPart text
 
 abbrev name : List ℕ → List Part → List Part
 name text rest = tag markup.Bdi ∷ words text ∷ tag markup.EndBdi ∷ rest
+
+abbrev is_text : Part → Bool
+is_text (TextPart text) = true
+is_text part = false
+
+abbrev first_text : List Part → List ℕ
+first_text [] = []
+first_text (TextPart text ∷ parts) = text
+first_text (part ∷ parts) = first_text parts
+
+-- The parts before the first one of a kind, and after it.
+abbrev before_first : (Part → Bool) → List Part → List Part
+before_first is [] = []
+before_first is (part ∷ parts) = if is part then [] else part ∷ before_first is parts
+
+abbrev after_first : (Part → Bool) → List Part → List Part
+after_first is [] = []
+after_first is (part ∷ parts) = if is part then parts else after_first is parts
 
 abbrev log : List ℕ → List Entry → Log
 log target entries = record { target = target; entries = entries; state = Ended }

@@ -26,7 +26,7 @@ use Rattle.redo_summary.specs.Summary.{Facts, is_timed}
 
 -- Whether an item has no references, except for links to the targets of rows.
 module _ {T B : Type 0} (inner : Bool → B → Bool) where
-  abbrev only_rows : Bool → Item T B → Bool
+  abbrev pub only_rows : Bool → Item T B → Bool
   only_rows in_row (item.Tag markup) = not (is_reference markup)
   only_rows in_row item.Link = in_row
   only_rows in_row (item.In (If test) block) = inner in_row block

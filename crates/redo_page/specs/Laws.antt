@@ -2,32 +2,38 @@
 use Rattle.std.specs.Prelude.{◌≡◌, ◌⊎◌, ℕ, zero, suc, ◌+◌, ◌<◌, ◌==◌, ◌||◌, Bool, true, not, List, [], ◌∷◌, ◌++◌, map, Option, None, Some, codes, false, nat_eq, take}
 use Rattle.std.specs.List.{AllByRecursion, filter, flat_map, list_any, starts_with}
 use Rattle.redo_line.specs.declared.entry.Entry.TheVariants.{Text, Done, Note}
+use Rattle.redo_line.specs.declared.entry.How.{How}
 use Rattle.redo_line.specs.Lines.{with_line_feed}
 use Rattle.redo_logs.specs.Logs.{Log, log_number}
 use Rattle.redo_view.specs.Event.{Event}
 use Rattle.redo_view.specs.Event.Event.{Requested, Mentioned, EntryShown}
 use Rattle.redo_html.specs.declared.markup.Markup.{Markup}
-use Rattle.redo_html.specs.declared.markup.Markup.TheVariants.{BodyBad, BodyGood, BodyOpen, FailedSection, SummarySection, TimelineSection, TreeSection, FailedLink, SummaryLink, TimelineLink, TreeLink, TargetLink, OutputLink, Article, TargetItem, Details, OpenDetails}
+use Rattle.redo_html.specs.declared.markup.Markup.TheVariants.{BodyBad, BodyGood, BodyOpen, FailedSection, SummarySection, TimelineSection, TreeSection, FailedLink, SummaryLink, TimelineLink, TreeLink, TargetLink, EndLink, OutputLink, Article, TargetItem, Details, OpenDetails, Summary, Title3, EndTitle3, MetaParagraph}
 use Rattle.redo_html.specs.declared.chart.GroupKind.{GroupKind}
 use Rattle.redo_html.specs.Chart.{Drawing, drawing_links}
 use Rattle.redo_html.specs.Html.{is_one_of}
 use Rattle.redo_html.specs.Laws.{IsChartTag, is_highlight}
 use Rattle.redo_html.specs.Parts.{Part}
-use Rattle.redo_html.specs.Parts.Part.{MarkupPart, LogPart, TitlePart, ChartPart}
+use Rattle.redo_html.specs.Parts.Part.{MarkupPart, LogPart, TextPart, TitlePart, ChartPart}
 use Rattle.redo_html.specs.Tags.{markup_text}
 use Rattle.redo_outline.specs.declared.node.Node.{Node}
 use Rattle.redo_outline.specs.Contents.{Contents, contents_of}
 use Rattle.redo_outline.specs.Contents.Contents.{Nothing, Shown, Opened}
+use Rattle.redo_outline.specs.Facts.{target_at, target_status}
 use Rattle.redo_outline.specs.Outline.{log_count}
-use Rattle.redo_page.specs.Failed.{article_parts, is_dependent_failure}
+use Rattle.redo_page.specs.declared.labels.TheConstants.{IN_ITS_LOG, PLACE_IN_TREE, SHOWN_ABOVE}
+use Rattle.redo_page.specs.Failed.{article_parts, article_took, is_dependent_failure}
 use Rattle.redo_page.specs.Page.{Request, options_of, page_contents, page_events, page_facts, page_outline}
 use Rattle.redo_page.specs.Timeline.{facts_drawing}
 use Rattle.redo_chart.specs.Laws.{DrawsAll, shapes_of}
 use Rattle.redo_summary.specs.Summary.{is_timed}
+use Rattle.redo_summary.specs.Targets.{duration_of, times_of}
 use Rattle.redo_timeline.specs.declared.span.Span.{Span}
 use Rattle.redo_timeline.specs.declared.span.Window.{Window}
+use Rattle.redo_times.specs.declared.times.Times.{Times}
 use Rattle.redo_page.specs.Tree.{Build, has_failed, is_moved_if, is_root_failure, is_same_position, node_at, tree_parts}
 use Rattle.redo_page.specs.Limits.{tree_limits}
+use Rattle.redo_page.specs.Targets.{badge_parts, facts_parts, how_parts, name_parts}
 use Rattle.redo_trim.specs.declared.limit.Limit.{Limit}
 use Rattle.redo_trim.specs.Trim.{limit_of}
 
@@ -127,6 +133,56 @@ numbers_from first (suc count) = first ∷ numbers_from (suc first) count
 
 abbrev pub is_among : List ℕ → ℕ → Bool
 is_among numbers number = list_any (λ other. number == other) numbers
+
+-- ---- names, statuses and durations
+
+-- Whether some parts begin with others.
+abbrev pub BeginWith : List Part → List Part → Type 0
+BeginWith beginning parts = (rest : List Part) × (beginning ++ rest ≡ parts)
+
+module _ (logs : List Log) (nodes : List Node) where
+  -- The name of the target whose log is at a position.
+  abbrev pub target_name : ℕ → List ℕ
+  target_name position = target_at logs (node_at nodes position).number
+
+  -- A link has this name, or one of these texts.
+  abbrev pub IsLinkText : List (List ℕ) → ℕ → List Part → Type 0
+  IsLinkText texts position after =
+      BeginWith (name_parts (target_name position) ++ MarkupPart EndLink ∷ []) after
+      ⊎ ((text : List ℕ) × (is_one_of text texts ≡ true) × BeginWith (TextPart text ∷ MarkupPart EndLink ∷ []) after)
+
+  -- A log begins with this name, and with the facts of its target: its status, how long it took, and counts. What was done about a lock
+  -- may be between them.
+  abbrev pub IsLogHeading : List Part → ℕ → List Part → Type 0
+  IsLogHeading start position after =
+      BeginWith (start ++ (name_parts (target_name position) ++ facts_parts (node_at nodes position))) after
+      ⊎ ((how : How)
+      × BeginWith (start ++ (name_parts (target_name position) ++ (how_parts true how ++ facts_parts (node_at nodes position)))) after)
+
+  -- An article begins with this name, the status of the target, and how long it took.
+  abbrev pub IsArticleHeading : ℕ → List Part → Type 0
+  IsArticleHeading position after =
+      BeginWith (MarkupPart Title3
+      ∷ (name_parts (target_name position)
+      ++ (badge_parts (node_at nodes position).status
+      ++ (MarkupPart EndTitle3 ∷ MarkupPart MetaParagraph ∷ article_took (node_at nodes position).took)))) after
+
+  -- What follows a link to a target or to its article, and a tag with the id of one of these.
+  abbrev pub TellsItsTarget : Markup → List Part → Type 0
+  TellsItsTarget (TargetLink position) after = IsLinkText (PLACE_IN_TREE.now ∷ IN_ITS_LOG.now ∷ []) position after
+  TellsItsTarget (OutputLink position) after = IsLinkText (SHOWN_ABOVE.now ∷ []) position after
+  TellsItsTarget (TargetItem position) after = IsLogHeading [] position after
+  TellsItsTarget (Details position) after = IsLogHeading (MarkupPart Summary ∷ []) position after
+  TellsItsTarget (OpenDetails position) after = IsLogHeading (MarkupPart Summary ∷ []) position after
+  TellsItsTarget (Article position) after = IsArticleHeading position after
+  TellsItsTarget tag after = Unit {0}
+
+-- What is known of the target of a node: its log has the node's number, and its status and its times are those that the logs say.
+pub record IsOfTarget (logs : List Log) (events : List Event) (times : List Times) (node : Node) : Type 0 where
+  pub log : log_number (target_at logs node.number) logs ≡ Some node.number
+  pub status : node.status ≡ target_status logs events node.number
+  pub took : node.took ≡ duration_of times node.number
+  pub ended : node.ended ≡ (times_of times node.number).ended
 
 -- ---- what failed
 

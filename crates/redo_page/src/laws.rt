@@ -1,15 +1,17 @@
 //! Laws about the definitions alone: their contracts are theorems, and their bodies are empty or cite laws of other crates.
 ghost use Rattle.std.specs.Prelude.{◌≡◌, ℕ, true, [], ◌∷◌, ◌++◌, List, None, Some, length, nat_eq, ◌<◌, ◌≤◌, false, ◌^◌};
-ghost use Rattle.std.specs.List.{All, IsDistinct, flat_map, list_all};
+ghost use Rattle.std.specs.List.{All, AllByRecursion, IsDistinct, flat_map, list_all};
 ghost use Rattle.std.specs.List.Sorted.{IsPermutation};
 ghost use Rattle.redo_html.specs.Html.{nests_in, read, tags_of, text_of};
-ghost use Rattle.redo_html.specs.Parts.{part_text, part_tokens};
+ghost use Rattle.redo_html.specs.declared.markup.Markup.{Markup};
+ghost use Rattle.redo_html.specs.Parts.{Part, part_text, part_tokens};
+ghost use Rattle.redo_html.specs.Parts.Part.{MarkupPart};
 ghost use Rattle.redo_logs.specs.Logs.{Log};
 ghost use Rattle.redo_options.specs.declared.options.Options.{Options};
 ghost use Rattle.redo_view.specs.View.{find_unknown};
 ghost use Rattle.redo_outline.specs.declared.node.Node.{Node};
 ghost use Rattle.redo_outline.specs.Contents.{Contents};
-ghost use Rattle.redo_page.specs.Laws.{AreInOrderOfEnd, ContainRoots, HaveSameLogs, IsOwnTag, IsPartOf, IsRed, article_ids, article_links, blanked, event_lines, is_among, kept_lines, lines_at, log_bytes, markups, numbers_from, page_article, page_chart, page_lines, page_tree, positioned_bytes, section_ids, section_links, target_ids, target_links, texts_of, unmoved_lines, charts, ChartDraws, HasTimeline, first, page_limit, says_failed, shows_failure, title_in};
+ghost use Rattle.redo_page.specs.Laws.{AreInOrderOfEnd, ContainRoots, HaveSameLogs, IsOfTarget, IsOwnTag, IsPartOf, IsRed, TellsItsTarget, article_ids, article_links, blanked, event_lines, is_among, kept_lines, lines_at, log_bytes, markups, numbers_from, page_article, page_chart, page_lines, page_tree, positioned_bytes, section_ids, section_links, target_ids, target_links, texts_of, unmoved_lines, charts, ChartDraws, HasTimeline, first, page_limit, says_failed, shows_failure, title_in};
 ghost use Rattle.redo_page.specs.Failed.{is_dependent_failure, positions_where};
 ghost use Rattle.redo_page.specs.Limits.{bytes_shown, highest_cap};
 ghost use Rattle.redo_page.specs.Page.{Request, page_build, page_events, page_facts, page_html, page_outline, page_parts};
@@ -18,7 +20,7 @@ ghost use Rattle.redo_chart.specs.Bands.{max_caller_lanes, max_recipe_lanes, max
 ghost use Rattle.redo_chart.specs.Laws.{DrawsAll, shapes_of};
 ghost use Rattle.redo_html.specs.declared.chart.GroupKind.TheVariants.{Callers, Recipes, Untimed};
 ghost use Rattle.redo_trim.specs.Laws.{head_and_tail};
-ghost use Rattle.redo_summary.specs.Laws.{AreSplit};
+ghost use Rattle.redo_summary.specs.Laws.{AreSplit, IsOverTimes};
 ghost use Rattle.redo_timeline.specs.declared.span.Window.{Window};
 ghost use Rattle.redo_page.specs.Timeline.{facts_drawing, has_timeline};
 
@@ -28,7 +30,9 @@ use redo_html::{
     parts_show_their_text, passages_are_read_as_shown,
 };
 use redo_outline::{events_are_in_contents, nodes_sum_up_logs_below};
-use redo_summary::{positions_are_of_nodes, spans_are_callers_or_recipes};
+use redo_summary::{
+    positions_are_of_nodes, spans_are_callers_or_recipes, window_is_over_known_times,
+};
 use redo_trim::{head_and_tail_are_kept, trimmed_events_are_in_tree, unlimited_logs_are_whole};
 use redo_view::logs_show_their_lines;
 
@@ -71,6 +75,16 @@ pub fn links_lead_to_ids()
     bars_lead_to_positions();
     trimmed_events_are_in_tree();
 }
+
+/// Each link to a log or to an article has the name of its target as text, or one of the page's own texts. Each log in the tree, and each
+/// article, begins with the name of its target, its status and how long it took. These are what the logs say.
+pub fn targets_have_their_names()
+    ensures names { (request : Request) (logs : List Log) (requested : List (List ℕ)) →
+        (before : List Part) (tag : Markup) (after : List Part) → before ++ (MarkupPart tag ∷ after) ≡ page_parts request logs requested →
+        TellsItsTarget logs (page_outline request logs requested) tag after }
+    ensures targets { (request : Request) (logs : List Log) (requested : List (List ℕ)) →
+        AllByRecursion (IsOfTarget logs (page_events request logs requested) request.times) (page_outline request logs requested) }
+{}
 
 /// The body of a page has the colours of a failed build, and its title the sign of one, exactly if a target that the page shows failed.
 pub fn failed_builds_are_red()
@@ -154,16 +168,19 @@ pub fn tags_are_its_own()
     charts_have_no_text_in_tags();
 }
 
-/// If a page has a timeline, it has one chart, and otherwise none. The chart shows when each target ran: the span of each shown target
-/// whose times are known is in exactly one bar. This bar begins when the first of its spans began, and leads to the target of that one. It
-/// is as wide as the time until the last of them ended, but at least 0.1 % of the chart. What its tooltip says is `title_of` of its spans.
-/// The chart shows marks in the same way.
+/// If a page has a timeline, it has one chart, and otherwise none. Its window runs from the first known time of a shown target to the last
+/// one. The chart shows when each target ran: the span of each shown target whose times are known is in exactly one bar. This bar begins
+/// when the first of its spans began, and leads to the target of that one. It is as wide as the time until the last of them ended, but at
+/// least 0.1 % of the chart. What its tooltip says is `title_of` of its spans. The chart shows marks in the same way.
 pub fn times_are_shown()
     ensures chart { (request : Request) (logs : List Log) (requested : List (List ℕ)) (window : Window) →
         HasTimeline request logs requested window →
         charts (page_parts request logs requested) ≡ page_chart request logs requested window ∷ [] }
     ensures no_chart { (request : Request) (logs : List Log) (requested : List (List ℕ)) →
         has_timeline (page_facts request logs requested) ≡ false → charts (page_parts request logs requested) ≡ [] }
+    ensures window { (request : Request) (logs : List Log) (requested : List (List ℕ)) (window : Window) →
+        HasTimeline request logs requested window →
+        IsOverTimes (page_outline request logs requested) request.times (page_facts request logs requested).took window }
     ensures spans { (request : Request) (logs : List Log) (requested : List (List ℕ)) →
         AreSplit (page_outline request logs requested) request.times (page_facts request logs requested) }
     ensures callers { (request : Request) (logs : List Log) (requested : List (List ℕ)) (window : Window) →
@@ -173,6 +190,7 @@ pub fn times_are_shown()
     ensures marks { (request : Request) (logs : List Log) (requested : List (List ℕ)) (window : Window) →
         ChartDraws request logs requested window Untimed max_mark_lanes (page_facts request logs requested).marks }
 {
+    window_is_over_known_times();
     spans_are_callers_or_recipes();
     bars_say_when_targets_ran();
     positions_are_of_nodes();

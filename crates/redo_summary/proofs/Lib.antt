@@ -7,4 +7,5 @@ mod SummaryRows
 mod TableLemmas
 mod TargetLemmas
 mod TimeLemmas
+mod WindowLemmas
 mod LargeRows

@@ -1,15 +1,18 @@
 -- What the laws state.
-use Rattle.std.specs.Prelude.{◌≡◌, ℕ, ◌+◌, ◌<◌, ◌≤◌, ◌⊎◌, min, ltb, List, [], ◌∷◌, ◌++◌, length, filter, Option, Some}
+use Rattle.std.specs.Prelude.{◌≡◌, ℕ, ◌+◌, ◌-◌, ◌<◌, ◌≤◌, ◌⊎◌, max, min, ltb, List, [], ◌∷◌, ◌++◌, length, filter, Option, Some}
 use Rattle.std.specs.List.{AllByRecursion, Contains}
 use Rattle.std.specs.List.Sorted.{IsPermutation}
 use Rattle.redo_timeline.specs.declared.span.Span.{Span}
+use Rattle.redo_timeline.specs.declared.span.Window.{Window}
 use Rattle.redo_times.specs.declared.times.Times.{Times}
+use Rattle.redo_times.specs.Laws.{IsFirst, IsLast}
 use Rattle.redo_outline.specs.declared.node.Node.{Node}
 use Rattle.redo_summary.specs.declared.rank.Rank.{Rank}
 use Rattle.redo_summary.specs.Callers.{spans_of}
 use Rattle.redo_summary.specs.Ranks.{warnings_from}
 use Rattle.redo_summary.specs.Summary.{Facts}
 use Rattle.redo_summary.specs.Targets.{targets_of, times_of}
+use Rattle.redo_summary.specs.Window.{cut}
 
 -- The positions of spans, or of ranks, are below a number.
 abbrev pub AreSpansBelow : ℕ → List Span → Type 0
@@ -61,6 +64,22 @@ AllRanOthers nodes times spans = AllByRecursion (RanOthers nodes times) spans
 
 abbrev pub NoneRanOthers : List Node → List Times → List Span → Type 0
 NoneRanOthers nodes times spans = AllByRecursion (λ (span : Span). ¬ RanOthers nodes times span) spans
+
+-- A shown target began or ended at this time.
+abbrev pub HasTime : Times → ℕ → Type 0
+HasTime known time = (known.began ≡ Some time) ⊎ (known.ended ≡ Some time)
+
+abbrev pub IsKnown : List Node → List Times → ℕ → Type 0
+IsKnown nodes times time = (node : Node) × Contains nodes node × HasTime (times_of times node.number) time
+
+-- A window begins at the first known time, and `took` is how long it is from there to the last one. The window is this long, but at least
+-- one millisecond.
+pub record IsOverTimes (nodes : List Node) (times : List Times) (took : ℕ) (window : Window) : Type 0 where
+  pub begins : IsFirst (IsKnown nodes times) window.began
+  pub last : ℕ
+  pub ends : IsLast (IsKnown nodes times) last
+  pub lasts : took ≡ cut (last - window.began)
+  pub width : window.width ≡ max 1 took
 
 -- A rank is before another: its value is larger, or it is equal and its position isn't higher.
 abbrev pub IsBefore : Rank → Rank → Type 0

@@ -1,10 +1,11 @@
 //! Laws about the definitions alone: their contracts are theorems, and their bodies are empty.
-ghost use Rattle.std.specs.Prelude.{List, map};
+ghost use Rattle.std.specs.Prelude.{◌≡◌, ℕ, List, map, None, Some};
 ghost use Rattle.redo_outline.specs.declared.node.Node.{Node};
 ghost use Rattle.redo_times.specs.declared.times.Times.{Times};
-ghost use Rattle.redo_summary.specs.Laws.{AllRanOthers, AreInOrderOfPosition, AreOfNodes, AreSplit, HasFirstTen, IsTable, NoneRanOthers, warning_ranks};
+ghost use Rattle.redo_summary.specs.Laws.{AllRanOthers, AreInOrderOfPosition, AreOfNodes, AreSplit, HasFirstTen, IsKnown, IsOverTimes, IsTable, NoneRanOthers, warning_ranks};
 ghost use Rattle.redo_summary.specs.Ranks.{rank_of};
 ghost use Rattle.redo_summary.specs.Summary.{summary_of};
+ghost use Rattle.redo_timeline.specs.declared.span.Window.{Window};
 
 /// Each position is the position of a node.
 pub fn positions_are_of_nodes()
@@ -19,6 +20,15 @@ pub fn spans_are_in_order_of_position()
 /// The span of each shown target whose times are known is in exactly one of the lists of callers and recipes.
 pub fn spans_are_callers_or_recipes()
     ensures { (nodes : List Node) (times : List Times) → AreSplit nodes times (summary_of nodes times) }
+{}
+
+/// The window runs from the first known time of a shown target to the last one, and is at least one millisecond wide. There is none only if
+/// no time is known.
+pub fn window_is_over_known_times()
+    ensures window { (nodes : List Node) (times : List Times) (window : Window) → (summary_of nodes times).window ≡ Some window →
+        IsOverTimes nodes times (summary_of nodes times).took window }
+    ensures none { (nodes : List Node) (times : List Times) (time : ℕ) → (summary_of nodes times).window ≡ None →
+        IsKnown nodes times time → ⊥ }
 {}
 
 /// Each caller ran others, and no recipe ran others: its log directly contains the log of another target, which began and ended while it

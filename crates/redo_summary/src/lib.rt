@@ -23,7 +23,7 @@ mod window;
 
 pub use laws::{
     callers_ran_others, positions_are_of_nodes, ranks_are_in_order, spans_are_callers_or_recipes,
-    spans_are_in_order_of_position, tables_have_first_ranks,
+    spans_are_in_order_of_position, tables_have_first_ranks, window_is_over_known_times,
 };
 pub use rank::Rank;
 pub use summary::Summary;

@@ -11,6 +11,10 @@ pub returns-clause-no_chart : goal.returns-clause-no_chart
 returns-clause-no_chart c = page_has_no_chart c.positions_are_of_nodes.ensures c.bars_lead_to_positions.ensures
     c.trimmed_events_are_in_tree.ensures.logs
 
+pub returns-clause-window : goal.returns-clause-window
+returns-clause-window c = λ request logs requested window has.
+    c.window_is_over_known_times.ensures.window (page_outline request logs requested) request.times window has.0
+
 pub returns-clause-spans : goal.returns-clause-spans
 returns-clause-spans c = λ request logs requested.
     c.spans_are_callers_or_recipes.ensures (page_outline request logs requested) request.times

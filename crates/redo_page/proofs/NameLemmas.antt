@@ -1,0 +1,199 @@
+-- What a page tells of targets: names in links, and names with facts where logs and articles begin.
+use Rattle.std.proofs.Common.{◌≡◌, ℕ, ◌<◌, Bool, true, false, List, [], ◌∷◌, ◌++◌, Option, None, Some, refl, sym, ◌∙◌, ap, subst, inl, inr, arith}
+use Rattle.std.specs.Prelude.{nat_lt}
+use Rattle.std.specs.List.{flat_map, list_all}
+use Rattle.std.proofs.lemmas.Bool.{and_from, and_parts, ltb-true}
+use Rattle.std.proofs.lemmas.List.{append_assoc}
+use Rattle.std.proofs.lemmas.List.Folds.{list_all-append}
+use Rattle.redo_html.specs.declared.markup.Markup.{Markup}
+use Rattle.redo_html.specs.declared.markup.Markup.TheVariants as markup
+use Rattle.redo_html.specs.Parts.{Part}
+use Rattle.redo_html.specs.Parts.Part.{MarkupPart, TextPart}
+use Rattle.redo_logs.specs.Logs.{Log}
+use Rattle.redo_outline.specs.declared.node.Node.{Node}
+use Rattle.redo_page.specs.declared.labels.TheConstants.{IN_ITS_LOG, PLACE_IN_TREE, SHOWN_ABOVE}
+use Rattle.redo_page.specs.Laws.{TellsItsTarget, article_id, article_ids, article_link, article_links, is_among, target_id, target_ids, target_link, target_links, target_name}
+use Rattle.redo_page.specs.Targets.{linked_parts, name_parts, parts_if}
+use Rattle.redo_page.proofs.Ids.{Bare, Refers, reference, references}
+
+-- Whether a part is no link to a target or to an article, and has no id of one.
+abbrev pub is_calm_tag : Markup → Bool
+is_calm_tag (markup.TargetLink number) = false
+is_calm_tag (markup.OutputLink number) = false
+is_calm_tag (markup.Article number) = false
+is_calm_tag (markup.TargetItem number) = false
+is_calm_tag (markup.Details number) = false
+is_calm_tag (markup.OpenDetails number) = false
+is_calm_tag tag = true
+
+abbrev pub is_calm : Part → Bool
+is_calm (MarkupPart tag) = is_calm_tag tag
+is_calm part = true
+
+left_none : {X : Type 0} (items others : List X) → items ++ others ≡ [] → items ≡ []
+left_none [] others none = refl
+left_none (item ∷ items) others none = absurd (cc)
+
+right_none : {X : Type 0} (items others : List X) → items ++ others ≡ [] → others ≡ []
+right_none [] others none = none
+right_none (item ∷ items) others none = absurd (cc)
+
+-- Something holds of the parts from each place on.
+abbrev pub FromEach : (List Part → Type 0) → List Part → Type 0
+FromEach Holds [] = Unit {0}
+FromEach Holds (part ∷ parts) = Holds (part ∷ parts) × FromEach Holds parts
+
+pub from_here : (Holds : List Part → Type 0) (before : List Part) (part : Part) (after : List Part)
+    → FromEach Holds (before ++ (part ∷ after)) → Holds (part ∷ after)
+from_here Holds [] part after all = all.0
+from_here Holds (other ∷ before) part after all = from_here Holds before part after all.1
+
+module _ (logs : List Log) (nodes : List Node) where
+  abbrev pub TellHere : List Part → Type 0
+  TellHere (MarkupPart tag ∷ after) = TellsItsTarget logs nodes tag after
+  TellHere parts = Unit {0}
+
+  abbrev pub Tell : List Part → Type 0
+  Tell parts = FromEach TellHere parts
+
+  -- Parts that tell their targets, whatever follows.
+  pub record Tells (parts : List Part) : Type 0 where
+    pub before : (rest : List Part) → Tell rest → Tell (parts ++ rest)
+
+  pub then_tell : {parts others : List Part} → Tells parts → Tells others → Tells (parts ++ others)
+  then_tell {parts} {others} first last = record {
+    before = λ rest tell. subst Tell (sym (append_assoc parts others rest)) (first.before (others ++ rest) (last.before rest tell));
+  }
+
+  pub none_tell : Tells []
+  none_tell = record { before = λ rest tell. tell }
+
+  calm_part : (part : Part) (rest : List Part) → is_calm part ≡ true → Tell rest → Tell (part ∷ rest)
+  calm_part (MarkupPart tag) rest calm tell = by tag calm
+    where
+      by : (tag : Markup) → is_calm_tag tag ≡ true → Tell (MarkupPart tag ∷ rest)
+      by (markup.TargetLink number) calm = absurd (cc)
+      by (markup.OutputLink number) calm = absurd (cc)
+      by (markup.Article number) calm = absurd (cc)
+      by (markup.TargetItem number) calm = absurd (cc)
+      by (markup.Details number) calm = absurd (cc)
+      by (markup.OpenDetails number) calm = absurd (cc)
+      by tag calm = (tt, tell)
+  calm_part part rest calm tell = (tt, tell)
+
+  -- Parts without links and ids tell nothing.
+  pub calm_tell : (parts : List Part) → list_all is_calm parts ≡ true → Tells parts
+  calm_tell [] calm = none_tell
+  calm_tell (part ∷ parts) calm =
+      let both = and_parts (is_calm part) (list_all is_calm parts) calm in
+      record { before = λ rest tell. calm_part part (parts ++ rest) both.0 ((calm_tell parts both.1).before rest tell) }
+
+  calm_reference : (part : Part) → list_all is_calm (reference part) ≡ true → is_calm part ≡ true
+  calm_reference (MarkupPart tag) calm = by tag calm
+    where
+      by : (tag : Markup) → list_all is_calm (reference (MarkupPart tag)) ≡ true → is_calm_tag tag ≡ true
+      by (markup.TargetLink number) calm = absurd (cc)
+      by (markup.OutputLink number) calm = absurd (cc)
+      by (markup.Article number) calm = absurd (cc)
+      by (markup.TargetItem number) calm = absurd (cc)
+      by (markup.Details number) calm = absurd (cc)
+      by (markup.OpenDetails number) calm = absurd (cc)
+      by tag calm = refl
+  calm_reference part calm = refl
+
+  -- It is enough that no reference is a link or an id.
+  pub references_tell : (parts : List Part) → list_all is_calm (references parts) ≡ true → Tells parts
+  references_tell [] calm = none_tell
+  references_tell (part ∷ parts) calm =
+      let both = and_parts (list_all is_calm (reference part)) (list_all is_calm (references parts))
+      (sym (list_all-append is_calm (reference part) (references parts)) ∙ calm) in
+      record {
+        before = λ rest tell. calm_part part (parts ++ rest) (calm_reference part both.0) ((references_tell parts both.1).before rest tell);
+      }
+
+  pub bare_tell : (parts : List Part) → Bare parts → Tells parts
+  bare_tell parts bare = references_tell parts (ap (list_all is_calm) bare)
+
+  -- Parts whose links lead nowhere have none.
+  none_below : (numbers : List ℕ) → list_all (λ number. nat_lt number 0) numbers ≡ true → numbers ≡ []
+  none_below [] all = refl
+  none_below (number ∷ numbers) all =
+      let less : number < 0 = ltb-true number 0 (and_parts (nat_lt number 0) (list_all (λ other. nat_lt other 0) numbers) all).0 in
+      absurd (omega (arith, less))
+
+  none_among : (numbers : List ℕ) → list_all (is_among []) numbers ≡ true → numbers ≡ []
+  none_among [] all = refl
+  none_among (number ∷ numbers) all = absurd (cc)
+
+  unlinked : (parts : List Part) → target_ids parts ≡ [] → article_ids parts ≡ [] → target_links parts ≡ [] → article_links parts ≡ []
+      → list_all is_calm parts ≡ true
+  unlinked [] ids article_ids_are links article_links_are = refl
+  unlinked (part ∷ parts) ids article_ids_are links article_links_are =
+      and_from (is_calm part) (list_all is_calm parts)
+      (by part (left_none (target_id part) (target_ids parts) ids) (left_none (article_id part) (article_ids parts) article_ids_are)
+      (left_none (target_link part) (target_links parts) links) (left_none (article_link part) (article_links parts) article_links_are))
+      (unlinked parts (right_none (target_id part) (target_ids parts) ids)
+      (right_none (article_id part) (article_ids parts) article_ids_are) (right_none (target_link part) (target_links parts) links)
+      (right_none (article_link part) (article_links parts) article_links_are))
+    where
+      by : (part : Part) → target_id part ≡ [] → article_id part ≡ [] → target_link part ≡ [] → article_link part ≡ []
+          → is_calm part ≡ true
+      by (MarkupPart tag) no_id no_article no_link no_article_link = tagged tag no_id no_article no_link no_article_link
+        where
+          tagged : (tag : Markup) → target_id (MarkupPart tag) ≡ [] → article_id (MarkupPart tag) ≡ [] → target_link (MarkupPart tag) ≡ []
+              → article_link (MarkupPart tag) ≡ [] → is_calm_tag tag ≡ true
+          tagged (markup.TargetLink number) a b c d = absurd (cc)
+          tagged (markup.OutputLink number) a b c d = absurd (cc)
+          tagged (markup.Article number) a b c d = absurd (cc)
+          tagged (markup.TargetItem number) a b c d = absurd (cc)
+          tagged (markup.Details number) a b c d = absurd (cc)
+          tagged (markup.OpenDetails number) a b c d = absurd (cc)
+          tagged tag a b c d = refl
+      by part no_id no_article no_link no_article_link = refl
+
+  pub unlinked_tell : {sections : List Part} (parts : List Part) → Refers 0 [] parts [] [] sections → Tells parts
+  unlinked_tell parts refers =
+      calm_tell parts
+      (unlinked parts refers.target_ids_are refers.article_ids_are (none_below (target_links parts) refers.target_links_lead)
+      (none_among (article_links parts) refers.article_links_lead))
+
+  pub tell_if : (condition : Bool) {parts : List Part} → Tells parts → Tells (parts_if condition parts)
+  tell_if true tells = tells
+  tell_if false tells = none_tell
+
+  pub tell_each : {X : Type 0} (f : X → List Part) → ((x : X) → Tells (f x)) → (xs : List X) → Tells (flat_map f xs)
+  tell_each f each [] = none_tell
+  tell_each f each (x ∷ xs) = then_tell (each x) (tell_each f each xs)
+
+  -- ---- links
+
+  pub target_link_tells : (position : ℕ)
+      → Tells (MarkupPart (markup.TargetLink position) ∷ (name_parts (target_name logs nodes position) ++ MarkupPart markup.EndLink ∷ []))
+  target_link_tells position = record { before = λ rest tell. (inl (rest, refl), (tt, (tt, (tt, (tt, tell))))) }
+
+  pub article_link_tells : (position : ℕ)
+      → Tells (MarkupPart (markup.OutputLink position) ∷ (name_parts (target_name logs nodes position) ++ MarkupPart markup.EndLink ∷ []))
+  article_link_tells position = record { before = λ rest tell. (inl (rest, refl), (tt, (tt, (tt, (tt, tell))))) }
+
+  pub place_link_tells : (position : ℕ)
+      → Tells (MarkupPart (markup.TargetLink position) ∷ TextPart PLACE_IN_TREE.now ∷ MarkupPart markup.EndLink ∷ [])
+  place_link_tells position = record { before = λ rest tell. (inr (PLACE_IN_TREE.now, refl, (rest, refl)), (tt, (tt, tell))) }
+
+  pub log_link_tells : (position : ℕ)
+      → Tells (MarkupPart (markup.TargetLink position) ∷ TextPart IN_ITS_LOG.now ∷ MarkupPart markup.EndLink ∷ [])
+  log_link_tells position = record { before = λ rest tell. (inr (IN_ITS_LOG.now, refl, (rest, refl)), (tt, (tt, tell))) }
+
+  pub above_link_tells : (position : ℕ)
+      → Tells (MarkupPart (markup.OutputLink position) ∷ TextPart SHOWN_ABOVE.now ∷ MarkupPart markup.EndLink ∷ [])
+  above_link_tells position = record { before = λ rest tell. (inr (SHOWN_ABOVE.now, refl, (rest, refl)), (tt, (tt, tell))) }
+
+  -- The name of a link is that of the target at its position, if it has one.
+  abbrev pub IsNameAt : Option ℕ → List ℕ → Type 0
+  IsNameAt None name = Unit {0}
+  IsNameAt (Some position) name = target_name logs nodes position ≡ name
+
+  pub linked_tells : (position : Option ℕ) (name : List ℕ) → IsNameAt position name → Tells (linked_parts position name)
+  linked_tells None name same = bare_tell (name_parts name) refl
+  linked_tells (Some position) name same =
+      subst (λ (n : List ℕ). Tells (MarkupPart (markup.TargetLink position) ∷ (name_parts n ++ MarkupPart markup.EndLink ∷ []))) same
+      (target_link_tells position)

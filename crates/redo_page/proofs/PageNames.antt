@@ -1,0 +1,125 @@
+-- What a page tells of targets.
+use Rattle.std.proofs.Common.{◌≡◌, ℕ, zero, suc, ◌+◌, List, [], ◌∷◌, ◌++◌, Option, None, Some, length, map, refl, sym, ◌∙◌, ap, subst}
+use Rattle.std.specs.List.{AllByRecursion}
+use Rattle.std.proofs.lemmas.List.{append-nil, map-append}
+use Rattle.redo_logs.specs.Logs.{Log, log_number}
+use Rattle.redo_view.specs.Event.{Event}
+use Rattle.redo_html.specs.declared.markup.Markup.{Markup}
+use Rattle.redo_html.specs.Parts.{Part}
+use Rattle.redo_html.specs.Parts.Part.{MarkupPart}
+use Rattle.redo_outline.specs.declared.node.Node.{Node}
+use Rattle.redo_outline.specs.Contents.{Contents, contents_of}
+use Rattle.redo_outline.specs.Contents.Contents.{Nothing, Shown, Opened}
+use Rattle.redo_outline.specs.Facts.{target_status}
+use Rattle.redo_outline.specs.Outline.{log_count, nodes_of, outline_of, times_at, with_times}
+use Rattle.redo_page.specs.Command.{command}
+use Rattle.redo_page.specs.Laws.{IsOfTarget, TellsItsTarget}
+use Rattle.redo_page.specs.Limits.{tree_limits}
+use Rattle.redo_page.specs.Page.{Request, heading_of, options_of, page_contents, page_events, page_facts, page_outline, page_parts, run_times, top_parts_of}
+use Rattle.redo_page.specs.Verdict.{title_text, verdict_of}
+use Rattle.redo_page.proofs.FailedNames.{failed_tells, summary_tells, timeline_tells}
+use Rattle.redo_page.proofs.FrameIds.{footer_bare, head_bare, header_refers}
+use Rattle.redo_page.proofs.NameLemmas.{Tell, TellHere, Tells, bare_tell, from_here, then_tell, unlinked_tell}
+use Rattle.redo_page.proofs.OpeningLemmas.{AreNamed, contents_named, nodes_placed, same_placed, target_named, timed_node, trim_named, trim_placed}
+use Rattle.redo_page.proofs.TreeNames.{event_name, tree_tells}
+use Rattle.redo_page.specs.Frame.{head_parts, header_parts, footer_parts}
+use Rattle.redo_page.specs.declared.verdict.Verdict.{Verdict}
+use Rattle.redo_summary.specs.Summary.{Facts}
+use Rattle.redo_summary.specs.Targets.{duration_of, times_of}
+use Rattle.redo_times.specs.declared.times.Times.{Times}
+
+-- ---- nodes
+
+took_is : (times : List Times) (number : ℕ) → (times_at (map run_times times) number).took ≡ duration_of times number
+took_is [] number = refl
+took_is (one ∷ times) zero = refl
+took_is (one ∷ times) (suc number) = took_is times number
+
+ended_is : (times : List Times) (number : ℕ) → (times_at (map run_times times) number).ended ≡ (times_of times number).ended
+ended_is [] number = refl
+ended_is (one ∷ times) zero = refl
+ended_is (one ∷ times) (suc number) = ended_is times number
+
+module _ (logs : List Log) (events : List Event) (times : List Times) where
+  abbrev Of : List Node → Type 0
+  Of nodes = AllByRecursion (IsOfTarget logs events times) nodes
+
+  both_of : (nodes others : List Node) → Of nodes → Of others → Of (nodes ++ others)
+  both_of [] others first last = last
+  both_of (node ∷ nodes) others first last = (first.0, both_of nodes others first.1 last)
+
+  nodes_are : (parent : Option ℕ) (position : ℕ) (contents : Contents) → AreNamed logs contents
+      → Of (map (with_times (map run_times times)) (nodes_of logs (target_status logs events) parent position contents))
+  nodes_are parent position Nothing named = tt
+  nodes_are parent position (Shown event rest) named = nodes_are parent position rest named.1
+  nodes_are parent position (Opened event number inside rest) named =
+      let inner = nodes_of logs (target_status logs events) (Some position) (suc position) inside in
+      let others = nodes_of logs (target_status logs events) parent (suc position + log_count inside) rest in
+      let name = event_name logs event number named.0 named.1 in (
+        record {
+          log = ap (λ (n : List ℕ). log_number n logs) (target_named logs name.0 number name.1) ∙ name.1;
+          status = refl;
+          took = took_is times number;
+          ended = ended_is times number;
+        },
+        subst Of (sym (map-append (with_times (map run_times times)) inner others))
+            (both_of (map (with_times (map run_times times)) inner) (map (with_times (map run_times times)) others)
+            (nodes_are (Some position) (suc position) inside named.2)
+            (nodes_are parent (suc position + log_count inside) rest named.3)),
+      )
+
+-- ---- parts
+
+top_tells : (title : List ℕ) (logs : List Log) (verdict : Verdict) (title_is heading : List ℕ) (nodes : List Node) (facts : Facts)
+    → Tells logs nodes (top_parts_of title logs verdict title_is heading nodes facts)
+unfolding top_parts_of
+top_tells title logs verdict title_is heading nodes facts =
+    then_tell logs nodes (bare_tell logs nodes (head_parts title_is verdict) (head_bare title_is verdict))
+    (then_tell logs nodes
+    (unlinked_tell logs nodes (header_parts title logs verdict heading nodes facts)
+    (header_refers title logs verdict heading nodes facts))
+    (then_tell logs nodes (failed_tells logs nodes) (summary_tells logs nodes facts)))
+
+module _ (request : Request) (logs : List Log) (requested : List (List ℕ)) where
+  abbrev nodes : List Node
+  nodes = page_outline request logs requested
+
+  abbrev facts : Facts
+  facts = page_facts request logs requested
+
+  abbrev events : List Event
+  events = page_events request logs requested
+
+  abbrev shown : Contents
+  shown = contents_of events
+
+  named : AreNamed logs shown
+  named = contents_named logs (options_of request) requested
+
+  pub page_targets : AllByRecursion (IsOfTarget logs events request.times) nodes
+  page_targets = nodes_are logs events request.times None 0 shown named
+
+  page_tells : Tells logs nodes (page_parts request logs requested)
+  unfolding page_parts
+  page_tells =
+      let limits = tree_limits logs (options_of request) nodes request.max_bytes in
+      let placed = same_placed (outline_of logs events) nodes (timed_node (map run_times request.times) (outline_of logs events)) 0 shown
+      (nodes_placed logs (target_status logs events) None 0 shown [] [] (outline_of logs events) refl
+      (append-nil (outline_of logs events))) in
+      then_tell logs nodes
+      (top_tells request.title logs (verdict_of nodes) (title_text request.title (verdict_of nodes) (heading_of nodes)) (heading_of nodes)
+      nodes facts)
+      (then_tell logs nodes
+      (then_tell logs nodes (timeline_tells logs nodes facts)
+      (tree_tells logs (options_of request) nodes (page_contents request logs requested) (trim_named limits logs [] shown named)
+      (trim_placed limits nodes [] 0 shown placed)))
+      (bare_tell logs nodes (footer_parts request.dir (command request.dir (options_of request) requested) (length nodes))
+      (footer_bare request.dir (command request.dir (options_of request) requested) (length nodes))))
+
+  all_tell : Tell logs nodes (page_parts request logs requested)
+  all_tell = subst (Tell logs nodes) (append-nil (page_parts request logs requested)) (page_tells.before [] tt)
+
+  pub page_names : (before : List Part) (tag : Markup) (after : List Part)
+      → before ++ (MarkupPart tag ∷ after) ≡ page_parts request logs requested → TellsItsTarget logs nodes tag after
+  page_names before tag after is =
+      from_here (TellHere logs nodes) before (MarkupPart tag) after (subst (Tell logs nodes) (sym is) all_tell)
