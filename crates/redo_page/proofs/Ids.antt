@@ -71,7 +71,7 @@ in_references f each (part ∷ parts) =
     ap (λ t. t ++ flat_map f parts) (sym (each part)) ∙ ap (λ t. flat_map f (reference part) ++ t) (in_references f each parts)
     ∙ sym (flat_map-append f (reference part) (references parts))
 
-target_id_part : (part : Part) → flat_map target_id (reference part) ≡ target_id part
+pub target_id_part : (part : Part) → flat_map target_id (reference part) ≡ target_id part
 target_id_part (MarkupPart markup) = by markup
   where
     by : (markup : Markup) → flat_map target_id (reference (MarkupPart markup)) ≡ target_id (MarkupPart markup)

@@ -1,6 +1,7 @@
 mod ArticleLemmas
 mod CauseLemmas
 mod CauseRows
+mod ElementLemmas
 mod ErrorLemmas
 mod ErrorRows
 mod ExcerptLemmas

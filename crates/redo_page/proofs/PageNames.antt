@@ -20,7 +20,7 @@ use Rattle.redo_page.specs.Verdict.{title_text, verdict_of}
 use Rattle.redo_page.proofs.FailedNames.{failed_tells, summary_tells, timeline_tells}
 use Rattle.redo_page.proofs.FrameIds.{footer_bare, head_bare, header_refers}
 use Rattle.redo_page.proofs.NameLemmas.{Tell, TellHere, Tells, bare_tell, from_here, then_tell, unlinked_tell}
-use Rattle.redo_page.proofs.OpeningLemmas.{AreNamed, contents_named, nodes_placed, same_placed, target_named, timed_node, trim_named, trim_placed}
+use Rattle.redo_page.proofs.OpeningLemmas.{AreNamed, ArePlaced, contents_named, nodes_placed, same_placed, target_named, timed_node, trim_named, trim_placed}
 use Rattle.redo_page.proofs.TreeNames.{event_name, tree_tells}
 use Rattle.redo_page.specs.Frame.{head_parts, header_parts, footer_parts}
 use Rattle.redo_page.specs.declared.verdict.Verdict.{Verdict}
@@ -99,20 +99,24 @@ module _ (request : Request) (logs : List Log) (requested : List (List ℕ)) whe
   pub page_targets : AllByRecursion (IsOfTarget logs events request.times) nodes
   page_targets = nodes_are logs events request.times None 0 shown named
 
+  pub page_placed : ArePlaced nodes 0 (page_contents request logs requested)
+  page_placed =
+      trim_placed (tree_limits logs (options_of request) nodes request.max_bytes) nodes [] 0 shown
+      (same_placed (outline_of logs events) nodes (timed_node (map run_times request.times) (outline_of logs events)) 0 shown
+      (nodes_placed logs (target_status logs events) None 0 shown [] [] (outline_of logs events) refl
+      (append-nil (outline_of logs events))))
+
   page_tells : Tells logs nodes (page_parts request logs requested)
   unfolding page_parts
   page_tells =
       let limits = tree_limits logs (options_of request) nodes request.max_bytes in
-      let placed = same_placed (outline_of logs events) nodes (timed_node (map run_times request.times) (outline_of logs events)) 0 shown
-      (nodes_placed logs (target_status logs events) None 0 shown [] [] (outline_of logs events) refl
-      (append-nil (outline_of logs events))) in
       then_tell logs nodes
       (top_tells request.title logs (verdict_of nodes) (title_text request.title (verdict_of nodes) (heading_of nodes)) (heading_of nodes)
       nodes facts)
       (then_tell logs nodes
       (then_tell logs nodes (timeline_tells logs nodes facts)
       (tree_tells logs (options_of request) nodes (page_contents request logs requested) (trim_named limits logs [] shown named)
-      (trim_placed limits nodes [] 0 shown placed)))
+      page_placed))
       (bare_tell logs nodes (footer_parts request.dir (command request.dir (options_of request) requested) (length nodes))
       (footer_bare request.dir (command request.dir (options_of request) requested) (length nodes))))
 

@@ -71,7 +71,7 @@ line_start_bare (pending.Text block) size = by (fits block size)
 group_bare : (size : ℕ) → Bare (group_parts size)
 group_bare size = bare_if (not (size == 0)) _ refl
 
-group_end_bare : (left : ℕ) → Bare (group_end left)
+pub group_end_bare : (left : ℕ) → Bare (group_end left)
 group_end_bare left = bare_if (left == 1) nested_end refl
 
 pub note_bare : (kind text : List ℕ) → Bare (note_parts kind text)
@@ -105,7 +105,7 @@ module _ (build : Build) where
   opening_below (OpenedBefore number) = position_below build.nodes number
   opening_below (OpensHere number) = position_below build.nodes number
 
-  abbrev InTree : List Part → List ℕ → Type 0
+  abbrev pub InTree : List Part → List ℕ → Type 0
   InTree parts targets = Refer (length build.nodes) build.articles parts targets []
 
   item_refers : (before : Pending) (seen : Bool) {parts : List Part} → InTree parts [] → InTree (item_parts before seen parts) []
@@ -126,7 +126,7 @@ module _ (build : Build) where
   line_refers before line = then_refer (bare_refers (line_start before (line_size line)) (line_start_bare before (line_size line)))
       (record { target_ids_are = refl; article_ids_are = refl; target_links_lead = refl; article_links_lead = refl; sections_are = refl })
 
-  shown_refers : (level : Level) (before : Pending) (event : Event) → InTree (shown_parts build level before event) []
+  pub shown_refers : (level : Level) (before : Pending) (event : Event) → InTree (shown_parts build level before event) []
   shown_refers level before (Requested name opening) = item_refers before true (bare_refers (request_parts name) refl)
   shown_refers level before (Mentioned depth pid how name opening) = item_refers before true (mention_refers how name opening)
   shown_refers level before (EntryShown depth (Text line)) = by (is_moved_if build level.position)
@@ -152,7 +152,7 @@ module _ (build : Build) where
   heading_bare (EntryShown depth entry) position = refl
   heading_bare (LogEnds depth) position = refl
 
-  moved_refers : (position : ℕ) → InTree (moved_parts build position) []
+  pub moved_refers : (position : ℕ) → InTree (moved_parts build position) []
   moved_refers position = by (has_article build position) (is_short (node_at build.nodes position)) refl
     where
       by : (has short : Bool) → has_article build position ≡ has

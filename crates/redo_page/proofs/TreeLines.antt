@@ -47,7 +47,7 @@ same_text parts others same = same_found log_text log_text_part parts others sam
 abbrev Quiet : List Part → Type 0
 Quiet parts = log_bytes parts ≡ []
 
-bare_quiet : (parts : List Part) → Bare parts → Quiet parts
+pub bare_quiet : (parts : List Part) → Bare parts → Quiet parts
 bare_quiet parts bare = same_text parts [] bare
 
 both_quiet : (parts others : List Part) → Quiet parts → Quiet others → Quiet (parts ++ others)
@@ -107,7 +107,7 @@ module _ (build : Build) where
 
   -- ---- logs
 
-  moved_quiet : (position : ℕ) → Quiet (moved_parts build position)
+  pub moved_quiet : (position : ℕ) → Quiet (moved_parts build position)
   moved_quiet position = quiet_if (is_moved build position) _ refl
 
   details_quiet : (expanded : Bool) (position : ℕ) (others : List Part) → Quiet others
@@ -151,7 +151,7 @@ module _ (build : Build) where
       (unmoved_lines build others)) ∙ flat_map-append with_line_feed (texts_of (unmoved_lines build lines))
       (texts_of (unmoved_lines build others))
 
-  contents_text : (level : Level) (position : ℕ) (before : Pending) (contents : Contents)
+  pub contents_text : (level : Level) (position : ℕ) (before : Pending) (contents : Contents)
       → log_bytes (contents_parts build level position before contents)
       ≡ positioned_bytes (unmoved_lines build (positioned_lines level.position position contents))
   contents_text level position before Nothing = bare_quiet (end_parts before) (end_bare before)

@@ -150,14 +150,14 @@ module _ (build : Build) where
 
   -- ---- logs
 
-  heading_nests : (event : Event) (position : ℕ) → Nest (heading_parts build event position)
+  pub heading_nests : (event : Event) (position : ℕ) → Nest (heading_parts build event position)
   heading_nests (Requested name opening) position = then_lead (name_nests name) (facts_nest (node_at build.nodes position))
   heading_nests (Mentioned depth pid how name opening) position =
       then_lead (name_nests name) (then_lead (how_nests build.options.debug_locks how) (facts_nest (node_at build.nodes position)))
   heading_nests (EntryShown depth entry) position = record { leads = λ around tags. refl }
   heading_nests (LogEnds depth) position = record { leads = λ around tags. refl }
 
-  moved_nests : (position : ℕ) → Nest (moved_parts build position)
+  pub moved_nests : (position : ℕ) → Nest (moved_parts build position)
   moved_nests position = nest_if (is_moved build position) (record { leads = λ around tags. refl })
 
   -- The elements around what a log contains.
@@ -246,7 +246,7 @@ module _ (build : Build) where
   shown_open level before (EntryShown depth (Note pid kind text)) is = tt
   shown_open level before (LogEnds depth) is = is
 
-  contents_lead : (level : Level) (position : ℕ) (before : Pending) (contents : Contents) → IsOpen before
+  pub contents_lead : (level : Level) (position : ℕ) (before : Pending) (contents : Contents) → IsOpen before
       → Leads (open_names before) (contents_parts build level position before contents) []
   contents_lead level position before Nothing is = end_leads before
   contents_lead level position before (Shown event rest) is =

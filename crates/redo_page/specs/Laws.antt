@@ -1,5 +1,5 @@
 -- What the laws state.
-use Rattle.std.specs.Prelude.{◌≡◌, ◌⊎◌, ℕ, zero, suc, ◌+◌, ◌<◌, ◌==◌, ◌||◌, Bool, true, not, List, [], ◌∷◌, ◌++◌, map, Option, None, Some, codes, false, nat_eq, take}
+use Rattle.std.specs.Prelude.{◌≡◌, ◌⊎◌, ℕ, zero, suc, ◌+◌, ◌<◌, ◌==◌, ◌||◌, ◌&&◌, nat_le, Bool, true, not, List, [], ◌∷◌, ◌++◌, map, Option, None, Some, codes, false, nat_eq, take}
 use Rattle.std.specs.List.{AllByRecursion, filter, flat_map, list_any, starts_with}
 use Rattle.redo_line.specs.declared.entry.Entry.TheVariants.{Text, Done, Note}
 use Rattle.redo_line.specs.declared.entry.How.{How}
@@ -300,6 +300,28 @@ pub record IsPartOf (inner whole : List Part) : Type 0 where
   pub before : List Part
   pub after : List Part
   pub splits : before ++ (inner ++ after) ≡ whole
+
+-- ---- elements of logs
+
+abbrev pub is_between : ℕ → ℕ → Option ℕ → Bool
+is_between lowest highest None = false
+is_between lowest highest (Some position) = nat_le lowest position && nat_le position highest
+
+-- Whether a line is in the log at a position, or in one of the `below` logs below it. These have the next positions.
+abbrev pub is_within : ℕ → ℕ → PositionedLine → Bool
+is_within position below positioned = is_between position (position + below) positioned.position
+
+module _ (build : Build) (lines : List PositionedLine) where
+  -- Of these lines, parts show those of the log at a position and of the logs below it, and no others.
+  abbrev pub ShowsLinesFrom : ℕ → List Part → Type 0
+  ShowsLinesFrom position parts =
+      log_bytes parts ≡ positioned_bytes (unmoved_lines build (filter (is_within position (node_at build.nodes position).below) lines))
+
+  -- If the element of a log begins with this tag, it contains the lines of this log.
+  abbrev pub ShowsItsLines : Markup → List Part → Type 0
+  ShowsItsLines (Details position) inside = ShowsLinesFrom position inside
+  ShowsItsLines (OpenDetails position) inside = ShowsLinesFrom position inside
+  ShowsItsLines tag inside = Unit {0}
 
 -- ---- tags
 

@@ -4,6 +4,8 @@ ghost use Rattle.std.specs.List.{All, AllByRecursion, IsDistinct, flat_map, list
 ghost use Rattle.std.specs.List.Sorted.{IsPermutation};
 ghost use Rattle.redo_html.specs.Html.{nests_in, read, tags_of, text_of};
 ghost use Rattle.redo_html.specs.declared.markup.Markup.{Markup};
+ghost use Rattle.redo_html.specs.declared.markup.Markup.TheVariants.{EndDetails};
+ghost use Rattle.redo_html.specs.Laws.{markup_tag};
 ghost use Rattle.redo_html.specs.Parts.{Part, part_text, part_tokens};
 ghost use Rattle.redo_html.specs.Parts.Part.{MarkupPart};
 ghost use Rattle.redo_logs.specs.Logs.{Log};
@@ -11,7 +13,7 @@ ghost use Rattle.redo_options.specs.declared.options.Options.{Options};
 ghost use Rattle.redo_view.specs.View.{find_unknown};
 ghost use Rattle.redo_outline.specs.declared.node.Node.{Node};
 ghost use Rattle.redo_outline.specs.Contents.{Contents};
-ghost use Rattle.redo_page.specs.Laws.{AreInOrderOfEnd, ContainRoots, HaveSameLogs, IsOfTarget, IsOwnTag, IsPartOf, IsRed, TellsItsTarget, article_ids, article_links, blanked, event_lines, is_among, kept_lines, lines_at, log_bytes, markups, numbers_from, page_article, page_chart, page_lines, page_tree, positioned_bytes, section_ids, section_links, target_ids, target_links, texts_of, unmoved_lines, charts, ChartDraws, HasTimeline, first, page_limit, says_failed, shows_failure, title_in};
+ghost use Rattle.redo_page.specs.Laws.{AreInOrderOfEnd, ContainRoots, HaveSameLogs, IsOfTarget, IsOwnTag, IsPartOf, IsRed, ShowsItsLines, TellsItsTarget, article_ids, article_links, blanked, event_lines, is_among, kept_lines, lines_at, log_bytes, markups, numbers_from, page_article, page_chart, page_lines, page_tree, positioned_bytes, section_ids, section_links, target_ids, target_links, texts_of, unmoved_lines, charts, ChartDraws, HasTimeline, first, page_limit, says_failed, shows_failure, title_in};
 ghost use Rattle.redo_page.specs.Failed.{is_dependent_failure, positions_where};
 ghost use Rattle.redo_page.specs.Limits.{bytes_shown, highest_cap};
 ghost use Rattle.redo_page.specs.Page.{Request, page_build, page_events, page_facts, page_html, page_outline, page_parts};
@@ -114,7 +116,8 @@ pub fn failures_are_listed()
 /// The contents of a page have the text lines of the events, each once and in order, if each requested target has a log. The tree shows
 /// those that are left of long logs, in order, except the lines of logs whose output is in an article. Such an article shows exactly the
 /// lines of its log. Nothing is left out if the number of bytes isn't limited, or if all logs together don't have more bytes. Otherwise,
-/// the head and the tail of each log are left, as the limit of this log says.
+/// the head and the tail of each log are left, as the limit of this log says. Between the tags of a log's element are exactly its lines and
+/// those of the logs below it.
 pub fn lines_are_shown()
     ensures complete { (request : Request) (logs : List Log) (requested : List (List ℕ)) → find_unknown logs requested ≡ None →
         texts_of (page_lines request logs requested) ≡ flat_map event_lines (page_events request logs requested) }
@@ -132,6 +135,11 @@ pub fn lines_are_shown()
         ≡ head_and_tail (page_limit request logs requested position) (texts_of (lines_at position (page_lines request logs requested))) }
     ensures has_tree { (request : Request) (logs : List Log) (requested : List (List ℕ)) →
         IsPartOf (page_tree request logs requested) (page_parts request logs requested) }
+    ensures inside { (request : Request) (logs : List Log) (requested : List (List ℕ)) →
+        (before : List Part) (tag : Markup) (inside after : List Part) →
+        before ++ (MarkupPart tag ∷ (inside ++ (MarkupPart EndDetails ∷ after))) ≡ page_tree request logs requested →
+        nests_in [] (flat_map markup_tag inside) ≡ true →
+        ShowsItsLines (page_build request logs requested) (kept_lines request logs requested) tag inside }
     ensures articles { (request : Request) (logs : List Log) (requested : List (List ℕ)) → find_unknown logs requested ≡ None →
         (position : ℕ) → is_moved (page_build request logs requested) position ≡ true →
         log_bytes (page_article request logs requested position)

@@ -22,6 +22,8 @@ use Rattle.redo_view.specs.Event.{Event}
 use Rattle.redo_page.proofs.KeptLines.{bytes_small, fitting_limits, limits_fit, lines_left, nodes_small}
 use Rattle.redo_page.proofs.PageIds.{outline_counted}
 use Rattle.redo_page.proofs.FailedIds.{articles_below}
+use Rattle.redo_page.proofs.ElementLemmas.{tree_shows}
+use Rattle.redo_page.proofs.PageNames.{page_placed}
 use Rattle.redo_page.proofs.TreeLines.{tree_text}
 use Rattle.redo_page.proofs.FailedLines.{article_text}
 use Rattle.redo_page.proofs.PagePartLemmas.{page_has_tree, page_has_article}
@@ -66,6 +68,11 @@ moved_text request logs requested shown position moved =
 pub returns-clause-articles : goal.returns-clause-articles
 returns-clause-articles c = λ request logs requested known position moved.
     moved_text request logs requested (c.logs_show_their_lines.ensures logs (options_of request) requested known) position moved
+
+pub returns-clause-inside : goal.returns-clause-inside
+returns-clause-inside c = λ request logs requested.
+    tree_shows logs (options_of request) (page_outline request logs requested) (page_contents request logs requested)
+    (page_placed request logs requested)
 
 pub returns-clause-has_tree : goal.returns-clause-has_tree
 returns-clause-has_tree c = page_has_tree
