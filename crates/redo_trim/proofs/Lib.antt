@@ -1,3 +1,4 @@
+mod BoundLemmas
 pub mod FormLemmas
 mod GaugeLemmas
 mod LawLemmas

@@ -1,8 +1,9 @@
 //! Laws about the definitions alone: their contracts are theorems, and their bodies are empty.
-ghost use Rattle.std.specs.Prelude.{◌≡◌, ◌++◌, ◌∷◌, [], ℕ, List};
+ghost use Rattle.std.specs.Prelude.{◌≡◌, ◌≤◌, ◌+◌, ◌-◌, ◌++◌, ◌∷◌, [], ℕ, List};
 ghost use Rattle.redo_view.specs.Event.{Event};
 ghost use Rattle.redo_view.specs.Form.{bytes_of, state_after, text_events};
 ghost use Rattle.redo_outline.specs.Contents.{Contents};
+ghost use Rattle.redo_outline.specs.Facts.{text_size};
 ghost use Rattle.redo_trim.specs.declared.limit.Gauge.{Gauge};
 ghost use Rattle.redo_trim.specs.declared.limit.Limit.{Limit};
 ghost use Rattle.redo_trim.specs.declared.trimmed.Trimmed.{Trimmed};
@@ -37,7 +38,8 @@ pub fn unlimited_logs_are_whole()
 {}
 
 /// Of a log, only lines in the middle are left out: its head and its tail are kept, unchanged and in order. One marker is shown
-/// between them, if any line is left out.
+/// between them, if any line is left out. At most as many bytes are kept as the head may have, and as there are at the limit's `tail` and
+/// after it.
 pub fn head_and_tail_are_kept()
     ensures parts { (limit : Limit) (lines : List (List ℕ)) →
         lines ≡ head_lines limit.head lines ++ (left_out limit lines ++ tail_lines limit lines) }
@@ -46,6 +48,8 @@ pub fn head_and_tail_are_kept()
         trimmed limits (gauge_of limits number ∷ outer) (text_events depth lines) ≡ marked_lines depth (limit_of limits number) lines }
     ensures kept { (limits : List Limit) (number : ℕ) (contents : Contents) (outer : List Gauge) → FitsInto64Bits (limit_of limits number) →
         lines_in (trim limits (gauge_of limits number ∷ outer) contents) ≡ head_and_tail (limit_of limits number) (lines_in contents) }
+    ensures bounded { (limit : Limit) (lines : List (List ℕ)) →
+        text_size (head_and_tail limit lines) ≤ limit.head + (text_size lines - limit.tail) }
 {}
 
 /// What the adapter writes for events is what its form writes for what is shown of them. So it is with the form's state.
