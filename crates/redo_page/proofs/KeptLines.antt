@@ -90,14 +90,14 @@ module _ (logs : List Log) (limits : List Limit)
     → lines_in (trim limits (gauge_of limits number ∷ outer) contents) ≡ head_and_tail (limit_of limits number) (lines_in contents))
     (fit : (number : ℕ) → FitsInto64Bits (limit_of limits number)) where
   -- What is left of a log.
-  abbrev left_of : ℕ → List (List ℕ)
+  abbrev pub left_of : ℕ → List (List ℕ)
   left_of number = head_and_tail (limit_of limits number) (lines_of_log number logs)
 
   shown_have : (events : List Event) (rest : Contents) → Have left_of rest → Have left_of (with_shown_all events rest)
   shown_have [] rest have = have
   shown_have (event ∷ events) rest have = shown_have events rest have
 
-  trimmed_have : (gauges : List Gauge) (contents : Contents) → HaveLines logs contents → Have left_of (trim limits gauges contents)
+  pub trimmed_have : (gauges : List Gauge) (contents : Contents) → HaveLines logs contents → Have left_of (trim limits gauges contents)
   trimmed_have gauges Nothing have = tt
   trimmed_have gauges (Shown event rest) have =
       shown_have (kept gauges event) (trim limits (after_shown event gauges) rest) (trimmed_have (after_shown event gauges) rest have)

@@ -1,4 +1,5 @@
 mod ArticleLemmas
+mod BudgetLemmas
 mod CauseLemmas
 mod CauseRows
 mod ElementLemmas

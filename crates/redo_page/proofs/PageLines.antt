@@ -158,6 +158,16 @@ events_left : (logs : List Log) (events : List Event) → Later logs events
 events_left logs [] left is = subst (λ (l : LinesLeft). AreLeft logs l (Nothing ∷ [])) (sym (same_Some left [] is)) (refl, tt)
 events_left logs (event ∷ events) left is = event_left logs event events (events_left logs events) left is
 
+-- The whole shows no lines directly.
+pub whole_has_none : (logs : List Log) (events : List Event) → lines_left_after logs [] events ≡ Some []
+    → direct_lines (innermost (contents_from events)) ≡ []
+whole_has_none logs events is = by (contents_from events) (events_left logs events [] is)
+  where
+    by : (contents : List Contents) → AreLeft logs [] contents → direct_lines (innermost contents) ≡ []
+    by [] are = absurd are
+    by (whole ∷ []) are = are.0
+    by (whole ∷ next ∷ outer) are = absurd are
+
 pub contents_have_lines : (logs : List Log) (events : List Event) → lines_left_after logs [] events ≡ Some []
     → HaveLines logs (innermost (contents_from events))
 contents_have_lines logs events is = by (contents_from events) (events_left logs events [] is)
@@ -336,7 +346,7 @@ entry_texts (Done pid status name ∷ entries) = entry_texts entries
 entry_texts (Closing pid status ∷ entries) = entry_texts entries
 entry_texts (Note pid kind text ∷ entries) = entry_texts entries
 
-printed_lines : (number : ℕ) (logs : List Log) → facts.texts_of (entries_at number logs) ≡ lines_of_log number logs
+pub printed_lines : (number : ℕ) (logs : List Log) → facts.texts_of (entries_at number logs) ≡ lines_of_log number logs
 printed_lines number [] = refl
 printed_lines zero (log ∷ logs) = entry_texts log.entries
 printed_lines (suc number) (log ∷ logs) = printed_lines number logs

@@ -143,7 +143,7 @@ module _ (build : Build) where
   abbrev outside : PositionedLine → Bool
   outside positioned = not (is_moved_if build positioned.position)
 
-  bytes-append : (lines others : List PositionedLine)
+  pub bytes-append : (lines others : List PositionedLine)
       → positioned_bytes (unmoved_lines build (lines ++ others))
       ≡ positioned_bytes (unmoved_lines build lines) ++ positioned_bytes (unmoved_lines build others)
   bytes-append lines others = ap positioned_bytes (filter-append outside lines others)

@@ -1,11 +1,12 @@
 -- What the laws state.
-use Rattle.std.specs.Prelude.{◌≡◌, ◌⊎◌, ℕ, zero, suc, ◌+◌, ◌<◌, ◌==◌, ◌||◌, ◌&&◌, nat_le, Bool, true, not, List, [], ◌∷◌, ◌++◌, map, Option, None, Some, codes, false, nat_eq, take}
+use Rattle.std.specs.Prelude.{◌≡◌, ◌⊎◌, ℕ, zero, suc, ◌+◌, ◌*◌, ◌^◌, ◌<◌, ◌==◌, ◌||◌, ◌&&◌, nat_le, max, length, Bool, true, not, List, [], ◌∷◌, ◌++◌, map, Option, None, Some, codes, false, nat_eq, take}
 use Rattle.std.specs.List.{AllByRecursion, filter, flat_map, list_any, starts_with}
 use Rattle.redo_line.specs.declared.entry.Entry.TheVariants.{Text, Done, Note}
 use Rattle.redo_line.specs.declared.entry.How.{How}
 use Rattle.redo_line.specs.Lines.{with_line_feed}
 use Rattle.redo_logs.specs.Logs.{Log, log_number}
 use Rattle.redo_view.specs.Event.{Event}
+use Rattle.redo_view.specs.LogLines.{text_lines}
 use Rattle.redo_view.specs.Event.Event.{Requested, Mentioned, EntryShown}
 use Rattle.redo_html.specs.declared.markup.Markup.{Markup}
 use Rattle.redo_html.specs.declared.markup.Markup.TheVariants.{BodyBad, BodyGood, BodyOpen, FailedSection, SummarySection, TimelineSection, TreeSection, FailedLink, SummaryLink, TimelineLink, TreeLink, TargetLink, EndLink, OutputLink, Article, TargetItem, Details, OpenDetails, Summary, Title3, EndTitle3, MetaParagraph}
@@ -19,7 +20,7 @@ use Rattle.redo_html.specs.Tags.{markup_text}
 use Rattle.redo_outline.specs.declared.node.Node.{Node}
 use Rattle.redo_outline.specs.Contents.{Contents, contents_of}
 use Rattle.redo_outline.specs.Contents.Contents.{Nothing, Shown, Opened}
-use Rattle.redo_outline.specs.Facts.{target_at, target_status}
+use Rattle.redo_outline.specs.Facts.{target_at, target_status, text_size}
 use Rattle.redo_outline.specs.Outline.{log_count}
 use Rattle.redo_page.specs.declared.labels.TheConstants.{IN_ITS_LOG, PLACE_IN_TREE, SHOWN_ABOVE}
 use Rattle.redo_page.specs.Failed.{article_parts, article_took, is_dependent_failure}
@@ -256,6 +257,10 @@ texts_of lines = map (λ (positioned : PositionedLine). positioned.line) lines
 abbrev pub positioned_bytes : List PositionedLine → List ℕ
 positioned_bytes lines = flat_map with_line_feed (texts_of lines)
 
+-- No log has as many as 2^64 bytes of text lines.
+abbrev pub AreCountable : List Log → Type 0
+AreCountable logs = AllByRecursion (λ (log : Log). text_size (text_lines log.entries) < 2 ^ 64) logs
+
 -- The lines of the log at a position.
 abbrev pub lines_at : ℕ → List PositionedLine → List PositionedLine
 lines_at position lines = filter (λ (positioned : PositionedLine). is_same_position positioned.position (Some position)) lines
@@ -271,6 +276,10 @@ module _ (request : Request) (logs : List Log) (requested : List (List ℕ)) whe
   -- Those that are left in the tree.
   abbrev pub kept_lines : List PositionedLine
   kept_lines = positioned_lines None 0 (page_contents request logs requested)
+
+  -- The largest number of bytes that the tree shows: the limit that was asked for, but at least 4,096 bytes for each log.
+  abbrev pub budget_of_tree : ℕ
+  budget_of_tree = max request.max_bytes (4096 * length (page_outline request logs requested))
 
   -- The limit of the log at a position.
   abbrev pub page_limit : ℕ → Limit

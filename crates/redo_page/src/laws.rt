@@ -13,7 +13,7 @@ ghost use Rattle.redo_options.specs.declared.options.Options.{Options};
 ghost use Rattle.redo_view.specs.View.{find_unknown};
 ghost use Rattle.redo_outline.specs.declared.node.Node.{Node};
 ghost use Rattle.redo_outline.specs.Contents.{Contents};
-ghost use Rattle.redo_page.specs.Laws.{AreInOrderOfEnd, ContainRoots, HaveSameLogs, IsOfTarget, IsOwnTag, IsPartOf, IsRed, ShowsItsLines, TellsItsTarget, article_ids, article_links, blanked, event_lines, is_among, kept_lines, lines_at, log_bytes, markups, numbers_from, page_article, page_chart, page_lines, page_tree, positioned_bytes, section_ids, section_links, target_ids, target_links, texts_of, unmoved_lines, charts, ChartDraws, HasTimeline, first, page_limit, says_failed, shows_failure, title_in};
+ghost use Rattle.redo_page.specs.Laws.{AreInOrderOfEnd, ContainRoots, HaveSameLogs, IsOfTarget, IsOwnTag, IsPartOf, IsRed, ShowsItsLines, AreCountable, budget_of_tree, TellsItsTarget, article_ids, article_links, blanked, event_lines, is_among, kept_lines, lines_at, log_bytes, markups, numbers_from, page_article, page_chart, page_lines, page_tree, positioned_bytes, section_ids, section_links, target_ids, target_links, texts_of, unmoved_lines, charts, ChartDraws, HasTimeline, first, page_limit, says_failed, shows_failure, title_in};
 ghost use Rattle.redo_page.specs.Failed.{is_dependent_failure, positions_where};
 ghost use Rattle.redo_page.specs.Limits.{bytes_shown, highest_cap};
 ghost use Rattle.redo_page.specs.Page.{Request, page_build, page_events, page_facts, page_html, page_outline, page_parts};
@@ -36,7 +36,7 @@ use redo_summary::{
     positions_are_of_nodes, spans_are_callers_or_recipes, window_is_over_known_times,
 };
 use redo_trim::{head_and_tail_are_kept, trimmed_events_are_in_tree, unlimited_logs_are_whole};
-use redo_view::logs_show_their_lines;
+use redo_view::{each_log_once, logs_show_their_lines};
 
 /// A browser reads a page as its parts: each tag as itself, and everything else as text, in order.
 pub fn page_is_read()
@@ -117,7 +117,7 @@ pub fn failures_are_listed()
 /// those that are left of long logs, in order, except the lines of logs whose output is in an article. Such an article shows exactly the
 /// lines of its log. Nothing is left out if the number of bytes isn't limited, or if all logs together don't have more bytes. Otherwise,
 /// the head and the tail of each log are left, as the limit of this log says. Between the tags of a log's element are exactly its lines and
-/// those of the logs below it.
+/// those of the logs below it. The tree shows at most as many bytes as was asked for, or 4,096 of each log.
 pub fn lines_are_shown()
     ensures complete { (request : Request) (logs : List Log) (requested : List (List ℕ)) → find_unknown logs requested ≡ None →
         texts_of (page_lines request logs requested) ≡ flat_map event_lines (page_events request logs requested) }
@@ -133,6 +133,9 @@ pub fn lines_are_shown()
         find_unknown logs requested ≡ None → (position : ℕ) → position < length (page_outline request logs requested) →
         texts_of (lines_at position (kept_lines request logs requested))
         ≡ head_and_tail (page_limit request logs requested position) (texts_of (lines_at position (page_lines request logs requested))) }
+    ensures bounded { (request : Request) (logs : List Log) (requested : List (List ℕ)) → 0 < request.max_bytes →
+        request.max_bytes < 2 ^ 64 → AreCountable logs → find_unknown logs requested ≡ None →
+        length (log_bytes (page_tree request logs requested)) ≤ budget_of_tree request logs requested }
     ensures has_tree { (request : Request) (logs : List Log) (requested : List (List ℕ)) →
         IsPartOf (page_tree request logs requested) (page_parts request logs requested) }
     ensures inside { (request : Request) (logs : List Log) (requested : List (List ℕ)) →
@@ -150,6 +153,7 @@ pub fn lines_are_shown()
 {
     events_are_in_contents();
     logs_show_their_lines();
+    each_log_once();
     trimmed_events_are_in_tree();
     unlimited_logs_are_whole();
     head_and_tail_are_kept();

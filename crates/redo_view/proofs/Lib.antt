@@ -1,4 +1,5 @@
 mod Equation
+mod EventOpenings
 mod EventRows
 mod ExpansionRows
 mod FirstMention

@@ -1,5 +1,5 @@
 -- What the laws state about the expansion.
-use Rattle.std.specs.Prelude.{◌≡◌, ◌↔◌, ℕ, ◌+◌, true, false, ◌⊎◌, nat_eq, List, [], ◌∷◌, ◌++◌, Some, slice_get}
+use Rattle.std.specs.Prelude.{◌≡◌, ◌↔◌, ℕ, ◌+◌, true, false, ◌⊎◌, nat_eq, List, [], ◌∷◌, ◌++◌, None, Some, slice_get, if◌then◌else◌}
 use Rattle.std.specs.List.{IsDistinct, flat_map}
 use Rattle.std.specs.Cmp.Lexicographic.{pointwise}
 use Rattle.redo_line.specs.declared.entry.Entry.{Entry}
@@ -8,16 +8,23 @@ use Rattle.redo_line.specs.declared.entry.How.{How}
 use Rattle.redo_logs.specs.Logs.{Log, targets_of}
 use Rattle.redo_options.specs.declared.options.Options.{Options}
 use Rattle.redo_view.specs.declared.event.Opening.{Opening}
-use Rattle.redo_view.specs.Event.{Event}
-use Rattle.redo_view.specs.Event.Event.{Mentioned}
+use Rattle.redo_view.specs.Event.{Event, opens_here}
+use Rattle.redo_view.specs.Event.Event.{Requested, Mentioned}
 use Rattle.redo_view.specs.Expansion.{ShowLog, ViewState, is_among, append_event, entries_of_target, is_mention, show_mention_line, begin_log, end_log}
-use Rattle.redo_view.specs.Expansion.{mention_opening, request_event, show_entry, show_entries, show_log, expand}
+use Rattle.redo_view.specs.Expansion.{mention_opening, request_event, show_entry, show_entries, show_log, expand, shown_events}
+use Rattle.redo_view.specs.View.{find_unknown}
 use Rattle.redo_view.specs.Reachable.{mentioned_in, IsReachable}
 use Rattle.redo_view.specs.Text.{event_text, redo_line}
 
 -- The same state, with `before` shown before everything else.
 abbrev pub prepend_events : List Event → ViewState → ViewState
 prepend_events before state = record { named = state.named; opened = state.opened; events = before ++ state.events }
+
+-- The target of the log that an event opens.
+abbrev pub opened_name : Event → List (List ℕ)
+opened_name (Requested name opening) = if opens_here opening then name ∷ [] else []
+opened_name (Mentioned depth pid how name opening) = if opens_here opening then name ∷ [] else []
+opened_name event = []
 
 -- Whether the entries of each log's target are the entries of this log.
 abbrev pub HaveTheirEntries : List Log → Type 0
@@ -66,6 +73,10 @@ module _ (logs : List Log) (options : Options) where
   -- The targets whose logs are opened for the requested targets, in the order in which they are opened.
   abbrev pub opened_for : List (List ℕ) → List (List ℕ)
   opened_for requested = (expand logs options requested).opened
+
+  -- The events open these logs, in this order, if each requested target has a log.
+  abbrev pub AreOpenedByEvents : List (List ℕ) → Type 0
+  AreOpenedByEvents requested = find_unknown logs requested ≡ None → flat_map opened_name (shown_events logs options requested) ≡ opened_for requested
 
   -- No log is opened twice.
   abbrev pub HasNoDuplicates : List (List ℕ) → Type 0

@@ -7,7 +7,7 @@ ghost use Rattle.redo_line.specs.declared.entry.How.{How};
 ghost use Rattle.redo_logs.specs.Logs.{Log, targets_of};
 ghost use Rattle.redo_options.specs.declared.options.Options.{Options};
 ghost use Rattle.redo_view.specs.Expansion.{ShowLog, is_among, entries_of_target, show_log};
-ghost use Rattle.redo_view.specs.Laws.{SatisfiesEquation, IsUniqueSolution, LastEntryIsShownLast, PartsAreShownInOrder, IsAppendOnly, TextIsAppendOnly, HasNoDuplicates, OnlyReachable, AllReachable};
+ghost use Rattle.redo_view.specs.Laws.{SatisfiesEquation, IsUniqueSolution, LastEntryIsShownLast, PartsAreShownInOrder, AreOpenedByEvents, IsAppendOnly, TextIsAppendOnly, HasNoDuplicates, OnlyReachable, AllReachable};
 ghost use Rattle.redo_view.specs.Laws.{MentionedFirst, MentionedAgain, MentionedUnopened, RequestedFirst, RequestedAgain};
 ghost use Rattle.redo_view.specs.Laws.{HaveTheirEntries, NamedFirst, NamedAgain, NamedByEntries, NamedByLog, NamedFinally};
 ghost use Rattle.redo_view.specs.LogLines.{LogsShowTheirLines};
@@ -40,10 +40,12 @@ pub fn text_is_append_only()
     ensures text { (logs : List Log) (options : Options) → TextIsAppendOnly logs options (show_log logs options) }
 {}
 
-/// No log is opened twice. The opened logs are the logs of the requested targets and, with `recursive`, the logs to
-/// which a chain of mentions leads from one of these, and no others.
+/// No log is opened twice. Events open the logs, in order, if each requested target has a log. The opened logs are the
+/// logs of the requested targets and, with `recursive`, the logs to which a chain of mentions leads from one of these,
+/// and no others.
 pub fn each_log_once()
     ensures no_duplicates { (logs : List Log) (options : Options) (requested : List (List ℕ)) → HasNoDuplicates logs options requested }
+    ensures events { (logs : List Log) (options : Options) (requested : List (List ℕ)) → AreOpenedByEvents logs options requested }
     ensures only_reachable { (logs : List Log) (options : Options) (requested : List (List ℕ)) → OnlyReachable logs options requested }
     ensures all_reachable { (logs : List Log) (options : Options) (requested : List (List ℕ)) → AllReachable logs options requested }
 {}

@@ -1,7 +1,9 @@
 use Rattle.std.proofs.Common.{◌≡◌, ℕ, zero, suc, ◌<◌, true, List, [], ◌∷◌, None, Some, length, map, refl, ◌∙◌, ap, sym, subst}
 use Rattle.std.proofs.lemmas.List.{length-map}
 use Rattle.redo_outline.specs.Outline.{outline_of, with_times}
-use Rattle.std.specs.List.{flat_map}
+use Rattle.std.specs.Prelude.{nat_eq}
+use Rattle.std.specs.Cmp.Lexicographic.{pointwise}
+use Rattle.std.specs.List.{IsDistinct, flat_map}
 use Rattle.std.proofs.lemmas.Bool.{and_parts}
 use Rattle.redo_line.specs.Lines.{with_line_feed}
 use Rattle.redo_logs.specs.Logs.{Log}
@@ -19,7 +21,8 @@ use Rattle.redo_trim.specs.declared.limit.Limit.{Limit}
 use Rattle.redo_trim.specs.Laws.{head_and_tail}
 use Rattle.redo_trim.specs.Trim.{limit_of, trim}
 use Rattle.redo_view.specs.Event.{Event}
-use Rattle.redo_page.proofs.KeptLines.{bytes_small, fitting_limits, limits_fit, lines_left, nodes_small}
+use Rattle.redo_page.proofs.BudgetLemmas.{page_bytes}
+use Rattle.redo_page.proofs.KeptLines.{bytes_small, fitting_limits, limits_fit, lines_left, nodes_small, trimmed_have}
 use Rattle.redo_page.proofs.PageIds.{outline_counted}
 use Rattle.redo_page.proofs.FailedIds.{articles_below}
 use Rattle.redo_page.proofs.ElementLemmas.{tree_shows}
@@ -73,6 +76,24 @@ pub returns-clause-inside : goal.returns-clause-inside
 returns-clause-inside c = λ request logs requested.
     tree_shows logs (options_of request) (page_outline request logs requested) (page_contents request logs requested)
     (page_placed request logs requested)
+
+pub returns-clause-bounded : goal.returns-clause-bounded
+returns-clause-bounded c = λ request logs requested some small few known.
+    let events = page_events request logs requested in
+    let nodes = page_outline request logs requested in
+    let options = options_of request in
+    let limits = tree_limits logs options nodes request.max_bytes in
+    let left = c.logs_show_their_lines.ensures logs options requested known in
+    let fit = limits_fit logs options nodes request.max_bytes small
+    (bytes_small (map run_times request.times) (outline_of logs events)
+    (nodes_small logs (target_status logs events) None 0 (contents_of events))) in
+    page_bytes c.head_and_tail_are_kept.ensures.bounded request logs requested some few left
+    (subst (IsDistinct (pointwise nat_eq)) (sym (c.each_log_once.ensures.events logs options requested known))
+    (c.each_log_once.ensures.no_duplicates logs options requested))
+    (c.events_are_in_contents.ensures logs options requested known)
+    (trimmed_have logs limits (c.head_and_tail_are_kept.ensures.kept limits) fit [] (contents_of events)
+    (contents_have_lines logs events left))
+    (c.trimmed_events_are_in_tree.ensures.logs limits (contents_of events))
 
 pub returns-clause-has_tree : goal.returns-clause-has_tree
 returns-clause-has_tree c = page_has_tree
