@@ -1,9 +1,8 @@
 -- What the sections before the tree tell of targets.
 use Rattle.std.proofs.Common.{◌≡◌, ℕ, suc, Bool, true, false, List, [], ◌∷◌, ◌++◌, Option, None, Some, refl, ap}
-use Rattle.std.specs.Prelude.{◌==◌, drop, length, nat_lt, not, take, if◌then◌else◌}
+use Rattle.std.specs.Prelude.{◌==◌, ◌||◌, drop, length, nat_lt, not, take, if◌then◌else◌}
 use Rattle.std.specs.List.{flat_map, list_all}
 use Rattle.std.proofs.lemmas.Bool.{and_parts}
-use Rattle.std.proofs.lemmas.Grind.{flat_map-append}
 use Rattle.std.proofs.lemmas.List.{append_assoc}
 use Rattle.redo_logs.specs.Logs.{Log}
 use Rattle.redo_html.specs.declared.markup.Markup.{Markup}
@@ -15,30 +14,30 @@ use Rattle.redo_html.specs.Parts.Part.{ChartPart, MarkupPart, TextPart, NumberPa
 use Rattle.redo_html.specs.Style.{plain_style}
 use Rattle.redo_line.specs.Lines.{with_line_feed}
 use Rattle.redo_outline.specs.declared.node.Node.{Node}
+use Rattle.redo_outline.specs.Facts.{target_at}
 use Rattle.redo_page.specs.declared.labels.TheConstants.{COUNT_NOT_CLOSED, FAILED_WITH_THESE, IN_ITS_LOG, MORE_FAILED, MORE_LINE, MORE_LINES, PLACE_IN_TREE, WHAT_FAILED}
-use Rattle.redo_page.specs.declared.summary.TheConstants.{SECTION}
-use Rattle.redo_page.specs.declared.template.Around.TheVariants.{If, Each}
+use Rattle.redo_page.specs.declared.template.Around.TheVariants.{If, Unless, Each, EachTarget}
 use Rattle.redo_page.specs.declared.template.Item.{Item}
 use Rattle.redo_page.specs.declared.template.Item.TheVariants as item
+use Rattle.redo_page.specs.declared.timeline.TheConstants.{START, END}
 use Rattle.redo_page.specs.Errors.{cause_of}
 use Rattle.redo_page.specs.Excerpt.{Stretch, error_position, excerpt_line_parts, excerpt_parts, in_tree_parts, is_kept, left_out_parts, stretch_parts, stretches_from}
 use Rattle.redo_page.specs.Excerpt.Stretch.{Shown, LeftOut}
 use Rattle.redo_page.specs.Failed.{article_of, article_parts, article_took, article_row, cause_if, cause_of_node, cause_parts, is_dependent_failure, failed_parts, is_unclosed, list_parts, max_path, max_rows, more_parts, nothing_parts, output_parts, path_parts, positions_where, printed_by, row_parts, section_parts, target_row, unlisted_parts, whole_parts}
 use Rattle.redo_page.specs.Laws.{target_name}
-use Rattle.redo_page.specs.Scope.{View, holds, measure_words, row_name, row_node, row_view, rows_of}
-use Rattle.redo_page.specs.Summary.{build_view, summary_parts}
+use Rattle.redo_page.specs.Scope.{View, holds, measure_words, row_name, row_view, rows_of, target_view}
 use Rattle.redo_page.specs.Targets.{badge_parts, name_parts, plural}
-use Rattle.redo_page.specs.Template.{parts_of_item, parts_of_items, nothing, template_parts}
-use Rattle.redo_page.specs.Timeline.{facts_drawing, marks_parts, timeline_if, timeline_parts, timeline_section}
+use Rattle.redo_page.specs.Template.{Template, block_parts, parts_of_item, parts_of_items, nothing, template_parts}
+use Rattle.redo_page.specs.Timeline.{facts_drawing, timeline_if, timeline_parts}
 use Rattle.redo_page.specs.Tree.{is_short, max_articles, node_at, root_failures}
 use Rattle.redo_page.specs.Words.{word_part}
-use Rattle.redo_page.specs.Scope.{known_count}
 use Rattle.redo_page.proofs.FailedIds.{article_took_bare, path_bare}
-use Rattle.redo_page.proofs.Ids.{Bare, badge_bare, bare_each, bare_if, is_reference, references, word_bare}
-use Rattle.redo_page.proofs.NameLemmas.{Tells, article_link_tells, bare_tell, calm_tell, is_calm, linked_tells, log_link_tells, none_tell, place_link_tells, references_tell, target_link_tells, tell_each, tell_if, then_tell}
-use Rattle.redo_page.proofs.TemplateIds.{block_only_rows, none_refer, only_rows}
+use Rattle.redo_page.proofs.Ids.{Bare, badge_bare, bare_each, is_section, word_bare}
+use Rattle.redo_page.proofs.NameLemmas.{Tells, article_link_tells, bare_tell, calm_tell, is_calm, is_calm_tag, linked_tells, log_link_tells, none_tell, place_link_tells, target_link_tells, tell_each, tell_if, then_tell}
+use Rattle.redo_page.proofs.TemplateIds.{Place, began_bare, block_only, body_bare, none_refer, only_known, only_tag, template_only}
+use Rattle.redo_page.proofs.TemplateIds.Place.{Outside, InTargets, InRows}
 use Rattle.redo_summary.specs.declared.rank.Rank.{Rank}
-use Rattle.redo_summary.specs.Summary.{Facts, is_timed}
+use Rattle.redo_summary.specs.Summary.{is_timed}
 use Rattle.redo_timeline.specs.declared.span.Window.{Window}
 
 module _ (logs : List Log) (nodes : List Node) where
@@ -217,78 +216,114 @@ module _ (logs : List Log) (nodes : List Node) where
       (section_tells (take max_articles (root_failures nodes)) (drop max_articles (root_failures nodes))
       (positions_where is_dependent_failure 0 nodes) (positions_where is_unclosed 0 nodes))
 
-  -- ---- the timeline
-
-  marks_bare : (marks known : ℕ) → Bare (marks_parts marks known)
-  marks_bare marks known = bare_if (not (marks == 0)) _ refl
-
-  pub timeline_tells : (facts : Facts) → Telling (timeline_parts logs nodes facts)
-  timeline_tells facts = by facts.window
-    where
-      found : (window : Window) → references (timeline_section logs nodes facts window)
-          ≡ MarkupPart markup.TimelineSection ∷ ChartPart (facts_drawing logs nodes facts window) ∷ []
-      found window = simp (flat_map-append, marks_bare (length facts.marks) (known_count facts))
-
-      by : (window : Option Window) → Telling (timeline_if logs nodes facts window)
-      by None = none_tell logs nodes
-      by (Some window) =
-          tell_if logs nodes (is_timed facts)
-          (references_tell logs nodes (timeline_section logs nodes facts window) (ap (list_all is_calm) (found window)))
-
 -- ---- templates
 
--- What a template shows for the build of a view.
-pub record TellsOfViews {B : Type 0} (parts : B → View → List Part) (only : Bool → B → Bool) : Type 0 where
-  pub tells : (in_row : Bool) (block : B) → only in_row block ≡ true → (view : View) → Tells view.logs view.nodes (parts block view)
+-- In a row, a view has the target at the row's position.
+abbrev IsNamedRow : Place → View → Type 0
+IsNamedRow InRows view = node_at view.nodes view.rank.position ≡ view.node
+IsNamedRow place view = Unit {0}
 
-module _ {B : Type 0} (inner : B → View → List Part) (only : Bool → B → Bool) (inner_tells : TellsOfViews inner only) (view : View) where
+-- What a template shows for the build of a view.
+pub record TellsOfViews {B : Type 0} (parts : B → View → List Part) (only : Place → B → Bool) : Type 0 where
+  pub tells : (place : Place) (block : B) → only place block ≡ true → (view : View) → IsNamedRow place view
+      → Tells view.logs view.nodes (parts block view)
+
+-- A tag outside of loops is a link or an id of a section, or none.
+tag_calm : (place : Place) (tag : Markup) → only_tag place tag ≡ true → is_calm_tag tag ≡ true
+tag_calm place tag is = by tag (outside place is)
+  where
+    outside : (place : Place) → only_tag place tag ≡ true → only_tag Outside tag ≡ true
+    outside Outside is = is
+    outside InTargets is = ap (λ b. b || is_section tag) is
+    outside InRows is = ap (λ b. b || is_section tag) is
+
+    by : (tag : Markup) → only_tag Outside tag ≡ true → is_calm_tag tag ≡ true
+    by (markup.TargetLink number) is = absurd (cc)
+    by (markup.OutputLink number) is = absurd (cc)
+    by (markup.Article number) is = absurd (cc)
+    by (markup.TargetItem number) is = absurd (cc)
+    by (markup.Details number) is = absurd (cc)
+    by (markup.OpenDetails number) is = absurd (cc)
+    by tag is = refl
+
+module _ {B : Type 0} (inner : B → View → List Part) (only : Place → B → Bool) (inner_tells : TellsOfViews inner only) (view : View) where
   abbrev Here : List Part → Type 0
   Here parts = Tells view.logs view.nodes parts
 
-  ranks_tell : (block : B) → only true block ≡ true → (all ranks : List Rank)
+  bare : (parts : List Part) → Bare parts → Here parts
+  bare parts is = bare_tell view.logs view.nodes parts is
+
+  ranks_tell : (block : B) → only InRows block ≡ true → (all ranks : List Rank)
       → Here (flat_map (λ rank. inner block (row_view view all rank)) ranks)
   ranks_tell block is all [] = none_tell view.logs view.nodes
   ranks_tell block is all (rank ∷ ranks) =
-      then_tell view.logs view.nodes (inner_tells.tells true block is (row_view view all rank)) (ranks_tell block is all ranks)
+      then_tell view.logs view.nodes (inner_tells.tells InRows block is (row_view view all rank) refl) (ranks_tell block is all ranks)
 
-  item_tells : {T : Type 0} (text_of : T → List ℕ) (in_row : Bool) (item : Item T B) → only_rows only in_row item ≡ true
-      → Here (parts_of_item text_of inner view item)
-  item_tells text_of in_row (item.Tag tag) is = by (is_reference tag) refl is
-    where
-      by : (found : Bool) → is_reference tag ≡ found → not found ≡ true → Here (MarkupPart tag ∷ [])
-      by true reference is = absurd (cc)
-      by false reference is = bare_tell view.logs view.nodes (MarkupPart tag ∷ []) (rw (reference) refl)
-  item_tells text_of in_row (item.Tile term) is = bare_tell view.logs view.nodes _ refl
-  item_tells text_of in_row item.EndTile is = bare_tell view.logs view.nodes _ refl
-  item_tells text_of in_row (item.Text text) is = bare_tell view.logs view.nodes _ refl
-  item_tells text_of in_row (item.Number number) is = bare_tell view.logs view.nodes _ refl
-  item_tells text_of in_row item.Meter is = bare_tell view.logs view.nodes _ refl
-  item_tells text_of in_row (item.Measure measure) is =
-      bare_tell view.logs view.nodes _ (bare_each word_part word_bare (measure_words view measure))
-  item_tells text_of in_row item.Badge is = bare_tell view.logs view.nodes _ (badge_bare (row_node view).status)
-  item_tells text_of in_row item.Link is = linked_tells view.logs view.nodes (Some view.rank.position) (row_name view) refl
-  item_tells text_of in_row (item.In (If test) block) is =
-      tell_if view.logs view.nodes (holds view test) (inner_tells.tells in_row block is view)
-  item_tells text_of in_row (item.In (Each rows) block) is = ranks_tell block is (rows_of view rows) (rows_of view rows)
+  targets_tell : (block : B) → only InTargets block ≡ true → (nodes : List Node)
+      → Here (flat_map (λ node. inner block (target_view view node)) nodes)
+  targets_tell block is [] = none_tell view.logs view.nodes
+  targets_tell block is (node ∷ nodes) =
+      then_tell view.logs view.nodes (inner_tells.tells InTargets block is (target_view view node) tt) (targets_tell block is nodes)
 
-  items_tell : {T : Type 0} (text_of : T → List ℕ) (in_row : Bool) (items : List (Item T B))
-      → list_all (only_rows only in_row) items ≡ true → Here (parts_of_items text_of inner view items)
-  items_tell text_of in_row [] is = none_tell view.logs view.nodes
-  items_tell text_of in_row (item ∷ items) is =
-      let both = and_parts (only_rows only in_row item) (list_all (only_rows only in_row) items) is in
-      then_tell view.logs view.nodes (item_tells text_of in_row item both.0) (items_tell text_of in_row items both.1)
+  item_tells : {T : Type 0} (text_of : T → List ℕ) (place : Place) (item : Item T B) → only_known only place item ≡ true
+      → IsNamedRow place view → Here (parts_of_item text_of inner view item)
+  item_tells text_of place (item.Tag tag) is row = tag_tells view.logs view.nodes tag (tag_calm place tag is)
+  item_tells text_of place item.Body is row = bare _ (body_bare view.verdict)
+  item_tells text_of place item.TabTitle is row = bare _ refl
+  item_tells text_of place item.StyleSheet is row = bare _ refl
+  item_tells text_of place (item.Text text) is row = bare _ refl
+  item_tells text_of place (item.Phrase phrase) is row = bare _ refl
+  item_tells text_of place item.Date is row = bare _ (began_bare view.facts.window)
+  item_tells text_of place (item.Tile term) is row = bare _ refl
+  item_tells text_of place item.EndTile is row = bare _ refl
+  item_tells text_of place (item.Number number) is row = bare _ refl
+  item_tells text_of place (item.Measure measure) is row = bare _ (bare_each word_part word_bare (measure_words view measure))
+  item_tells text_of place item.Name is row = bare _ refl
+  item_tells text_of InRows item.Link is row =
+      linked_tells view.logs view.nodes (Some view.rank.position) (row_name view)
+      (ap (λ (node : Node). target_at view.logs node.number) row)
+  item_tells text_of Outside item.Link is row = absurd (cc)
+  item_tells text_of InTargets item.Link is row = absurd (cc)
+  item_tells text_of place item.Badge is row = bare _ (badge_bare view.node.status)
+  item_tells text_of place item.Meter is row = bare _ refl
+  item_tells text_of place (item.In (If test) block) is row =
+      tell_if view.logs view.nodes (holds view test) (inner_tells.tells place block is view row)
+  item_tells text_of place (item.In (Unless test) block) is row =
+      tell_if view.logs view.nodes (not (holds view test)) (inner_tells.tells place block is view row)
+  item_tells text_of place (item.In (Each rows) block) is row = ranks_tell block is (rows_of view rows) (rows_of view rows)
+  item_tells text_of place (item.In EachTarget block) is row = targets_tell block is view.nodes
 
-template_tells : {B : Type 0} (inner : B → View → List Part) (only : Bool → B → Bool) → TellsOfViews inner only
-    → TellsOfViews (template_parts inner) (block_only_rows only)
-template_tells inner only inner_tells =
-    record { tells = λ in_row block is view. items_tell inner only inner_tells view (λ text. text.now) in_row block.now is }
+  items_tell : {T : Type 0} (text_of : T → List ℕ) (place : Place) (items : List (Item T B))
+      → list_all (only_known only place) items ≡ true → IsNamedRow place view → Here (parts_of_items text_of inner view items)
+  items_tell text_of place [] is row = none_tell view.logs view.nodes
+  items_tell text_of place (item ∷ items) is row =
+      let both = and_parts (only_known only place item) (list_all (only_known only place) items) is in
+      then_tell view.logs view.nodes (item_tells text_of place item both.0 row) (items_tell text_of place items both.1 row)
 
-no_template_tells : TellsOfViews nothing none_refer
-no_template_tells = record { tells = λ in_row block is view. none_tell view.logs view.nodes }
+block_tells : {B : Type 0} (inner : B → View → List Part) (only : Place → B → Bool) → TellsOfViews inner only
+    → TellsOfViews (block_parts inner) (block_only only)
+block_tells inner only inner_tells = record {
+  tells = λ place block is view row. items_tell inner only inner_tells view (λ text. text.now) place block.now is row;
+}
 
-pub summary_tells : (logs : List Log) (nodes : List Node) (facts : Facts) → Tells logs nodes (summary_parts logs nodes facts)
-unfolding summary_parts
-summary_tells logs nodes facts =
-    let inner = template_tells _ _ (template_tells _ _ (template_tells nothing none_refer no_template_tells)) in
-    then_tell logs nodes {parts = MarkupPart markup.SummarySection ∷ []} (calm_tell logs nodes _ refl)
-    (items_tell _ _ inner (build_view logs nodes facts) (λ text. text.now) false (drop 1 SECTION.now) refl)
+nothing_tells_any : TellsOfViews nothing none_refer
+nothing_tells_any = record { tells = λ place block is view row. none_tell view.logs view.nodes }
+
+pub template_tells : (template : Template) → template_only template ≡ true → (view : View)
+    → Tells view.logs view.nodes (template_parts template view)
+template_tells template is view =
+    (block_tells _ _ (block_tells _ _ (block_tells _ _ (block_tells nothing none_refer nothing_tells_any)))).tells
+    Outside template is view tt
+
+-- ---- the timeline
+
+pub timeline_tells : (view : View) → Tells view.logs view.nodes (timeline_parts view)
+timeline_tells view = by view.facts.window
+  where
+    by : (window : Option Window) → Tells view.logs view.nodes (timeline_if view window)
+    by None = none_tell view.logs view.nodes
+    by (Some window) =
+        tell_if view.logs view.nodes (is_timed view.facts)
+        (then_tell view.logs view.nodes (template_tells START refl view)
+        (then_tell view.logs view.nodes {parts = ChartPart (facts_drawing view.logs view.nodes view.facts window) ∷ []}
+        (calm_tell view.logs view.nodes _ refl) (template_tells END refl view)))

@@ -1,5 +1,5 @@
 -- Rows of the frame of a page: its head, its heading, and its end with the command that writes the same as one text.
-use Rattle.std.proofs.Common.{◌≡◌, ℕ, Bool, true, false, List, [], ◌∷◌, ◌++◌, Option, None, Some, ℤ, pos, refl}
+use Rattle.std.proofs.Common.{◌≡◌, ℕ, Bool, true, false, List, [], ◌∷◌, ◌++◌, Option, None, Some, ℤ, pos, replicate, refl}
 use Rattle.std.specs.Char.{encode_utf8}
 use Rattle.std.specs.Fmt.{digits}
 use Rattle.std.specs.List.{AllByRecursion, filter, range_with_len}
@@ -19,7 +19,9 @@ use Rattle.redo_timeline.specs.declared.span.Window.{Window}
 use Rattle.redo_units.specs.Dates as dates
 use Rattle.redo_units.specs.Durations.{duration_words}
 use Rattle.redo_page.specs.Command.{argument, command, is_safe, quoted}
-use Rattle.redo_page.specs.Frame.{began_parts, timeline_nav, failed_nav, footer_parts, head_parts, header_parts, log_count_parts, nav_parts, root_parts, title_parts, top_heading_parts}
+use Rattle.redo_page.specs.Frame.{footer_parts, head_parts, header_parts}
+use Rattle.redo_page.specs.Page.{build_view}
+use Rattle.redo_page.specs.Scope.{View, began_parts}
 use Rattle.redo_page.specs.Verdict.{body_markup, sign_text, title_text, titled, verdict_of, verdict_text}
 use Rattle.redo_page.specs.Laws.{section_links}
 use Rattle.redo_page.specs.Tree.{no_node}
@@ -88,48 +90,17 @@ titles_are :
 unfolding encode_utf8
 titles_are = (refl, refl, refl, refl)
 
-head_is :
-    head_parts (codes "t") Unfinished
-    ≡ tag markup.Doctype ∷ tag markup.Html ∷ tag markup.Head ∷ tag markup.Charset ∷ tag markup.Viewport ∷ tag markup.ColorScheme
-    ∷ tag markup.Referrer ∷ tag markup.Policy
-    ∷ TitlePart (codes "t") ∷ StylePart ∷ tag markup.EndHead ∷ tag markup.BodyOpen ∷ []
-head_is = refl
-
--- ---- the header
-
-title_is : (title_parts [] ≡ []) × (title_parts (codes "t") ≡ tag markup.Paragraph ∷ words (codes "t") ∷ tag markup.EndParagraph ∷ [])
-title_is = (refl, refl)
-
-heading_is :
-    top_heading_parts Made (codes "h")
-    ≡ tag markup.Header ∷ tag markup.Title1 ∷ tag markup.Sign ∷ words (0xE2 ∷ 0x9C ∷ 0x93 ∷ []) ∷ tag markup.EndSign ∷ words (codes " ")
-    ∷ words (codes "h") ∷ tag markup.EndTitle1 ∷ []
-heading_is = refl
-
 abbrev logs : List Log
-logs = record { target = codes "a"; entries = []; state = Ended } ∷ []
+logs = record { target = codes "a"; entries = []; state = Ended } ∷ record { target = codes "b"; entries = []; state = Ended } ∷ []
 
-roots_are :
-    (root_parts logs made ≡ tag markup.Paragraph ∷ tag markup.Bdi ∷ words (codes "a") ∷ tag markup.EndBdi ∷ tag markup.EndParagraph ∷ [])
-    × (root_parts logs begun ≡ tag markup.Paragraph ∷ tag markup.Bdi ∷ words (codes "a") ∷ tag markup.EndBdi
-    ∷ words (codes " ") ∷ tag markup.OpenBadge ∷ words (codes "not closed") ∷ tag markup.EndBadge ∷ tag markup.EndParagraph ∷ [])
-    × (root_parts logs failed ≡ [])
-roots_are = (refl, refl, refl)
-
-navs_are :
-    (failed_nav Failed ≡ tag markup.Item ∷ tag markup.FailedLink ∷ words (codes "What failed") ∷ tag markup.EndLink
-    ∷ tag markup.EndItem ∷ [])
-    × (failed_nav Unfinished ≡ []) × (failed_nav Made ≡ [])
-navs_are = (refl, refl, refl)
-
--- What is known of times: a window, and how long it took.
-abbrev facts : Option Window → ℕ → Facts
-facts window took = record {
+-- What is known of times: a window, how long it took, and how many recipes have known and unknown times.
+abbrev facts : Option Window → ℕ → ℕ → ℕ → Facts
+facts window took recipes marks = record {
   window = window;
   took = took;
   callers = [];
-  recipes = [];
-  marks = [];
+  recipes = replicate recipes (record { began = 7; position = 0; ended = 8; failed = false });
+  marks = replicate marks (record { began = 7; position = 0; ended = 7; failed = false });
   sum = 0;
   most = 0;
   warnings = 0;
@@ -138,71 +109,78 @@ facts window took = record {
   warned = [];
 }
 
+-- A page that was asked to have this title.
+abbrev view : List ℕ → List Node → Facts → View
+view title nodes facts =
+    record (build_view title (codes "d") (codes "c") logs nodes facts) { heading = codes "h"; tab = codes "tab" }
+
+head_is :
+    (head_parts (view (codes "t") (begun ∷ []) (facts None 0 0 0))
+    ≡ tag markup.Doctype ∷ tag markup.Html ∷ tag markup.Head ∷ tag markup.Charset ∷ tag markup.Viewport ∷ tag markup.ColorScheme
+    ∷ tag markup.Referrer ∷ tag markup.Policy
+    ∷ TitlePart (codes "tab") ∷ StylePart ∷ tag markup.EndHead ∷ tag markup.BodyOpen ∷ [])
+head_is = refl
+
+-- ---- the header
+
 -- A number of seconds from the year 10000 on has no date.
 began_are :
-    (began_parts None 5 ≡ [])
-    × (began_parts (Some (record { began = 253402300800000; width = 1 })) 0
-    ≡ tag markup.MetaParagraph ∷ words (codes "took ") ∷ number 0 ∷ words (codes ".") ∷ number 0 ∷ number 0 ∷ words (codes " s")
-    ∷ tag markup.EndParagraph ∷ [])
-unfolding duration_words dates.date_text_of dates.date_parts dates.period_of
-began_are = (refl, refl)
+    (began_parts None ≡ []) × (began_parts (Some (record { began = 253402300800000; width = 1 })) ≡ [])
+    × (began_parts (Some (record { began = 1795829211999; width = 1 }))
+    ≡ words (codes "Sat, 28 Nov 2026 01:26:51 GMT") ∷ words (32 ∷ 0xC2 ∷ 0xB7 ∷ 32 ∷ []) ∷ [])
+unfolding dates.date_text_of dates.date_parts dates.period_of
+began_are = (refl, refl, refl)
 
-timeline_navs_are :
-    (timeline_nav true ≡ tag markup.Item ∷ tag markup.TimelineLink ∷ words (codes "Timeline") ∷ tag markup.EndLink
-    ∷ tag markup.EndItem ∷ [])
-    × (timeline_nav false ≡ [])
-timeline_navs_are = (refl, refl)
+abbrev heading : List ℕ → List Part → List Part
+heading sign rest =
+    tag markup.Header ∷ tag markup.Title1 ∷ tag markup.Sign ∷ words sign ∷ tag markup.EndSign ∷ words (codes " ")
+    ∷ words (codes "h") ∷ tag markup.EndTitle1 ∷ rest
 
--- The links are in the order of the sections.
-nav_is :
-    nav_parts Failed true
-    ≡ tag markup.Nav ∷ tag markup.Unordered
-    ∷ tag markup.Item ∷ tag markup.FailedLink ∷ words (codes "What failed") ∷ tag markup.EndLink ∷ tag markup.EndItem
-    ∷ tag markup.Item ∷ tag markup.SummaryLink ∷ words (codes "Summary") ∷ tag markup.EndLink ∷ tag markup.EndItem
-    ∷ tag markup.Item ∷ tag markup.TimelineLink ∷ words (codes "Timeline") ∷ tag markup.EndLink ∷ tag markup.EndItem
-    ∷ tag markup.Item ∷ tag markup.TreeLink ∷ words (codes "All logs") ∷ tag markup.EndLink ∷ tag markup.EndItem
-    ∷ tag markup.EndUnordered ∷ tag markup.EndNav ∷ tag markup.Main ∷ []
-nav_is = refl
+abbrev name : List ℕ → List Part → List Part
+name text rest = tag markup.Paragraph ∷ tag markup.Bdi ∷ words text ∷ tag markup.EndBdi ∷ rest
 
+abbrev item : Markup → List ℕ → List Part → List Part
+item link text rest = tag markup.Item ∷ tag link ∷ words text ∷ tag markup.EndLink ∷ tag markup.EndItem ∷ rest
+
+abbrev nav : List Part → List Part
+nav rest = tag markup.EndHeader ∷ tag markup.Nav ∷ tag markup.Unordered ∷ rest
+
+abbrev last_item : List Part
+last_item = item markup.TreeLink (codes "All logs") (tag markup.EndUnordered ∷ tag markup.EndNav ∷ tag markup.Main ∷ [])
+
+-- A target that failed below a requested one, with a title and with times. The links are in the order of the sections.
 header_is :
-    header_parts (codes "t") logs Failed (codes "h") (made ∷ []) (facts (Some (record { began = 1795829211999; width = 1 })) 61000)
-    ≡ tag markup.Header ∷ tag markup.Title1 ∷ tag markup.Sign ∷ words (0xE2 ∷ 0x9C ∷ 0x97 ∷ []) ∷ tag markup.EndSign ∷ words (codes " ")
-    ∷ words (codes "h") ∷ tag markup.EndTitle1
-    ∷ tag markup.Paragraph ∷ words (codes "t") ∷ tag markup.EndParagraph
-    ∷ tag markup.Paragraph ∷ tag markup.Bdi ∷ words (codes "a") ∷ tag markup.EndBdi ∷ tag markup.EndParagraph
+    header_parts (view (codes "t") (node None (Some (pos 0)) true ∷ failed ∷ [])
+    (facts (Some (record { began = 1795829211999; width = 1 })) 61000 1 0))
+    ≡ heading (0xE2 ∷ 0x9C ∷ 0x97 ∷ []) (tag markup.Paragraph ∷ words (codes "t") ∷ tag markup.EndParagraph
+    ∷ name (codes "a") (tag markup.EndParagraph
     ∷ tag markup.MetaParagraph ∷ words (codes "Sat, 28 Nov 2026 01:26:51 GMT") ∷ words (32 ∷ 0xC2 ∷ 0xB7 ∷ 32 ∷ []) ∷ words (codes "took ")
     ∷ number 1 ∷ words (codes " min ") ∷ number 0 ∷ number 1 ∷ words (codes " s") ∷ tag markup.EndParagraph
-    ∷ tag markup.EndHeader ∷ tag markup.Nav ∷ tag markup.Unordered
-    ∷ tag markup.Item ∷ tag markup.FailedLink ∷ words (codes "What failed") ∷ tag markup.EndLink ∷ tag markup.EndItem
-    ∷ tag markup.Item ∷ tag markup.SummaryLink ∷ words (codes "Summary") ∷ tag markup.EndLink ∷ tag markup.EndItem
-    ∷ tag markup.Item ∷ tag markup.TreeLink ∷ words (codes "All logs") ∷ tag markup.EndLink ∷ tag markup.EndItem
-    ∷ tag markup.EndUnordered ∷ tag markup.EndNav ∷ tag markup.Main ∷ []
+    ∷ nav (item markup.FailedLink (codes "What failed") (item markup.SummaryLink (codes "Summary")
+    (item markup.TimelineLink (codes "Timeline") last_item)))))
 unfolding duration_words dates.date_text_of dates.date_parts dates.period_of
 header_is = refl
 
-abbrev two_logs : List Log
-two_logs = record { target = codes "a"; entries = []; state = Ended } ∷ record { target = codes "b"; entries = []; state = Ended } ∷ []
+-- Too few times are known for a timeline.
+untimed_is :
+    header_parts (view [] [] (facts (Some (record { began = 253402300800000; width = 1 })) 0 1 1))
+    ≡ heading (0xE2 ∷ 0x9C ∷ 0x93 ∷ []) (tag markup.MetaParagraph ∷ words (codes "took ") ∷ number 0 ∷ words (codes ".") ∷ number 0 ∷ number 0
+    ∷ words (codes " s") ∷ tag markup.EndParagraph ∷ nav (item markup.SummaryLink (codes "Summary") last_item))
+unfolding duration_words dates.date_text_of dates.date_parts dates.period_of
+untimed_is = refl
 
 -- Two requested targets, with the name and the status of each. The one that is shown first has the second log, and another target is below it.
 requested_are :
-    header_parts [] two_logs Made (codes "h") (record made { number = 1 } ∷ node (Some 0) (Some (pos 0)) false ∷ begun ∷ []) (facts None 0)
-    ≡ tag markup.Header ∷ tag markup.Title1 ∷ tag markup.Sign ∷ words (0xE2 ∷ 0x9C ∷ 0x93 ∷ []) ∷ tag markup.EndSign ∷ words (codes " ")
-    ∷ words (codes "h") ∷ tag markup.EndTitle1
-    ∷ tag markup.Paragraph ∷ tag markup.Bdi ∷ words (codes "b") ∷ tag markup.EndBdi ∷ tag markup.EndParagraph
-    ∷ tag markup.Paragraph ∷ tag markup.Bdi ∷ words (codes "a") ∷ tag markup.EndBdi
-    ∷ words (codes " ") ∷ tag markup.OpenBadge ∷ words (codes "not closed") ∷ tag markup.EndBadge ∷ tag markup.EndParagraph
-    ∷ tag markup.EndHeader ∷ tag markup.Nav ∷ tag markup.Unordered
-    ∷ tag markup.Item ∷ tag markup.SummaryLink ∷ words (codes "Summary") ∷ tag markup.EndLink ∷ tag markup.EndItem
-    ∷ tag markup.Item ∷ tag markup.TreeLink ∷ words (codes "All logs") ∷ tag markup.EndLink ∷ tag markup.EndItem
-    ∷ tag markup.EndUnordered ∷ tag markup.EndNav ∷ tag markup.Main ∷ []
+    header_parts (view [] (record made { number = 1 } ∷ node (Some 0) (Some (pos 0)) false ∷ begun ∷ []) (facts None 0 0 0))
+    ≡ heading (0xE2 ∷ 0x80 ∷ 0xA6 ∷ []) (name (codes "b") (tag markup.EndParagraph
+    ∷ name (codes "a") (words (codes " ") ∷ tag markup.OpenBadge ∷ words (codes "not closed") ∷ tag markup.EndBadge ∷ tag markup.EndParagraph
+    ∷ nav (item markup.SummaryLink (codes "Summary") last_item))))
 requested_are = refl
 
--- Only if most times are known, there is a link to the timeline.
+-- There is a link to what failed only if a target failed, and one to the timeline only if most times are known.
 header_links_are :
-    (section_links (header_parts [] logs Made [] [] (facts None 0)) ≡ codes "summary" ∷ codes "tree" ∷ [])
-    × (section_links (header_parts [] logs Failed [] []
-    (record (facts (Some (record { began = 7; width = 1 })) 1)
-    { recipes = record { began = 7; position = 0; ended = 8; failed = false } ∷ [] }))
+    (section_links (header_parts (view [] [] (facts None 0 1 0))) ≡ codes "summary" ∷ codes "tree" ∷ [])
+    × (section_links (header_parts (view [] (failed ∷ []) (facts (Some (record { began = 7; width = 1 })) 1 9 1)))
     ≡ codes "failed" ∷ codes "summary" ∷ codes "timeline" ∷ codes "tree" ∷ [])
 unfolding duration_words dates.date_text_of dates.date_parts dates.period_of
 header_links_are = (refl, refl)
@@ -246,16 +224,16 @@ commands_are :
 unfolding is_safe
 commands_are = (refl, refl, refl, refl)
 
-counts_are : (log_count_parts 1 ≡ number 1 ∷ words (codes " log in ") ∷ [])
-    × (log_count_parts 2 ≡ number 2 ∷ words (codes " logs in ") ∷ [])
-counts_are = (refl, refl)
-
-footer_is :
-    footer_parts (codes "d") (codes "c") 3
-    ≡ tag markup.EndMain ∷ tag markup.Footer ∷ tag markup.Paragraph ∷ words (codes "Made by ") ∷ tag markup.Code
+abbrev footer : ℕ → List ℕ → List Part
+footer count logs_in =
+    tag markup.EndMain ∷ tag markup.Footer ∷ tag markup.Paragraph ∷ words (codes "Made by ") ∷ tag markup.Code
     ∷ words (codes "redo-log-html") ∷ tag markup.EndCode ∷ words (codes " of ")
-    ∷ number 3 ∷ words (codes " logs in ") ∷ tag markup.Code ∷ words (codes "d") ∷ tag markup.EndCode ∷ words (codes ". As one text: ")
+    ∷ number count ∷ words logs_in ∷ tag markup.Code ∷ words (codes "d") ∷ tag markup.EndCode ∷ words (codes ". As one text: ")
     ∷ tag markup.Code ∷ words (codes "c") ∷ tag markup.EndCode
     ∷ tag markup.EndParagraph ∷ tag markup.EndFooter ∷ tag markup.EndBody ∷ tag markup.EndHtml ∷ words (codes "\n") ∷ []
+
+footers_are :
+    (footer_parts (view [] (made ∷ []) (facts None 0 0 0)) ≡ footer 1 (codes " log in "))
+    × (footer_parts (view [] (made ∷ made ∷ failed ∷ []) (facts None 0 0 0)) ≡ footer 3 (codes " logs in "))
 unfolding footer_parts
-footer_is = refl
+footers_are = (refl, refl)

@@ -79,7 +79,7 @@ target_id_part (MarkupPart markup) = by markup
     by markup = refl
 target_id_part part = refl
 
-section_part : (part : Part) → flat_map section (reference part) ≡ section part
+pub section_part : (part : Part) → flat_map section (reference part) ≡ section part
 section_part (MarkupPart markup) = by markup
   where
     by : (markup : Markup) → flat_map section (reference (MarkupPart markup)) ≡ section (MarkupPart markup)

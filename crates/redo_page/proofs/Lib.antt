@@ -15,8 +15,6 @@ mod FailedOrder
 mod FailedRows
 mod FormLemmas
 mod FoundLemmas
-mod FrameIds
-mod FrameNesting
 mod FrameRows
 mod Ids
 mod JoinLemmas

@@ -1,8 +1,7 @@
 -- What a page tells of targets: names in links, and names with facts where logs and articles begin.
-use Rattle.std.proofs.Common.{◌≡◌, ℕ, ◌<◌, Bool, true, false, List, [], ◌∷◌, ◌++◌, Option, None, Some, refl, sym, ◌∙◌, ap, subst, inl, inr, arith}
-use Rattle.std.specs.Prelude.{nat_lt}
+use Rattle.std.proofs.Common.{◌≡◌, ℕ, Bool, true, false, List, [], ◌∷◌, ◌++◌, Option, None, Some, refl, sym, ◌∙◌, ap, subst, inl, inr}
 use Rattle.std.specs.List.{flat_map, list_all}
-use Rattle.std.proofs.lemmas.Bool.{and_from, and_parts, ltb-true}
+use Rattle.std.proofs.lemmas.Bool.{and_parts}
 use Rattle.std.proofs.lemmas.List.{append_assoc}
 use Rattle.std.proofs.lemmas.List.Folds.{list_all-append}
 use Rattle.redo_html.specs.declared.markup.Markup.{Markup}
@@ -12,9 +11,9 @@ use Rattle.redo_html.specs.Parts.Part.{MarkupPart, TextPart}
 use Rattle.redo_logs.specs.Logs.{Log}
 use Rattle.redo_outline.specs.declared.node.Node.{Node}
 use Rattle.redo_page.specs.declared.labels.TheConstants.{IN_ITS_LOG, PLACE_IN_TREE, SHOWN_ABOVE}
-use Rattle.redo_page.specs.Laws.{TellsItsTarget, article_id, article_ids, article_link, article_links, is_among, target_id, target_ids, target_link, target_links, target_name}
+use Rattle.redo_page.specs.Laws.{TellsItsTarget, target_name}
 use Rattle.redo_page.specs.Targets.{linked_parts, name_parts, parts_if}
-use Rattle.redo_page.proofs.Ids.{Bare, Refers, reference, references}
+use Rattle.redo_page.proofs.Ids.{Bare, reference, references}
 
 -- Whether a part is no link to a target or to an article, and has no id of one.
 abbrev pub is_calm_tag : Markup → Bool
@@ -29,14 +28,6 @@ is_calm_tag tag = true
 abbrev pub is_calm : Part → Bool
 is_calm (MarkupPart tag) = is_calm_tag tag
 is_calm part = true
-
-left_none : {X : Type 0} (items others : List X) → items ++ others ≡ [] → items ≡ []
-left_none [] others none = refl
-left_none (item ∷ items) others none = absurd (cc)
-
-right_none : {X : Type 0} (items others : List X) → items ++ others ≡ [] → others ≡ []
-right_none [] others none = none
-right_none (item ∷ items) others none = absurd (cc)
 
 -- Something holds of the parts from each place on.
 abbrev pub FromEach : (List Part → Type 0) → List Part → Type 0
@@ -113,49 +104,6 @@ module _ (logs : List Log) (nodes : List Node) where
 
   pub bare_tell : (parts : List Part) → Bare parts → Tells parts
   bare_tell parts bare = references_tell parts (ap (list_all is_calm) bare)
-
-  -- Parts whose links lead nowhere have none.
-  none_below : (numbers : List ℕ) → list_all (λ number. nat_lt number 0) numbers ≡ true → numbers ≡ []
-  none_below [] all = refl
-  none_below (number ∷ numbers) all =
-      let less : number < 0 = ltb-true number 0 (and_parts (nat_lt number 0) (list_all (λ other. nat_lt other 0) numbers) all).0 in
-      absurd (omega (arith, less))
-
-  none_among : (numbers : List ℕ) → list_all (is_among []) numbers ≡ true → numbers ≡ []
-  none_among [] all = refl
-  none_among (number ∷ numbers) all = absurd (cc)
-
-  unlinked : (parts : List Part) → target_ids parts ≡ [] → article_ids parts ≡ [] → target_links parts ≡ [] → article_links parts ≡ []
-      → list_all is_calm parts ≡ true
-  unlinked [] ids article_ids_are links article_links_are = refl
-  unlinked (part ∷ parts) ids article_ids_are links article_links_are =
-      and_from (is_calm part) (list_all is_calm parts)
-      (by part (left_none (target_id part) (target_ids parts) ids) (left_none (article_id part) (article_ids parts) article_ids_are)
-      (left_none (target_link part) (target_links parts) links) (left_none (article_link part) (article_links parts) article_links_are))
-      (unlinked parts (right_none (target_id part) (target_ids parts) ids)
-      (right_none (article_id part) (article_ids parts) article_ids_are) (right_none (target_link part) (target_links parts) links)
-      (right_none (article_link part) (article_links parts) article_links_are))
-    where
-      by : (part : Part) → target_id part ≡ [] → article_id part ≡ [] → target_link part ≡ [] → article_link part ≡ []
-          → is_calm part ≡ true
-      by (MarkupPart tag) no_id no_article no_link no_article_link = tagged tag no_id no_article no_link no_article_link
-        where
-          tagged : (tag : Markup) → target_id (MarkupPart tag) ≡ [] → article_id (MarkupPart tag) ≡ [] → target_link (MarkupPart tag) ≡ []
-              → article_link (MarkupPart tag) ≡ [] → is_calm_tag tag ≡ true
-          tagged (markup.TargetLink number) a b c d = absurd (cc)
-          tagged (markup.OutputLink number) a b c d = absurd (cc)
-          tagged (markup.Article number) a b c d = absurd (cc)
-          tagged (markup.TargetItem number) a b c d = absurd (cc)
-          tagged (markup.Details number) a b c d = absurd (cc)
-          tagged (markup.OpenDetails number) a b c d = absurd (cc)
-          tagged tag a b c d = refl
-      by part no_id no_article no_link no_article_link = refl
-
-  pub unlinked_tell : {sections : List Part} (parts : List Part) → Refers 0 [] parts [] [] sections → Tells parts
-  unlinked_tell parts refers =
-      calm_tell parts
-      (unlinked parts refers.target_ids_are refers.article_ids_are (none_below (target_links parts) refers.target_links_lead)
-      (none_among (article_links parts) refers.article_links_lead))
 
   pub tell_if : (condition : Bool) {parts : List Part} → Tells parts → Tells (parts_if condition parts)
   tell_if true tells = tells

@@ -1,12 +1,12 @@
 -- The ids and the links of a page.
 use Rattle.std.proofs.Common.{◌≡◌, ℕ, zero, suc, ◌+◌, ◌<◌, ◌≤◌, Bool, true, false, List, [], ◌∷◌, ◌++◌, map, refl, sym, ◌∙◌, ap, arith}
-use Rattle.std.specs.Prelude.{◌==◌, ◌||◌, nat_lt, length, if◌then◌else◌, ◌&&◌, is_some}
-use Rattle.std.specs.List.{flat_map, list_all, list_any}
+use Rattle.std.specs.Prelude.{◌==◌, ◌||◌, ◌&&◌, nat_lt, length, if◌then◌else◌, is_some, None, Option, Some}
+use Rattle.std.specs.List.{flat_map, list_all}
 use Rattle.std.proofs.lemmas.Bool.{and_from, and_parts, eqb-false, ltb-true}
 use Rattle.std.proofs.lemmas.List.{append-nil, length-map}
 use Rattle.redo_logs.specs.Logs.{Log}
 use Rattle.redo_html.specs.declared.markup.Markup.{Markup}
-use Rattle.redo_html.specs.declared.markup.Markup.TheVariants.{FailedSection, SummarySection, TreeSection}
+use Rattle.redo_html.specs.declared.markup.Markup.TheVariants.{FailedLink, FailedSection, SummaryLink, SummarySection, TimelineLink, TreeLink, TreeSection}
 use Rattle.redo_html.specs.Parts.{Part}
 use Rattle.redo_html.specs.Parts.Part.{MarkupPart}
 use Rattle.redo_page.specs.Targets.{parts_if}
@@ -15,25 +15,25 @@ use Rattle.redo_outline.specs.declared.node.Node.{Node}
 use Rattle.redo_outline.specs.Contents.{Contents, contents_of}
 use Rattle.redo_outline.specs.Facts.{target_status}
 use Rattle.redo_outline.specs.Outline.{log_count, outline_of, with_times}
-use Rattle.std.specs.Prelude.{None, Option, Some}
-use Rattle.redo_page.specs.declared.verdict.Verdict.TheVariants.{Failed, Unfinished, Made}
-use Rattle.redo_page.specs.Command.{command}
-use Rattle.redo_page.specs.Frame.{footer_parts, head_parts}
-use Rattle.redo_page.specs.Verdict.{is_unfinished, title_text, verdict_of}
+use Rattle.redo_page.specs.declared.frame.TheConstants.{FOOTER, HEAD, HEADER}
+use Rattle.redo_page.specs.declared.scope.Rows.TheVariants.{Longest, Warned}
+use Rattle.redo_page.specs.declared.summary.TheConstants.{SECTION}
+use Rattle.redo_page.specs.Frame.{footer_parts}
 use Rattle.redo_page.specs.Laws.{article_ids, article_links, charts, is_among, numbers_from, page_chart, part_chart, section_id, section_ids, section_link, section_links, target_ids, target_links}
-use Rattle.redo_page.specs.declared.verdict.Verdict.{Verdict}
-use Rattle.redo_page.specs.Page.{Request, heading_of, options_of, page_contents, page_events, page_facts, page_outline, page_parts, run_times, top_parts_of}
+use Rattle.redo_page.specs.Page.{Request, options_of, page_contents, page_events, page_facts, page_outline, page_parts, page_view, run_times, top_parts}
+use Rattle.redo_page.specs.Scope.{View}
+use Rattle.redo_page.specs.Summary.{summary_parts}
+use Rattle.redo_page.specs.Template.{Template}
 use Rattle.redo_page.specs.Tree.{articles, root_failures}
-use Rattle.redo_page.proofs.Ids.{Refers, bare_refers, is_section, section, then_refer}
-use Rattle.redo_page.proofs.FrameIds.{footer_bare, head_bare, header_refers, links}
-use Rattle.redo_page.proofs.FailedIds.{failed_refers, failed_section}
-use Rattle.redo_page.proofs.TemplateIds.{summary_refers}
+use Rattle.redo_page.proofs.Ids.{Refers, is_section, section, then_refer}
+use Rattle.redo_page.proofs.FailedIds.{failed_refers}
+use Rattle.redo_page.proofs.TemplateIds.{AreRows, some_if, template_only, template_refers}
 use Rattle.redo_page.proofs.TimelineLemmas.{BarsLead, timeline_found, timeline_refers}
 use Rattle.redo_page.specs.Limits.{tree_limits}
 use Rattle.redo_trim.specs.declared.limit.Limit.{Limit}
 use Rattle.redo_trim.specs.Trim.{trim}
 use Rattle.redo_page.proofs.TreeIds.{nodes_counted, tree_refers}
-use Rattle.redo_summary.specs.Laws.{AreOfNodes}
+use Rattle.redo_summary.specs.Laws.{AreOfNodes, AreRanksBelow}
 use Rattle.redo_page.specs.Timeline.{has_timeline}
 use Rattle.redo_summary.specs.Summary.{Facts, is_timed, summary_of}
 use Rattle.redo_timeline.specs.declared.span.Window.{Window}
@@ -81,13 +81,17 @@ section_link_part (MarkupPart markup) = by markup
     by markup = refl
 section_link_part part = refl
 
--- The tags of sections before the tree.
-abbrev top_sections : Verdict → Bool → List Part → List Part
-top_sections verdict timed failed = links verdict timed ++ (failed ++ MarkupPart SummarySection ∷ [])
+-- The links to sections: what failed, the summary, the timeline, and the tree.
+abbrev links : Bool → Bool → Bool → List Part
+links failed some timed =
+    parts_if failed (MarkupPart FailedLink ∷ [])
+    ++ (MarkupPart SummaryLink ∷ (some_if some (parts_if timed (MarkupPart TimelineLink ∷ []) ++ []) ++ MarkupPart TreeLink ∷ []))
 
--- The tags of sections of a page, and its charts.
-abbrev page_sections : Verdict → Bool → List Part → List Part → List Part
-page_sections verdict timed failed timeline = top_sections verdict timed failed ++ ((timeline ++ MarkupPart TreeSection ∷ []) ++ [])
+-- The tags of sections of a page, and its charts, if targets failed, and if a window and most times are known.
+abbrev page_sections : Bool → Bool → Bool → List Part → List Part
+page_sections failed some timed timeline =
+    (links failed some timed ++ (parts_if failed (MarkupPart FailedSection ∷ []) ++ MarkupPart SummarySection ∷ []))
+    ++ ((timeline ++ MarkupPart TreeSection ∷ []) ++ [])
 
 chart_part : (part : Part) → flat_map part_chart (section part) ≡ part_chart part
 chart_part (MarkupPart markup) = by (is_section markup)
@@ -98,66 +102,44 @@ chart_part (MarkupPart markup) = by (is_section markup)
 chart_part part = refl
 
 -- The charts are the charts of the timeline.
-charts_found : (verdict : Verdict) (timed some : Bool) (timeline : List Part)
-    → charts (page_sections verdict timed (parts_if some (MarkupPart FailedSection ∷ [])) timeline) ≡ charts timeline
-charts_found verdict timed some timeline = by verdict timed some
+charts_found : (failed some timed : Bool) (timeline : List Part) → charts (page_sections failed some timed timeline) ≡ charts timeline
+charts_found failed some timed timeline = by failed some timed
   where
     last : charts ((timeline ++ MarkupPart TreeSection ∷ []) ++ []) ≡ charts timeline
     last = simp (flat_map-append, append-nil)
 
-    by : (verdict : Verdict) (timed some : Bool)
-        → charts (page_sections verdict timed (parts_if some (MarkupPart FailedSection ∷ [])) timeline) ≡ charts timeline
-    by Failed true true = last
-    by Failed true false = last
-    by Failed false true = last
-    by Failed false false = last
-    by Unfinished true true = last
-    by Unfinished true false = last
-    by Unfinished false true = last
-    by Unfinished false false = last
-    by Made true true = last
-    by Made true false = last
-    by Made false true = last
-    by Made false false = last
+    by : (failed some timed : Bool) → charts (page_sections failed some timed timeline) ≡ charts timeline
+    by true true true = last
+    by true true false = last
+    by true false true = last
+    by true false false = last
+    by false true true = last
+    by false true false = last
+    by false false true = last
+    by false false false = last
 
-module _ (nodes : List Node) (facts : Facts) (positions : AreOfNodes nodes facts) where
-  top_refers : (title : List ℕ) (logs : List Log) (verdict : Verdict) (title_is heading : List ℕ)
-      → Refers (length nodes) (articles nodes) (top_parts_of title logs verdict title_is heading nodes facts) []
-      ((articles nodes ++ []) ++ []) (top_sections verdict (has_timeline facts) (failed_section (root_failures nodes)))
-  unfolding top_parts_of
-  top_refers title logs verdict title_is heading =
-      then_refer (bare_refers (head_parts title_is verdict) (head_bare title_is verdict))
-      (then_refer (header_refers title logs verdict heading nodes facts)
-      (then_refer (failed_refers logs nodes)
-      (summary_refers (length nodes) (articles nodes) logs nodes facts positions.longest positions.warned)))
-
--- There is a link to each section.
-module _ (logs : List Log) (nodes : List Node) (facts : Facts) where
+module _ (view : View) where
   -- The tags of sections of a page with this outcome, and its charts.
-  abbrev sections_of : Verdict → Bool → Bool → Option Window → List Part
-  sections_of verdict some timed window =
-      page_sections verdict (is_some window && timed) (parts_if some (MarkupPart FailedSection ∷ []))
-      (timeline_found logs nodes facts timed window)
+  abbrev sections_of : Bool → Bool → Option Window → List Part
+  sections_of failed timed window = page_sections failed (is_some window) timed (timeline_found view timed window)
 
-  sections_linked :
-      section_links (page_sections (verdict_of nodes) (has_timeline facts) (failed_section (root_failures nodes))
-      (timeline_found logs nodes facts (is_timed facts) facts.window))
-      ≡ section_ids (page_sections (verdict_of nodes) (has_timeline facts) (failed_section (root_failures nodes))
-      (timeline_found logs nodes facts (is_timed facts) facts.window))
-  sections_linked = by (nat_lt 0 (length (root_failures nodes))) (list_any is_unfinished nodes) (is_timed facts) facts.window
+  abbrev view_sections : List Part
+  view_sections = sections_of (nat_lt 0 (length (root_failures view.nodes))) (is_timed view.facts) view.facts.window
+
+  -- There is a link to each section.
+  sections_linked : section_links view_sections ≡ section_ids view_sections
+  sections_linked = by (nat_lt 0 (length (root_failures view.nodes))) (is_timed view.facts) view.facts.window
     where
-      by : (some unfinished timed : Bool) (window : Option Window)
-          → section_links (sections_of (if some then Failed else if unfinished then Unfinished else Made) some timed window)
-          ≡ section_ids (sections_of (if some then Failed else if unfinished then Unfinished else Made) some timed window)
-      by true unfinished timed None = refl
-      by true unfinished true (Some window) = refl
-      by true unfinished false (Some window) = refl
-      by false true timed None = refl
-      by false true true (Some window) = refl
-      by false true false (Some window) = refl
-      by false false timed None = refl
-      by false false true (Some window) = refl
-      by false false false (Some window) = refl
+      by : (failed timed : Bool) (window : Option Window)
+          → section_links (sections_of failed timed window) ≡ section_ids (sections_of failed timed window)
+      by true true None = refl
+      by true false None = refl
+      by true true (Some window) = refl
+      by true false (Some window) = refl
+      by false true None = refl
+      by false false None = refl
+      by false true (Some window) = refl
+      by false false (Some window) = refl
 
 -- The times of shown targets lead to positions of nodes.
 abbrev pub HavePositions : Type 0
@@ -185,6 +167,9 @@ module _ (have : HavePositions) (lead : BarsLead) (keep : KeepLogs) (request : R
   abbrev facts : Facts
   facts = page_facts request logs requested
 
+  abbrev view : View
+  view = page_view request logs requested
+
   abbrev events : List Event
   events = page_events request logs requested
 
@@ -192,19 +177,26 @@ module _ (have : HavePositions) (lead : BarsLead) (keep : KeepLogs) (request : R
   abbrev shown : Contents
   shown = page_contents request logs requested
 
+  rows_below : AreOfNodes nodes facts → AreRows (length nodes) (articles nodes) view
+  rows_below positions Longest = by (is_timed facts)
+    where
+      by : (timed : Bool) → AreRanksBelow (length nodes) (if timed then facts.longest else [])
+      by true = positions.longest
+      by false = tt
+  rows_below positions Warned = positions.warned
+
   page_refers : Refers (length nodes) (articles nodes) parts (numbers_from 0 (log_count shown) ++ []) (((articles nodes ++ []) ++ []) ++ [])
-      (page_sections (verdict_of nodes) (has_timeline facts) (failed_section (root_failures nodes))
-      (timeline_found logs nodes facts (is_timed facts) facts.window))
-  unfolding page_parts
+      (view_sections view)
+  unfolding page_parts top_parts footer_parts summary_parts
   page_refers =
       let positions = have nodes request.times in
-      then_refer (top_refers nodes facts positions request.title logs (verdict_of nodes)
-      (title_text request.title (verdict_of nodes) (heading_of nodes)) (heading_of nodes))
-      (then_refer (then_refer (timeline_refers lead (length nodes)
-      (articles nodes) logs nodes facts positions.callers positions.recipes positions.marks)
-      (tree_refers logs (options_of request) nodes shown))
-      (bare_refers (footer_parts request.dir (command request.dir (options_of request) requested) (length nodes))
-      (footer_bare request.dir (command request.dir (options_of request) requested) (length nodes))))
+      let rows = rows_below positions in
+      let refers = λ (template : Template) (is : template_only template ≡ true).
+      template_refers (length nodes) (articles nodes) template is view rows in
+      let timeline = timeline_refers lead (length nodes) (articles nodes) view rows positions.callers positions.recipes positions.marks in
+      then_refer (then_refer (refers HEAD refl)
+      (then_refer (refers HEADER refl) (then_refer (failed_refers logs nodes) (refers SECTION refl))))
+      (then_refer (then_refer timeline (tree_refers logs (options_of request) nodes shown)) (refers FOOTER refl))
 
   pub page_target_ids : target_ids parts ≡ numbers_from 0 (length nodes)
   page_target_ids =
@@ -228,25 +220,24 @@ module _ (have : HavePositions) (lead : BarsLead) (keep : KeepLogs) (request : R
 
   pub page_section_links : section_links parts ≡ section_ids parts
   page_section_links =
-      in_sections section_link section_link_part parts ∙ ap section_links page_refers.sections_are ∙ sections_linked logs nodes facts
+      in_sections section_link section_link_part parts ∙ ap section_links page_refers.sections_are ∙ sections_linked view
       ∙ sym (ap section_ids page_refers.sections_are) ∙ sym (in_sections section_id section_id_part parts)
 
-  charts_are : charts parts ≡ charts (timeline_found logs nodes facts (is_timed facts) facts.window)
+  charts_are : charts parts ≡ charts (timeline_found view (is_timed facts) facts.window)
   charts_are =
       in_sections part_chart chart_part parts ∙ ap charts page_refers.sections_are
-      ∙ charts_found (verdict_of nodes) (has_timeline facts) (nat_lt 0 (length (root_failures nodes)))
-      (timeline_found logs nodes facts (is_timed facts) facts.window)
+      ∙ charts_found (nat_lt 0 (length (root_failures nodes))) (is_some facts.window) (is_timed facts)
+      (timeline_found view (is_timed facts) facts.window)
 
   pub page_has_chart : (window : Window) → facts.window ≡ Some window → is_timed facts ≡ true
       → charts parts ≡ page_chart request logs requested window ∷ []
-  page_has_chart window is timed = charts_are ∙ ap (λ (w : Option Window). charts (timeline_found logs nodes facts (is_timed facts) w)) is
-      ∙ ap (λ (b : Bool). charts (timeline_found logs nodes facts b (Some window))) timed
+  page_has_chart window is timed = charts_are ∙ ap (λ (w : Option Window). charts (timeline_found view (is_timed facts) w)) is
+      ∙ ap (λ (b : Bool). charts (timeline_found view b (Some window))) timed
 
   pub page_has_no_chart : has_timeline facts ≡ false → charts parts ≡ []
   page_has_no_chart none = charts_are ∙ by facts.window (is_timed facts) none
     where
-      by : (window : Option Window) (timed : Bool) → (is_some window && timed) ≡ false
-          → charts (timeline_found logs nodes facts timed window) ≡ []
+      by : (window : Option Window) (timed : Bool) → (is_some window && timed) ≡ false → charts (timeline_found view timed window) ≡ []
       by None timed none = refl
       by (Some window) true none = absurd (cc)
       by (Some window) false none = refl

@@ -1,37 +1,31 @@
--- A page that is written in three stages: up to the tree, the tree, and the end.
+-- Parts that are written in stages, and what templates say.
 use Rattle.std.proofs.Common.{◌≡◌, ℕ, ◌+◌, ◌≤◌, List, ◌++◌, Option, Result, Ok, Err, length, take, min, refl, sym, ◌∙◌, ap, subst, arith}
 use Rattle.std.specs.Prelude.{IsErrAnd}
 use Rattle.std.specs.List.{flat_map}
 use Rattle.std.proofs.lemmas.Grind.{flat_map-append}
 use Rattle.std.proofs.lemmas.List.{take-append-le, take_min}
 use Rattle.std.proofs.Math.Seq.{take-append-add}
-use Rattle.redo_device.specs.declared.feed.Broken.{Broken}
-use Rattle.redo_device.specs.Sink.{Output, append_output, Writes}
+use Rattle.redo_device.specs.Sink.{Output, append_output}
 use Rattle.redo_device.proofs.WritesLemmas.{append_output-append_output, then, stops, append_nothing}
-use Rattle.redo_html.specs.Parts.{part_html}
-use Rattle.redo_logs.specs.Logs.{Log}
+use Rattle.redo_html.specs.Parts.{Part, part_html}
 use Rattle.redo_view.specs.declared.form.FormFault.{FormFault}
 use Rattle.redo_view.specs.declared.form.FormFault.TheVariants.{Write, OutOfMemory}
-use Rattle.redo_options.specs.declared.options.Options.{Options}
 use Rattle.redo_view.specs.Form.{FormWrites}
+use Rattle.redo_logs.specs.Logs.{Log}
+use Rattle.redo_options.specs.declared.options.Options.{Options}
 use Rattle.redo_outline.specs.declared.node.Node.{Node}
 use Rattle.redo_page.specs.declared.page.Texts.{Texts}
 use Rattle.redo_page.specs.Command.{command}
-use Rattle.redo_page.specs.Frame.{footer_parts}
-use Rattle.redo_page.specs.Verdict.{title_text, verdict_of}
-use Rattle.redo_summary.specs.Summary.{Facts, summary_of}
-use Rattle.redo_page.specs.Page.{Request, body_parts, heading_of, options_of, page_facts, page_html, page_outline, page_parts, top_parts, top_parts_of}
+use Rattle.redo_page.specs.Failed.{is_dependent_failure, positions_where}
+use Rattle.redo_page.specs.Page.{Request, build_view, options_of, page_outline, page_view}
 use Rattle.redo_page.specs.Private.PageTexts.{AreTexts}
+use Rattle.redo_page.specs.Scope.{View}
+use Rattle.redo_page.specs.Tree.{no_node, root_failures}
+use Rattle.redo_summary.specs.Summary.{Facts, summary_of}
 
 -- ---- stages
 
 module _ (before : Option Output) where
-  -- The first stage failed.
-  pub first_failed : (after : Option Output) (stage rest text : List ℕ) (broken : Broken) → stage ++ rest ≡ text
-      → Writes before after stage (Err broken) → FormWrites before after text (Err Write)
-  first_failed after stage rest text broken is wrote =
-      subst (λ t. FormWrites before after t (Err Write)) is (stops before after stage rest broken (Err broken) refl wrote)
-
   -- A later stage failed, or the last one was written.
   pub after_stage : (middle after : Option Output) (front stage : List ℕ) (done : Result (Unit {0}) FormFault)
       → middle ≡ append_output before front 0 → FormWrites middle after stage done → FormWrites before after (front ++ stage) done
@@ -60,58 +54,58 @@ no_memory output text (Ok done) is = absurd is
 no_memory output text (Err Write) is = absurd (cc)
 no_memory output text (Err OutOfMemory) is = (0, append_nothing output)
 
--- ---- the three stages of a page
+-- ---- parts in stages
 
-module _ (request : Request) (logs : List Log) (requested : List (List ℕ)) (texts : Texts) where
-  abbrev pub top_html : List Node → Facts → List ℕ
-  top_html nodes facts = flat_map part_html
-      (top_parts_of request.title logs texts.verdict texts.title.items texts.heading.items nodes facts)
+-- The first stage failed.
+pub stage_fails : (before after : Option Output) (first second : List Part) (fault : FormFault)
+    → FormWrites before after (flat_map part_html first) (Err fault)
+    → FormWrites before after (flat_map part_html (first ++ second)) (Err fault)
+stage_fails before after first second fault wrote =
+    subst (λ text. FormWrites before after text (Err fault)) (sym (flat_map-append part_html first second))
+    (stage_stops before after (flat_map part_html first) (flat_map part_html second) fault wrote)
 
-  abbrev pub body_html : Options → List Node → Facts → List ℕ
-  body_html options outline facts = flat_map part_html (body_parts logs options request.max_bytes requested outline facts)
+-- The second stage failed, or was written.
+pub next_stage : (before middle after : Option Output) (first second : List Part) (done : Result (Unit {0}) FormFault)
+    → FormWrites before middle (flat_map part_html first) (Ok tt) → FormWrites middle after (flat_map part_html second) done
+    → FormWrites before after (flat_map part_html (first ++ second)) done
+next_stage before middle after first second done wrote more =
+    subst (λ text. FormWrites before after text done) (sym (flat_map-append part_html first second))
+    (after_stage before middle after (flat_map part_html first) (flat_map part_html second) done wrote more)
 
-  abbrev pub bottom_html : ℕ → List ℕ
-  bottom_html count = flat_map part_html (footer_parts request.dir texts.command.items count)
+-- ---- what templates say
 
-  -- The page is its three stages.
-  stages_of_page : AreTexts request (options_of request) requested (page_outline request logs requested) texts
-      → top_html (page_outline request logs requested) (page_facts request logs requested)
-      ++ (body_html (options_of request) (page_outline request logs requested) (page_facts request logs requested)
-      ++ bottom_html (length (page_outline request logs requested))) ≡ page_html request logs requested
-  unfolding page_parts
-  stages_of_page are =
-      let nodes = page_outline request logs requested in
-      let facts = page_facts request logs requested in
-      let top_is : top_parts_of request.title logs texts.verdict texts.title.items texts.heading.items nodes facts
-      ≡ top_parts request.title logs nodes facts =
-      ap (λ v. top_parts_of request.title logs v texts.title.items texts.heading.items nodes facts) are.verdict
-      ∙ ap (λ t. top_parts_of request.title logs (verdict_of nodes) t texts.heading.items nodes facts) are.title
-      ∙ ap (λ h. top_parts_of request.title logs (verdict_of nodes)
-      (title_text request.title (verdict_of nodes) (heading_of nodes)) h nodes facts) are.heading in
-      let last = footer_parts request.dir (command request.dir (options_of request) requested) (length nodes) in
-      let last_is : footer_parts request.dir texts.command.items (length nodes) ≡ last =
-      ap (λ c. footer_parts request.dir c (length nodes)) are.command in
-      let tree = body_parts logs (options_of request) request.max_bytes requested nodes facts in
-      ap (λ t. flat_map part_html t ++ (flat_map part_html tree ++ bottom_html (length nodes))) top_is
-      ∙ ap (λ b. flat_map part_html (top_parts request.title logs nodes facts) ++ (flat_map part_html tree ++ flat_map part_html b)) last_is
-      ∙ ap (λ r. flat_map part_html (top_parts request.title logs nodes facts) ++ r) (sym (flat_map-append part_html tree last))
-      ∙ sym (flat_map-append part_html (top_parts request.title logs nodes facts) (tree ++ last))
+module _ (request : Request) (options : Options) (logs : List Log) (requested : List (List ℕ)) (nodes : List Node) (texts : Texts)
+    (facts : Facts) (roots dependents : ℕ) where
+  abbrev pub view_with : View
+  view_with = record {
+    title = request.title;
+    dir = request.dir;
+    verdict = texts.verdict;
+    heading = texts.heading.items;
+    tab = texts.title.items;
+    command = texts.command.items;
+    logs = logs;
+    nodes = nodes;
+    facts = facts;
+    roots = roots;
+    dependents = dependents;
+    rank = record { value = 0; position = 0 };
+    largest = 0;
+    node = no_node;
+  }
 
-  pub page_splits : (options : Options) (outline nodes : List Node) (facts : Facts) → facts ≡ summary_of nodes request.times
-      → options ≡ options_of request → outline ≡ page_outline request logs requested → nodes ≡ outline
-      → AreTexts request options requested nodes texts
-      → top_html nodes facts ++ (body_html options outline facts ++ bottom_html (length nodes)) ≡ page_html request logs requested
-  page_splits options outline nodes facts facts_are options_are outline_is nodes_are are =
-      let nodes_is = nodes_are ∙ outline_is in
-      let texts_are = subst (λ n. AreTexts request (options_of request) requested n texts) nodes_is
-      (subst (λ o. AreTexts request o requested nodes texts) options_are are) in
-      ap (λ f. top_html nodes f ++ (body_html options outline f ++ bottom_html (length nodes))) facts_are
-      ∙ ap (λ n. top_html n (summary_of n request.times)
-      ++ (body_html options outline (summary_of n request.times) ++ bottom_html (length n))) nodes_is
-      ∙ ap (λ o. top_html (page_outline request logs requested) (page_facts request logs requested)
-      ++ (body_html o outline (page_facts request logs requested) ++ bottom_html (length (page_outline request logs requested))))
-      options_are
-      ∙ ap (λ n. top_html (page_outline request logs requested) (page_facts request logs requested)
-      ++ (body_html (options_of request) n (page_facts request logs requested)
-      ++ bottom_html (length (page_outline request logs requested)))) outline_is
-      ∙ stages_of_page texts_are
+  pub view_is : options ≡ options_of request → nodes ≡ page_outline request logs requested → facts ≡ summary_of nodes request.times
+      → AreTexts request options requested nodes texts → roots ≡ length (root_failures nodes)
+      → dependents ≡ length (positions_where is_dependent_failure 0 nodes) → view_with ≡ page_view request logs requested
+  view_is options_are nodes_are facts_are are roots_are dependents_are =
+      (λ i. record view_with {
+        verdict = are.verdict i;
+        heading = are.heading i;
+        tab = are.title i;
+        command = are.command i;
+        facts = facts_are i;
+        roots = roots_are i;
+        dependents = dependents_are i;
+      })
+      ∙ (λ i. build_view request.title request.dir (command request.dir (options_are i) requested) logs (nodes_are i)
+      (summary_of (nodes_are i) request.times))

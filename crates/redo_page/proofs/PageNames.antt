@@ -1,5 +1,5 @@
 -- What a page tells of targets.
-use Rattle.std.proofs.Common.{◌≡◌, ℕ, zero, suc, ◌+◌, List, [], ◌∷◌, ◌++◌, Option, None, Some, length, map, refl, sym, ◌∙◌, ap, subst}
+use Rattle.std.proofs.Common.{◌≡◌, ℕ, zero, suc, ◌+◌, List, [], ◌∷◌, ◌++◌, Option, None, Some, map, refl, sym, ◌∙◌, ap, subst}
 use Rattle.std.specs.List.{AllByRecursion}
 use Rattle.std.proofs.lemmas.List.{append-nil, map-append}
 use Rattle.redo_logs.specs.Logs.{Log, log_number}
@@ -12,19 +12,18 @@ use Rattle.redo_outline.specs.Contents.{Contents, contents_of}
 use Rattle.redo_outline.specs.Contents.Contents.{Nothing, Shown, Opened}
 use Rattle.redo_outline.specs.Facts.{target_status}
 use Rattle.redo_outline.specs.Outline.{log_count, nodes_of, outline_of, times_at, with_times}
-use Rattle.redo_page.specs.Command.{command}
+use Rattle.redo_page.specs.declared.frame.TheConstants.{FOOTER, HEAD, HEADER}
+use Rattle.redo_page.specs.declared.summary.TheConstants.{SECTION}
 use Rattle.redo_page.specs.Laws.{IsOfTarget, TellsItsTarget}
 use Rattle.redo_page.specs.Limits.{tree_limits}
-use Rattle.redo_page.specs.Page.{Request, heading_of, options_of, page_contents, page_events, page_facts, page_outline, page_parts, run_times, top_parts_of}
-use Rattle.redo_page.specs.Verdict.{title_text, verdict_of}
-use Rattle.redo_page.proofs.FailedNames.{failed_tells, summary_tells, timeline_tells}
-use Rattle.redo_page.proofs.FrameIds.{footer_bare, head_bare, header_refers}
-use Rattle.redo_page.proofs.NameLemmas.{Tell, TellHere, Tells, bare_tell, from_here, then_tell, unlinked_tell}
+use Rattle.redo_page.specs.Page.{Request, options_of, page_contents, page_events, page_outline, page_parts, page_view, run_times, top_parts}
+use Rattle.redo_page.specs.Scope.{View}
+use Rattle.redo_page.specs.Summary.{summary_parts}
+use Rattle.redo_page.proofs.FailedNames.{failed_tells, template_tells, timeline_tells}
+use Rattle.redo_page.proofs.NameLemmas.{Tell, TellHere, Tells, from_here, then_tell}
 use Rattle.redo_page.proofs.OpeningLemmas.{AreNamed, ArePlaced, contents_named, nodes_placed, same_placed, target_named, timed_node, trim_named, trim_placed}
 use Rattle.redo_page.proofs.TreeNames.{event_name, tree_tells}
-use Rattle.redo_page.specs.Frame.{head_parts, header_parts, footer_parts}
-use Rattle.redo_page.specs.declared.verdict.Verdict.{Verdict}
-use Rattle.redo_summary.specs.Summary.{Facts}
+use Rattle.redo_page.specs.Frame.{footer_parts}
 use Rattle.redo_summary.specs.Targets.{duration_of, times_of}
 use Rattle.redo_times.specs.declared.times.Times.{Times}
 
@@ -70,22 +69,16 @@ module _ (logs : List Log) (events : List Event) (times : List Times) where
 
 -- ---- parts
 
-top_tells : (title : List ℕ) (logs : List Log) (verdict : Verdict) (title_is heading : List ℕ) (nodes : List Node) (facts : Facts)
-    → Tells logs nodes (top_parts_of title logs verdict title_is heading nodes facts)
-unfolding top_parts_of
-top_tells title logs verdict title_is heading nodes facts =
-    then_tell logs nodes (bare_tell logs nodes (head_parts title_is verdict) (head_bare title_is verdict))
-    (then_tell logs nodes
-    (unlinked_tell logs nodes (header_parts title logs verdict heading nodes facts)
-    (header_refers title logs verdict heading nodes facts))
-    (then_tell logs nodes (failed_tells logs nodes) (summary_tells logs nodes facts)))
+top_tells : (view : View) → Tells view.logs view.nodes (top_parts view)
+unfolding top_parts summary_parts
+top_tells view =
+    then_tell view.logs view.nodes (template_tells HEAD refl view)
+    (then_tell view.logs view.nodes (template_tells HEADER refl view)
+    (then_tell view.logs view.nodes (failed_tells view.logs view.nodes) (template_tells SECTION refl view)))
 
 module _ (request : Request) (logs : List Log) (requested : List (List ℕ)) where
   abbrev nodes : List Node
   nodes = page_outline request logs requested
-
-  abbrev facts : Facts
-  facts = page_facts request logs requested
 
   abbrev events : List Event
   events = page_events request logs requested
@@ -107,18 +100,16 @@ module _ (request : Request) (logs : List Log) (requested : List (List ℕ)) whe
       (append-nil (outline_of logs events))))
 
   page_tells : Tells logs nodes (page_parts request logs requested)
-  unfolding page_parts
+  unfolding page_parts footer_parts
   page_tells =
+      let view = page_view request logs requested in
       let limits = tree_limits logs (options_of request) nodes request.max_bytes in
-      then_tell logs nodes
-      (top_tells request.title logs (verdict_of nodes) (title_text request.title (verdict_of nodes) (heading_of nodes)) (heading_of nodes)
-      nodes facts)
+      then_tell logs nodes (top_tells view)
       (then_tell logs nodes
-      (then_tell logs nodes (timeline_tells logs nodes facts)
+      (then_tell logs nodes (timeline_tells view)
       (tree_tells logs (options_of request) nodes (page_contents request logs requested) (trim_named limits logs [] shown named)
       page_placed))
-      (bare_tell logs nodes (footer_parts request.dir (command request.dir (options_of request) requested) (length nodes))
-      (footer_bare request.dir (command request.dir (options_of request) requested) (length nodes))))
+      (template_tells FOOTER refl view))
 
   all_tell : Tell logs nodes (page_parts request logs requested)
   all_tell = subst (Tell logs nodes) (append-nil (page_parts request logs requested)) (page_tells.before [] tt)

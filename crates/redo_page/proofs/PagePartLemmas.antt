@@ -10,17 +10,14 @@ use Rattle.redo_html.specs.Parts.{Part}
 use Rattle.redo_html.specs.Parts.Part.{MarkupPart, TextPart}
 use Rattle.redo_outline.specs.declared.node.Node.{Node}
 use Rattle.redo_page.specs.declared.labels.TheConstants.{COUNT_NOT_CLOSED, FAILED_WITH_THESE, MORE_FAILED, WHAT_FAILED}
-use Rattle.redo_page.specs.declared.verdict.Verdict.{Verdict}
 use Rattle.redo_page.specs.Failed.{article_parts, is_dependent_failure, failed_parts, is_unclosed, list_parts, more_parts, positions_where, section_parts}
-use Rattle.redo_page.specs.Command.{command}
 use Rattle.redo_page.specs.Frame.{footer_parts, head_parts, header_parts}
-use Rattle.redo_page.specs.Verdict.{title_text, verdict_of}
 use Rattle.redo_page.specs.Laws.{IsPartOf, is_among, page_article, page_tree}
 use Rattle.redo_page.specs.Timeline.{timeline_parts}
-use Rattle.redo_page.specs.Page.{Request, heading_of, options_of, page_facts, page_outline, page_parts, top_parts, top_parts_of}
+use Rattle.redo_page.specs.Page.{Request, page_outline, page_parts, page_view, top_parts}
+use Rattle.redo_page.specs.Scope.{View}
 use Rattle.redo_page.specs.Summary.{summary_parts}
 use Rattle.redo_page.specs.Targets.{parts_if}
-use Rattle.redo_summary.specs.Summary.{Facts}
 use Rattle.redo_page.specs.Tree.{articles, root_failures, max_articles}
 
 whole_part : (parts : List Part) → IsPartOf parts parts
@@ -87,30 +84,25 @@ failed_has_article logs nodes position among = by (root_failures nodes) among
         (section_has_article logs nodes (take max_articles (other ∷ positions)) (drop max_articles (other ∷ positions))
         (positions_where is_dependent_failure 0 nodes) (positions_where is_unclosed 0 nodes) position is)
 
-top_has_article : (title : List ℕ) (logs : List Log) (verdict : Verdict) (title_is heading : List ℕ) (nodes : List Node) (facts : Facts)
-    (position : ℕ) → is_among (articles nodes) position ≡ true
-    → IsPartOf (article_parts logs nodes position) (top_parts_of title logs verdict title_is heading nodes facts)
-unfolding top_parts_of
-top_has_article title logs verdict title_is heading nodes facts position among =
-    part_later (head_parts title_is verdict)
-    (part_later (header_parts title logs verdict heading nodes facts)
-    (part_earlier (summary_parts logs nodes facts) (failed_has_article logs nodes position among)))
+top_has_article : (view : View) (position : ℕ) → is_among (articles view.nodes) position ≡ true
+    → IsPartOf (article_parts view.logs view.nodes position) (top_parts view)
+unfolding top_parts
+top_has_article view position among =
+    part_later (head_parts view)
+    (part_later (header_parts view) (part_earlier (summary_parts view) (failed_has_article view.logs view.nodes position among)))
 
 module _ (request : Request) (logs : List Log) (requested : List (List ℕ)) where
-  abbrev footer : List Part
-  footer = footer_parts request.dir (command request.dir (options_of request) requested) (length (page_outline request logs requested))
+  abbrev view : View
+  view = page_view request logs requested
 
   pub page_has_tree : IsPartOf (page_tree request logs requested) (page_parts request logs requested)
   unfolding page_parts
-  page_has_tree = part_later (top_parts request.title logs (page_outline request logs requested) (page_facts request logs requested))
-      (part_earlier footer (part_later (timeline_parts logs (page_outline request logs requested) (page_facts request logs requested))
-      (whole_part (page_tree request logs requested))))
+  page_has_tree =
+      part_later (top_parts view)
+      (part_earlier (footer_parts view) (part_later (timeline_parts view) (whole_part (page_tree request logs requested))))
 
   pub page_has_article : (position : ℕ) → is_among (articles (page_outline request logs requested)) position ≡ true
       → IsPartOf (page_article request logs requested position) (page_parts request logs requested)
   unfolding page_parts
   page_has_article position among =
-      let nodes = page_outline request logs requested in
-      part_earlier ((timeline_parts logs nodes (page_facts request logs requested) ++ page_tree request logs requested) ++ footer)
-      (top_has_article request.title logs (verdict_of nodes) (title_text request.title (verdict_of nodes) (heading_of nodes))
-      (heading_of nodes) nodes (page_facts request logs requested) position among)
+      part_earlier ((timeline_parts view ++ page_tree request logs requested) ++ footer_parts view) (top_has_article view position among)

@@ -30,8 +30,7 @@ use Rattle.redo_page.specs.Command.{is_safe}
 use Rattle.redo_page.specs.Frame.{footer_parts}
 use Rattle.redo_page.specs.Summary.{summary_parts}
 use Rattle.redo_page.specs.Laws.{article_ids, article_links, log_bytes, positioned_lines}
-use Rattle.redo_page.specs.Page.{Request, body_parts, options_of, page_contents, page_events, page_facts, page_html, page_outline, page_parts, request_of, run_times, top_parts_of, tree_contents}
-use Rattle.redo_summary.specs.Summary.{Facts}
+use Rattle.redo_page.specs.Page.{Request, body_parts, options_of, page_contents, page_events, page_facts, page_html, page_outline, page_parts, page_view, request_of, run_times, top_parts, tree_contents}
 use Rattle.redo_timeline.specs.declared.span.Window.{Window}
 use Rattle.redo_units.specs.Dates as dates
 use Rattle.redo_units.specs.Durations.{duration_words}
@@ -313,7 +312,7 @@ made_page :
     ∷ tag (markup.TargetItem 1) ∷ name (codes "b")
     (tag markup.EndItem ∷ tag markup.EndUnordered ∷ tag markup.EndDetails ∷ tag markup.EndItem
     ∷ footer (NumberPart 2 ∷ words (codes " logs in ") ∷ end (codes "redo-log -r --dir=d a"))))))))))
-unfolding page_parts top_parts_of summary_parts size_words footer_parts failed_parts is_safe number_text digits show_log show_log_within
+unfolding page_parts top_parts summary_parts size_words footer_parts failed_parts is_safe number_text digits show_log show_log_within
 made_page = refl
 
 abbrev badge : List Part → List Part
@@ -344,7 +343,7 @@ failed_page :
     ∷ tag markup.NoteItem ∷ tag (markup.OutputLink 0) ∷ words (codes "What it printed is shown above") ∷ tag markup.EndLink
     ∷ tag markup.EndItem ∷ tag markup.EndUnordered ∷ tag markup.EndDetails ∷ tag markup.EndItem
     ∷ footer (NumberPart 1 ∷ words (codes " log in ") ∷ end (codes "redo-log -r -u --debug-locks --dir=d a"))))))))))))))
-unfolding page_parts top_parts_of summary_parts size_words footer_parts failed_parts section_parts list_parts more_parts article_parts article_of path_parts in_tree_parts output_parts whole_parts is_safe number_text digits show_log show_log_within
+unfolding page_parts top_parts summary_parts size_words footer_parts failed_parts section_parts list_parts more_parts article_parts article_of path_parts in_tree_parts output_parts whole_parts is_safe number_text digits show_log show_log_within
 failed_page = refl
 
 -- The parts of these pages in short: where what begins, the title, the first words, and the command.
@@ -365,14 +364,14 @@ made_milestones :
     flat_map milestone (page_parts (request (codes "t") false false) made (codes "a" ∷ []))
     ≡ markup.Head ∷ markup.Header ∷ markup.Nav ∷ markup.Main ∷ markup.SummarySection ∷ markup.TreeSection ∷ markup.Footer
     ∷ markup.EndHtml ∷ []
-unfolding page_parts top_parts_of summary_parts size_words footer_parts failed_parts is_safe number_text digits show_log show_log_within
+unfolding page_parts top_parts summary_parts size_words footer_parts failed_parts is_safe number_text digits show_log show_log_within
 made_milestones = refl
 
 failed_milestones :
     flat_map milestone (page_parts (request [] true true) failed (codes "a" ∷ []))
     ≡ markup.Head ∷ markup.Header ∷ markup.Nav ∷ markup.Main ∷ markup.FailedSection ∷ markup.SummarySection ∷ markup.TreeSection
     ∷ markup.Footer ∷ markup.EndHtml ∷ []
-unfolding page_parts top_parts_of summary_parts size_words footer_parts failed_parts section_parts list_parts more_parts article_parts article_of path_parts in_tree_parts output_parts whole_parts is_safe number_text digits show_log show_log_within
+unfolding page_parts top_parts summary_parts size_words footer_parts failed_parts section_parts list_parts more_parts article_parts article_of path_parts in_tree_parts output_parts whole_parts is_safe number_text digits show_log show_log_within
 failed_milestones = refl
 
 -- Two targets that failed. The second one ended first.
@@ -387,7 +386,7 @@ both_ended = record (request [] false false) { times = begun ∷ ran 17958292110
 failures_in_order :
     (article_ids (page_parts both_ended both_failed (codes "a" ∷ [])) ≡ 2 ∷ 1 ∷ [])
     × (article_links (page_parts both_ended both_failed (codes "a" ∷ [])) ≡ 2 ∷ 1 ∷ [])
-unfolding page_parts top_parts_of summary_parts size_words tenths_words duration_words dates.date_text_of dates.date_parts dates.period_of footer_parts failed_parts section_parts list_parts more_parts article_row row_parts cause_of_node cause_parts article_parts article_of path_parts in_tree_parts output_parts nothing_parts is_safe number_text digits show_log show_log_within
+unfolding page_parts top_parts summary_parts size_words tenths_words duration_words dates.date_text_of dates.date_parts dates.period_of footer_parts failed_parts section_parts list_parts more_parts article_row row_parts cause_of_node cause_parts article_parts article_of path_parts in_tree_parts output_parts nothing_parts is_safe number_text digits show_log show_log_within
 failures_in_order = (refl, refl)
 
 -- If most times are known, there is a timeline.
@@ -395,15 +394,12 @@ timed_milestones :
     flat_map milestone (page_parts timed made (codes "a" ∷ []))
     ≡ markup.Head ∷ markup.Header ∷ markup.Nav ∷ markup.Main ∷ markup.SummarySection ∷ markup.TimelineSection ∷ markup.TreeSection
     ∷ markup.Footer ∷ markup.EndHtml ∷ []
-unfolding page_parts top_parts_of summary_parts size_words tenths_words duration_words dates.date_text_of dates.date_parts dates.period_of footer_parts failed_parts is_safe number_text digits show_log show_log_within
+unfolding page_parts top_parts summary_parts size_words tenths_words duration_words dates.date_text_of dates.date_parts dates.period_of footer_parts failed_parts is_safe number_text digits show_log show_log_within
 timed_milestones = refl
 
-abbrev facts : Facts
-facts = page_facts timed made (codes "a" ∷ [])
-
--- The page of these facts has a timeline, too, and the tree of the contents.
+-- The timeline is followed by the tree of the contents.
 body_is :
-    flat_map milestone (body_parts made (options_of timed) 0 (codes "a" ∷ []) (page_outline timed made (codes "a" ∷ [])) facts)
+    flat_map milestone (body_parts (page_view timed made (codes "a" ∷ [])) (options_of timed) 0 (codes "a" ∷ []))
     ≡ markup.TimelineSection ∷ markup.TreeSection ∷ []
 unfolding duration_words show_log show_log_within
 body_is = refl
@@ -416,14 +412,14 @@ chart_count part = 0
 charts_are :
     (sum_by chart_count (page_parts timed made (codes "a" ∷ [])) ≡ 1)
     × (sum_by chart_count (page_parts (request [] false false) made (codes "a" ∷ [])) ≡ 0)
-unfolding page_parts top_parts_of summary_parts size_words tenths_words duration_words dates.date_text_of dates.date_parts dates.period_of footer_parts failed_parts is_safe number_text digits show_log show_log_within
+unfolding page_parts top_parts summary_parts size_words tenths_words duration_words dates.date_text_of dates.date_parts dates.period_of footer_parts failed_parts is_safe number_text digits show_log show_log_within
 charts_are = (refl, refl)
 
 -- The tree of a page shows these lines.
 limited_page :
     (length (log_bytes (page_parts (limited 0) long (codes "a" ∷ []))) ≡ 5005)
     × (length (log_bytes (page_parts (limited 1) long (codes "a" ∷ []))) ≡ 4004)
-unfolding page_parts top_parts_of summary_parts size_words footer_parts failed_parts is_safe number_text digits show_log show_log_within
+unfolding page_parts top_parts summary_parts size_words footer_parts failed_parts is_safe number_text digits show_log show_log_within
 limited_page = (refl, refl)
 
 abbrev title_of : Part → List (List ℕ)
@@ -436,25 +432,25 @@ words_of part = []
 
 title_is : flat_map title_of (page_parts (request (codes "t") false false) made (codes "a" ∷ []))
     ≡ (0xE2 ∷ 0x9C ∷ 0x93 ∷ (codes " t " ++ 0xC2 ∷ 0xB7 ∷ codes " 2 targets made, none failed")) ∷ []
-unfolding page_parts top_parts_of summary_parts size_words footer_parts failed_parts is_safe number_text digits show_log show_log_within
+unfolding page_parts top_parts summary_parts size_words footer_parts failed_parts is_safe number_text digits show_log show_log_within
 title_is = refl
 
 made_words :
     take 6 (flat_map words_of (page_parts (request (codes "t") false false) made (codes "a" ∷ [])))
     ≡ (0xE2 ∷ 0x9C ∷ 0x93 ∷ []) ∷ codes " " ∷ codes "2 targets made, none failed" ∷ codes "t" ∷ codes "a" ∷ codes "Summary" ∷ []
-unfolding page_parts top_parts_of summary_parts size_words footer_parts failed_parts is_safe number_text digits show_log show_log_within
+unfolding page_parts top_parts summary_parts size_words footer_parts failed_parts is_safe number_text digits show_log show_log_within
 made_words = refl
 
 failed_words :
     take 3 (flat_map words_of (page_parts (request [] true true) failed (codes "a" ∷ [])))
     ≡ (0xE2 ∷ 0x9C ∷ 0x97 ∷ []) ∷ codes " " ∷ codes "1 of 1 target failed" ∷ []
-unfolding page_parts top_parts_of summary_parts size_words footer_parts failed_parts section_parts list_parts more_parts article_parts article_of path_parts in_tree_parts output_parts whole_parts is_safe number_text digits show_log show_log_within
+unfolding page_parts top_parts summary_parts size_words footer_parts failed_parts section_parts list_parts more_parts article_parts article_of path_parts in_tree_parts output_parts whole_parts is_safe number_text digits show_log show_log_within
 failed_words = refl
 
 command_is :
     filter (λ text. starts_with nat_eq text (codes "redo-log -r"))
     (flat_map words_of (page_parts (request [] true true) failed (codes "a" ∷ []))) ≡ codes "redo-log -r -u --debug-locks --dir=d a" ∷ []
-unfolding page_parts top_parts_of summary_parts size_words footer_parts failed_parts section_parts list_parts more_parts article_parts article_of path_parts in_tree_parts output_parts whole_parts is_safe number_text digits show_log show_log_within
+unfolding page_parts top_parts summary_parts size_words footer_parts failed_parts section_parts list_parts more_parts article_parts article_of path_parts in_tree_parts output_parts whole_parts is_safe number_text digits show_log show_log_within
 command_is = refl
 
 -- A page has the bytes of its parts.
@@ -462,5 +458,5 @@ page_begins :
     bytes_eq (take 42 (page_html (request [] false false) [] []))
     (codes "<!doctype html><html lang=\"en\"><head><meta")
     ≡ true
-unfolding page_parts top_parts_of summary_parts size_words footer_parts failed_parts is_safe style_sheet symbols_after first_symbol symbol_len is_sequence sequence_len sequence_numbers first_code_point code_point_len is_unprintable notation unprintable_text number_text digits html_from show_log show_log_within
+unfolding page_parts top_parts summary_parts size_words footer_parts failed_parts is_safe style_sheet symbols_after first_symbol symbol_len is_sequence sequence_len sequence_numbers first_code_point code_point_len is_unprintable notation unprintable_text number_text digits html_from show_log show_log_within
 page_begins = refl

@@ -12,11 +12,11 @@ use Rattle.redo_outline.specs.Laws.{AllSumUp}
 use Rattle.redo_outline.specs.Outline.{with_times}
 use Rattle.redo_page.specs.declared.verdict.Verdict.{Verdict}
 use Rattle.redo_page.specs.declared.verdict.Verdict.TheVariants.{Failed, Unfinished, Made}
-use Rattle.redo_page.specs.Command.{command}
 use Rattle.redo_page.specs.Failed.{failed_parts}
 use Rattle.redo_page.specs.Frame.{footer_parts, head_parts, header_parts}
 use Rattle.redo_page.specs.Laws.{IsRed, first, says_failed, title_in}
-use Rattle.redo_page.specs.Page.{Request, body_parts, heading_of, options_of, page_facts, page_outline}
+use Rattle.redo_page.specs.Page.{Request, body_parts, options_of, page_view}
+use Rattle.redo_page.specs.Scope.{View}
 use Rattle.redo_page.specs.Summary.{summary_parts}
 use Rattle.redo_page.specs.Tree.{failure_cmp, has_failed, root_failures, root_failures_from}
 use Rattle.redo_page.specs.Verdict.{is_unfinished, title_text, verdict_of}
@@ -81,41 +81,35 @@ verdict_is times nodes sums =
     ap (λ (failed : Bool). verdict_if failed (list_any is_unfinished (map (with_times times) nodes)))
     (failures_some (map (with_times times) nodes) (timed_tell times nodes (tell nodes sums)))
 
--- A page that begins with this head.
-abbrev page_of : Verdict → List ℕ → List ℕ → List Part → List Part
-page_of verdict title heading rest = head_parts (title_text title verdict heading) verdict ++ rest
+-- A page that begins with the head of a build with this verdict.
+abbrev page_of : View → List Part → Verdict → List Part
+page_of view rest verdict = head_parts (record view { verdict = verdict; tab = title_text view.title verdict view.heading }) ++ rest
 
-pub red_if : (failed unfinished : Bool) (verdict : Verdict) (title heading : List ℕ) (rest : List Part)
-    → verdict ≡ verdict_if failed unfinished → failed ≡ true → IsRed (page_of verdict title heading rest)
-red_if failed unfinished verdict title heading rest is failing =
-    subst (λ (v : Verdict). IsRed (page_of v title heading rest)) (sym (is ∙ ap (λ (b : Bool). verdict_if b unfinished) failing)) refl
+module _ (failed unfinished : Bool) (view : View) (rest : List Part) (verdict : Verdict) (is : verdict ≡ verdict_if failed unfinished) where
+  pub red_if : failed ≡ true → IsRed (page_of view rest verdict)
+  red_if failing =
+      subst (λ (v : Verdict). IsRed (page_of view rest v)) (sym (is ∙ ap (λ (b : Bool). verdict_if b unfinished) failing)) refl
 
-pub red_only : (failed unfinished : Bool) (verdict : Verdict) (title heading : List ℕ) (rest : List Part)
-    → verdict ≡ verdict_if failed unfinished → failed ≡ false → IsRed (page_of verdict title heading rest) → ⊥
-red_only failed unfinished verdict title heading rest is none red =
-    by unfinished (subst (λ (v : Verdict). IsRed (page_of v title heading rest)) (is ∙ ap (λ (b : Bool). verdict_if b unfinished) none) red)
-  where
-    by : (unfinished : Bool) → IsRed (page_of (if unfinished then Unfinished else Made) title heading rest) → ⊥
-    by true red = absurd (cc)
-    by false red = absurd (cc)
+  pub red_only : failed ≡ false → IsRed (page_of view rest verdict) → ⊥
+  red_only none red =
+      by unfinished (subst (λ (v : Verdict). IsRed (page_of view rest v)) (is ∙ ap (λ (b : Bool). verdict_if b unfinished) none) red)
+    where
+      by : (unfinished : Bool) → IsRed (page_of view rest (if unfinished then Unfinished else Made)) → ⊥
+      by true red = absurd (cc)
+      by false red = absurd (cc)
 
-pub title_if : (failed unfinished : Bool) (verdict : Verdict) (title heading : List ℕ) (rest : List Part)
-    → verdict ≡ verdict_if failed unfinished → says_failed (first (flat_map title_in (page_of verdict title heading rest))) ≡ failed
-title_if failed unfinished verdict title heading rest is =
-    ap (λ (v : Verdict). says_failed (first (flat_map title_in (page_of v title heading rest)))) is ∙ by failed unfinished
-  where
-    by : (failed unfinished : Bool)
-        → says_failed (first (flat_map title_in (page_of (verdict_if failed unfinished) title heading rest))) ≡ failed
-    by true unfinished = refl
-    by false true = refl
-    by false false = refl
+  pub title_is : says_failed (first (flat_map title_in (page_of view rest verdict))) ≡ failed
+  title_is = ap (λ (v : Verdict). says_failed (first (flat_map title_in (page_of view rest v)))) is ∙ by failed unfinished
+    where
+      by : (failed unfinished : Bool)
+          → says_failed (first (flat_map title_in (page_of view rest (verdict_if failed unfinished)))) ≡ failed
+      by true unfinished = refl
+      by false true = refl
+      by false false = refl
 
 -- What follows the head of a page.
 abbrev pub page_rest : Request → List Log → List (List ℕ) → List Part
 page_rest request logs requested =
-    let nodes = page_outline request logs requested in
-    let facts = page_facts request logs requested in
-    (header_parts request.title logs (verdict_of nodes) (heading_of nodes) nodes facts
-    ++ (failed_parts logs nodes ++ summary_parts logs nodes facts))
-    ++ (body_parts logs (options_of request) request.max_bytes requested nodes facts
-    ++ footer_parts request.dir (command request.dir (options_of request) requested) (length nodes))
+    let view = page_view request logs requested in
+    (header_parts view ++ (failed_parts logs view.nodes ++ summary_parts view))
+    ++ (body_parts view (options_of request) request.max_bytes requested ++ footer_parts view)

@@ -9,8 +9,9 @@ use Rattle.redo_html.specs.Parts.Part.{MarkupPart, MeterPart, TextPart, NumberPa
 use Rattle.redo_logs.specs.declared.log_state.LogState.TheVariants.{Ended}
 use Rattle.redo_logs.specs.Logs.{Log}
 use Rattle.redo_outline.specs.declared.node.Node.{Node}
-use Rattle.redo_page.specs.Scope.{known_count, largest_of, meter_of, shown_longest}
-use Rattle.redo_page.specs.Summary.{build_view, summary_parts}
+use Rattle.redo_page.specs.Scope.{View, known_count, largest_of, meter_of, shown_longest}
+use Rattle.redo_page.specs.Page.{build_view}
+use Rattle.redo_page.specs.Summary.{summary_parts}
 use Rattle.redo_page.specs.Template.{nothing, tile_end, tile_start}
 use Rattle.redo_page.specs.Words.{word_part, words_parts}
 use Rattle.redo_summary.specs.declared.rank.Rank.{Rank}
@@ -91,6 +92,12 @@ known = record {
 abbrev few : Facts
 few = record known { callers = []; marks = span 0 ∷ [] }
 
+abbrev view : Facts → View
+view facts = build_view [] [] [] logs nodes facts
+
+abbrev summary : Facts → List Part
+summary facts = summary_parts (view facts)
+
 -- ---- numbers with units
 
 words_are :
@@ -128,7 +135,7 @@ all_tiles rest =
 
 -- In hundredths of a percent, rounded down. Ten thousand times a value is at most 2^64 - 1.
 abbrev width : ℕ → ℕ → ℕ
-width value largest = meter_of (record (build_view logs nodes known) { rank = rank value 0; largest = largest })
+width value largest = meter_of (record (view known) { rank = rank value 0; largest = largest })
 
 widths_are :
     (width 10 10 ≡ 10000) × (width 5 10 ≡ 5000) × (width 1 3 ≡ 3333) × (width 0 0 ≡ 0) × (width 2 0 ≡ 20000) × (width 0 7 ≡ 0)
@@ -200,8 +207,8 @@ section rest =
     ∷ tag markup.DescriptionList ∷ rest
 
 summary_is :
-    (summary_parts logs nodes known ≡ section (all_tiles (tag markup.EndDescriptionList ∷ both_tables (tag markup.EndSection ∷ []))))
-    × (summary_parts logs nodes unknown
+    (summary known ≡ section (all_tiles (tag markup.EndDescriptionList ∷ both_tables (tag markup.EndSection ∷ []))))
+    × (summary unknown
     ≡ section
     (tile_of (codes "Targets") (number 3 ∷ [])
     (tile_of (codes "Failed") (number 1 ∷ words (codes ", and ") ∷ number 1 ∷ words (codes " above") ∷ [])
@@ -214,7 +221,7 @@ summary_is = (refl, refl)
 
 -- The section's heading, and the number of targets, of those that failed, and of those above.
 summary_begins :
-    take 22 (summary_parts logs nodes unknown)
+    take 22 (summary unknown)
     ≡ section
     (tile_of (codes "Targets") (number 3 ∷ [])
     (tag markup.Div ∷ tag markup.Term ∷ words (codes "Failed") ∷ tag markup.EndTerm ∷ tag markup.Description ∷ number 1
@@ -232,7 +239,7 @@ milestone (MarkupPart markup.EndSection) = markup.EndSection ∷ []
 milestone part = []
 
 abbrev milestones : Facts → List Markup
-milestones facts = flat_map milestone (summary_parts logs nodes facts)
+milestones facts = flat_map milestone (summary facts)
 
 milestones_are :
     (milestones known ≡ markup.EndDescriptionList ∷ markup.Columns ∷ markup.Table ∷ markup.Table ∷ markup.EndSection ∷ [])
@@ -251,7 +258,7 @@ words_of part = []
 
 -- A build of which the times of one target of three are unknown, and in which nothing failed with another target.
 few_words_are :
-    flat_map words_of (summary_parts (log (codes "a") ∷ []) (node 0 None (Some (pos 1)) false ∷ []) (record few { warned = [] }))
+    flat_map words_of (summary_parts (build_view [] [] [] (log (codes "a") ∷ []) (node 0 None (Some (pos 1)) false ∷ []) (record few { warned = [] })))
     ≡ codes "Summary" ∷ codes "Targets" ∷ codes "Failed" ∷ codes "Lines with warning:" ∷ codes "Logs" ∷ codes " byte" ∷ [] ∷ []
     ∷ codes "Took" ∷ codes " min " ∷ codes " s"
     ∷ codes "There is no timeline: the logs of " ∷ codes " of " ∷ codes " targets do not say when they began, or when they ended." ∷ []
@@ -266,7 +273,7 @@ values_of part = []
 
 -- 1 target failed, 7 lines have warnings, 1 byte, 1 min 30 s, and the logs of 1 of 3 targets say too little.
 few_values_are :
-    flat_map values_of (summary_parts (log (codes "a") ∷ []) (node 0 None (Some (pos 1)) false ∷ []) (record few { warned = [] }))
+    flat_map values_of (summary_parts (build_view [] [] [] (log (codes "a") ∷ []) (node 0 None (Some (pos 1)) false ∷ []) (record few { warned = [] })))
     ≡ 1 ∷ 1 ∷ 7 ∷ 1 ∷ 1 ∷ 3 ∷ 0 ∷ 1 ∷ 3 ∷ []
 unfolding summary_parts duration_words size_words tenths_words
 few_values_are = refl
@@ -274,7 +281,7 @@ few_values_are = refl
 -- 3 targets, of which 1 failed and 1 with it; 7 lines with warnings, 1 byte, 1 min 30 s, in all 2 min 05 s, 1.3 and 2 at once. Status 2,
 -- 1 min 00 s; 5.00 s; and 8 lines with warnings.
 known_values_are :
-    flat_map values_of (summary_parts logs nodes known)
+    flat_map values_of (summary known)
     ≡ 3 ∷ 1 ∷ 1 ∷ 7 ∷ 1 ∷ 1 ∷ 3 ∷ 0 ∷ 2 ∷ 0 ∷ 5 ∷ 1 ∷ 3 ∷ 2
     ∷ 2 ∷ 1 ∷ 0 ∷ 0 ∷ 10000 ∷ 5 ∷ 0 ∷ 0 ∷ 833 ∷ 8 ∷ 10000 ∷ []
 unfolding summary_parts duration_words size_words tenths_words
@@ -285,7 +292,7 @@ abbrev links_of : Part → List ℕ
 links_of (MarkupPart (markup.TargetLink position)) = position ∷ []
 links_of part = []
 
-links_are : flat_map links_of (summary_parts logs nodes known) ≡ 2 ∷ 1 ∷ 1 ∷ []
+links_are : flat_map links_of (summary known) ≡ 2 ∷ 1 ∷ 1 ∷ []
 unfolding summary_parts duration_words size_words tenths_words
 links_are = refl
 
@@ -294,18 +301,18 @@ warned = record unknown { warned = rank 8 1 ∷ rank 2 2 ∷ [] }
 
 -- The first target has 8 lines with warnings, and the second one, which failed with status 2, a quarter of that.
 warned_are :
-    flat_map values_of (summary_parts logs nodes warned)
+    flat_map values_of (summary warned)
     ≡ 3 ∷ 1 ∷ 1 ∷ 4 ∷ 46 ∷ 0 ∷ 8 ∷ 10000 ∷ 2 ∷ 2 ∷ 2500 ∷ []
 unfolding summary_parts duration_words size_words tenths_words
 warned_are = refl
 
 warned_words_are :
-    flat_map words_of (summary_parts logs nodes warned)
+    flat_map words_of (summary warned)
     ≡ codes "Summary" ∷ codes "Targets" ∷ codes "Failed" ∷ codes ", and " ∷ codes " above" ∷ codes "Lines with warning:" ∷ codes "Logs"
     ∷ codes "." ∷ codes " kB" ∷ codes "Most warnings" ∷ codes "a" ∷ codes "b" ∷ codes " " ∷ codes "exit " ∷ []
     ∷ codes "There is no timeline: the logs do not say when the targets ran." ∷ []
 unfolding summary_parts duration_words size_words tenths_words
 warned_words_are = refl
 
-nothing_is : nothing (record {}) (build_view logs nodes unknown) ≡ []
+nothing_is : nothing (record {}) (view unknown) ≡ []
 nothing_is = refl

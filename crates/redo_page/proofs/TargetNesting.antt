@@ -45,11 +45,6 @@ pub words_nest : {inside : List (List ℕ)} (before after : List Part) (words : 
     → Leads inside after [] → Nest (before ++ (words_parts words ++ after))
 words_nest {inside} before after words first last = then_lead first (then_lead (lead_in inside (nest_each word_part word_nests words)) last)
 
--- Words between tags, of which the last one ends an element that is open.
-pub lead_through : (inside : List (List ℕ)) (before after : List Part) (words : List WordValue) → Leads inside before inside
-    → Leads inside after [] → Leads inside (before ++ (words_parts words ++ after)) []
-lead_through inside before after words first last = then_lead first (then_lead (lead_in inside (nest_each word_part word_nests words)) last)
-
 pub took_nests : (took : Option ℕ) → Nest (took_parts took)
 took_nests None = record { leads = λ around tags. refl }
 took_nests (Some ms) =

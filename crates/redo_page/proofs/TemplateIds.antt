@@ -1,119 +1,217 @@
--- The links of a template.
-use Rattle.std.proofs.Common.{◌≡◌, ℕ, Bool, true, false, List, [], ◌∷◌, Some, refl}
-use Rattle.std.specs.Prelude.{drop, nat_lt, not, if◌then◌else◌}
+-- The links of a template, and the tags of sections in it.
+use Rattle.std.proofs.Common.{◌≡◌, ℕ, ◌/◌, Bool, true, false, List, [], ◌∷◌, ◌++◌, Option, None, Some, refl}
+use Rattle.std.specs.Prelude.{◌||◌, nat_lt, not}
 use Rattle.std.specs.List.{flat_map, list_all}
 use Rattle.std.proofs.lemmas.Bool.{and_parts, lt-ltb}
-use Rattle.redo_logs.specs.Logs.{Log}
 use Rattle.redo_outline.specs.declared.node.Node.{Node}
-use Rattle.redo_html.specs.declared.markup.Markup.TheVariants.{SummarySection}
+use Rattle.redo_html.specs.declared.markup.Markup.{Markup}
+use Rattle.redo_html.specs.declared.markup.Markup.TheVariants.{TargetLink, OutputLink, Article, TargetItem, Details, OpenDetails}
 use Rattle.redo_html.specs.Parts.{Part}
 use Rattle.redo_html.specs.Parts.Part.{MarkupPart}
-use Rattle.redo_page.specs.declared.summary.TheConstants.{SECTION}
 use Rattle.redo_page.specs.declared.scope.Rows.{Rows}
-use Rattle.redo_page.specs.declared.scope.Rows.TheVariants.{Longest, Warned}
-use Rattle.redo_page.specs.declared.template.Around.TheVariants.{If, Each}
+use Rattle.redo_page.specs.declared.template.Around.TheVariants.{If, Unless, Each, EachTarget}
 use Rattle.redo_page.specs.declared.template.Item.{Item}
 use Rattle.redo_page.specs.declared.template.Item.TheVariants as item
-use Rattle.redo_page.specs.Scope.{View, holds, measure_words, row_name, row_node, row_view, rows_of}
-use Rattle.redo_page.specs.Summary.{build_view, summary_parts}
-use Rattle.redo_page.specs.Template.{parts_of_item, parts_of_items, nothing, template_parts}
+use Rattle.redo_page.specs.declared.verdict.Verdict.{Verdict}
+use Rattle.redo_page.specs.declared.verdict.Verdict.TheVariants.{Failed, Unfinished, Made}
+use Rattle.redo_page.specs.Scope.{View, began_parts, date_parts, holds, measure_words, row_name, row_view, rows_of, target_view}
+use Rattle.redo_page.specs.Targets.{parts_if}
+use Rattle.redo_page.specs.Template.{Block, Template, block_parts, parts_of_item, parts_of_items, nothing, template_parts}
+use Rattle.redo_page.specs.Verdict.{body_markup}
 use Rattle.redo_page.specs.Words.{word_part}
-use Rattle.redo_page.proofs.TemplateNesting.{Ref}
-use Rattle.redo_page.proofs.Ids.{Refer, Refers, badge_bare, bare_each, bare_refers, is_reference, linked_refers, refer_if, then_refer, word_bare}
+use Rattle.redo_page.proofs.Ids.{Bare, Refer, Refers, badge_bare, bare_each, bare_refers, is_reference, is_section, linked_refers, section, then_refer, word_bare}
 use Rattle.redo_summary.specs.declared.rank.Rank.{Rank}
 use Rattle.redo_summary.specs.Laws.{AreRanksBelow}
-use Rattle.redo_summary.specs.Summary.{Facts, is_timed}
+use Rattle.redo_timeline.specs.declared.span.Window.{Window}
+use Rattle.redo_units.specs.Dates.{date_text_of}
 
--- Whether an item has no references, except for links to the targets of rows.
-module _ {T B : Type 0} (inner : Bool → B → Bool) where
-  abbrev pub only_rows : Bool → Item T B → Bool
-  only_rows in_row (item.Tag markup) = not (is_reference markup)
-  only_rows in_row item.Link = in_row
-  only_rows in_row (item.In (If test) block) = inner in_row block
-  only_rows in_row (item.In (Each rows) block) = inner true block
-  only_rows in_row item = true
+-- Where an item is: outside of loops, or in a loop over targets, or over the rows of a table.
+pub data Place : Type 0 where
+  Outside : Place
+  InTargets : Place
+  InRows : Place
 
-abbrev pub none_refer : Bool → Unit {0} → Bool
-none_refer in_row block = true
+-- Whether an item has no references, except for tags of sections outside of loops, and for links to the targets of rows.
+abbrev pub only_tag : Place → Markup → Bool
+only_tag Outside markup = not (is_reference markup) || is_section markup
+only_tag place markup = not (is_reference markup)
 
-abbrev pub block_only_rows : {B : Type 0} → (Bool → B → Bool) → Bool → Ref (List (Item (Ref (List ℕ)) B)) → Bool
-block_only_rows inner in_row block = list_all (only_rows inner in_row) block.now
+abbrev only_link : Place → Bool
+only_link InRows = true
+only_link place = false
+
+module _ {T B : Type 0} (inner : Place → B → Bool) where
+  abbrev pub only_known : Place → Item T B → Bool
+  only_known place (item.Tag markup) = only_tag place markup
+  only_known place item.Link = only_link place
+  only_known place (item.In (If test) block) = inner place block
+  only_known place (item.In (Unless test) block) = inner place block
+  only_known place (item.In (Each rows) block) = inner InRows block
+  only_known place (item.In EachTarget block) = inner InTargets block
+  only_known place item = true
+
+abbrev pub none_refer : Place → Unit {0} → Bool
+none_refer place block = true
+
+abbrev pub block_only : {B : Type 0} → (Place → B → Bool) → Place → Block B → Bool
+block_only inner place block = list_all (only_known inner place) block.now
+
+abbrev pub template_only : Template → Bool
+template_only = block_only (block_only (block_only (block_only none_refer))) Outside
+
+-- The tags of sections outside of loops. A block without such tags has none under any condition.
+abbrev pub some_if : Bool → List Part → List Part
+some_if condition [] = []
+some_if condition (part ∷ parts) = parts_if condition (part ∷ parts)
+
+module _ {T B : Type 0} (inner : B → View → List Part) (view : View) where
+  abbrev item_sections : Item T B → List Part
+  item_sections (item.Tag markup) = section (MarkupPart markup)
+  item_sections (item.In (If test) block) = some_if (holds view test) (inner block view)
+  item_sections (item.In (Unless test) block) = some_if (not (holds view test)) (inner block view)
+  item_sections item = []
+
+abbrev block_sections : {B : Type 0} → (B → View → List Part) → Block B → View → List Part
+block_sections inner block view = flat_map (item_sections inner view) block.now
+
+abbrev pub template_sections : Template → View → List Part
+template_sections = block_sections (block_sections (block_sections (block_sections nothing)))
+
+abbrev at : Place → List Part → List Part
+at Outside parts = parts
+at InTargets parts = []
+at InRows parts = []
+
+tag_bare : (markup : Markup) → not (is_reference markup) ≡ true → Bare (MarkupPart markup ∷ [])
+tag_bare markup is = by (is_reference markup) refl is
+  where
+    by : (found : Bool) → is_reference markup ≡ found → not found ≡ true → Bare (MarkupPart markup ∷ [])
+    by true reference is = absurd (cc)
+    by false reference is = rw (reference) refl
+
+pub body_bare : (verdict : Verdict) → Bare (MarkupPart (body_markup verdict) ∷ [])
+body_bare Failed = refl
+body_bare Unfinished = refl
+body_bare Made = refl
+
+date_bare : (date : Option (List ℕ)) → Bare (date_parts date)
+date_bare None = refl
+date_bare (Some date) = refl
+
+pub began_bare : (window : Option Window) → Bare (began_parts window)
+began_bare None = refl
+began_bare (Some window) = date_bare (date_text_of (window.began / 1000))
 
 module _ (count : ℕ) (articles : List ℕ) where
-  abbrev IsRow : Bool → View → Type 0
-  IsRow true view = nat_lt view.rank.position count ≡ true
-  IsRow false view = Unit {0}
+  abbrev IsRow : Place → View → Type 0
+  IsRow InRows view = nat_lt view.rank.position count ≡ true
+  IsRow place view = Unit {0}
 
-  abbrev AreRows : View → Type 0
+  abbrev pub AreRows : View → Type 0
   AreRows view = (rows : Rows) → AreRanksBelow count (rows_of view rows)
 
-  pub record LeadToRows {B : Type 0} (parts : B → View → List Part) (only : Bool → B → Bool) : Type 0 where
-    pub refer : (in_row : Bool) (block : B) → only in_row block ≡ true → (view : View) → IsRow in_row view → AreRows view
-        → Refer count articles (parts block view) [] []
+  refer_at : (place : Place) {parts : List Part} → Refer count articles parts [] [] → Refers count articles parts [] [] (at place [])
+  refer_at Outside refer = refer
+  refer_at InTargets refer = refer
+  refer_at InRows refer = refer
 
-  module _ {B : Type 0} (inner : B → View → List Part) (only : Bool → B → Bool) (inner_refers : LeadToRows inner only) (view : View)
-      (rows_are : AreRows view) where
-    each_refers : (block : B) → only true block ≡ true → (all ranks : List Rank) → AreRanksBelow count ranks
+  bare_at : (place : Place) (parts : List Part) → Bare parts → Refers count articles parts [] [] (at place [])
+  bare_at place parts bare = refer_at place (bare_refers parts bare)
+
+  then_at : (place : Place) {parts others : List Part} (sections more : List Part) → Refers count articles parts [] [] (at place sections)
+      → Refers count articles others [] [] (at place more) → Refers count articles (parts ++ others) [] [] (at place (sections ++ more))
+  then_at Outside sections more first last = then_refer first last
+  then_at InTargets sections more first last = then_refer first last
+  then_at InRows sections more first last = then_refer first last
+
+  tag_refers : (place : Place) (markup : Markup) → only_tag place markup ≡ true
+      → Refers count articles (MarkupPart markup ∷ []) [] [] (at place (section (MarkupPart markup)))
+  tag_refers Outside (TargetLink number) is = absurd (cc)
+  tag_refers Outside (OutputLink number) is = absurd (cc)
+  tag_refers Outside (Article number) is = absurd (cc)
+  tag_refers Outside (TargetItem number) is = absurd (cc)
+  tag_refers Outside (Details number) is = absurd (cc)
+  tag_refers Outside (OpenDetails number) is = absurd (cc)
+  tag_refers Outside markup is =
+      record { target_ids_are = refl; article_ids_are = refl; target_links_lead = refl; article_links_lead = refl; sections_are = refl }
+  tag_refers InTargets markup is = bare_refers (MarkupPart markup ∷ []) (tag_bare markup is)
+  tag_refers InRows markup is = bare_refers (MarkupPart markup ∷ []) (tag_bare markup is)
+
+  pub record LeadToRows {B : Type 0} (parts sections : B → View → List Part) (only : Place → B → Bool) : Type 0 where
+    pub refer : (place : Place) (block : B) → only place block ≡ true → (view : View) → IsRow place view → AreRows view
+        → Refers count articles (parts block view) [] [] (at place (sections block view))
+
+  if_at : (place : Place) (condition : Bool) (parts sections : List Part) → Refers count articles parts [] [] (at place sections)
+      → Refers count articles (parts_if condition parts) [] [] (at place (some_if condition sections))
+  if_at place true parts [] refers = refers
+  if_at place true parts (part ∷ sections) refers = refers
+  if_at place false parts [] refers = bare_at place [] refl
+  if_at place false parts (part ∷ sections) refers = bare_at place [] refl
+
+  module _ {B : Type 0} (inner sections : B → View → List Part) (only : Place → B → Bool) (inner_refers : LeadToRows inner sections only)
+      (view : View) (rows_are : AreRows view) where
+    each_row : (block : B) → only InRows block ≡ true → (all ranks : List Rank) → AreRanksBelow count ranks
         → Refer count articles (flat_map (λ rank. inner block (row_view view all rank)) ranks) [] []
-    each_refers block is all [] below = bare_refers [] refl
-    each_refers block is all (rank ∷ ranks) below =
-        then_refer (inner_refers.refer true block is (row_view view all rank) (lt-ltb rank.position count below.0) rows_are)
-        (each_refers block is all ranks below.1)
+    each_row block is all [] below = bare_refers [] refl
+    each_row block is all (rank ∷ ranks) below =
+        then_refer (inner_refers.refer InRows block is (row_view view all rank) (lt-ltb rank.position count below.0) rows_are)
+        (each_row block is all ranks below.1)
 
-    item_refers : {T : Type 0} (text_of : T → List ℕ) (in_row : Bool) (item : Item T B) → only_rows only in_row item ≡ true
-        → IsRow in_row view → Refer count articles (parts_of_item text_of inner view item) [] []
-    item_refers text_of in_row (item.Tag markup) is row = by (is_reference markup) refl is
-      where
-        by : (found : Bool) → is_reference markup ≡ found → not found ≡ true → Refer count articles (MarkupPart markup ∷ []) [] []
-        by true reference is = absurd (cc)
-        by false reference is = bare_refers (MarkupPart markup ∷ []) (rw (reference) refl)
-    item_refers text_of in_row (item.Tile term) is row = bare_refers _ refl
-    item_refers text_of in_row item.EndTile is row = bare_refers _ refl
-    item_refers text_of in_row (item.Text text) is row = bare_refers _ refl
-    item_refers text_of in_row (item.Number number) is row = bare_refers _ refl
-    item_refers text_of in_row item.Meter is row = bare_refers _ refl
-    item_refers text_of in_row (item.Measure measure) is row = bare_refers _ (bare_each word_part word_bare (measure_words view measure))
-    item_refers text_of in_row item.Badge is row = bare_refers _ (badge_bare (row_node view).status)
-    item_refers text_of true item.Link is row = linked_refers (Some view.rank.position) (row_name view) row
-    item_refers text_of false item.Link is row = absurd (cc)
-    item_refers text_of in_row (item.In (If test) block) is row =
-        refer_if (holds view test) (inner_refers.refer in_row block is view row rows_are)
-    item_refers text_of in_row (item.In (Each rows) block) is row =
-        each_refers block is (rows_of view rows) (rows_of view rows) (rows_are rows)
+    each_target : (block : B) → only InTargets block ≡ true → (nodes : List Node)
+        → Refer count articles (flat_map (λ node. inner block (target_view view node)) nodes) [] []
+    each_target block is [] = bare_refers [] refl
+    each_target block is (node ∷ nodes) =
+        then_refer (inner_refers.refer InTargets block is (target_view view node) tt rows_are) (each_target block is nodes)
 
-    items_refer : {T : Type 0} (text_of : T → List ℕ) (in_row : Bool) (items : List (Item T B))
-        → list_all (only_rows only in_row) items ≡ true → IsRow in_row view
-        → Refer count articles (parts_of_items text_of inner view items) [] []
-    items_refer text_of in_row [] is row = bare_refers [] refl
-    items_refer text_of in_row (item ∷ items) is row =
-        let both = and_parts (only_rows only in_row item) (list_all (only_rows only in_row) items) is in
-        then_refer (item_refers text_of in_row item both.0 row) (items_refer text_of in_row items both.1 row)
+    item_refers : {T : Type 0} (text_of : T → List ℕ) (place : Place) (item : Item T B) → only_known only place item ≡ true
+        → IsRow place view
+        → Refers count articles (parts_of_item text_of inner view item) [] [] (at place (item_sections sections view item))
+    item_refers text_of place (item.Tag markup) is row = tag_refers place markup is
+    item_refers text_of place item.Body is row = bare_at place _ (body_bare view.verdict)
+    item_refers text_of place item.TabTitle is row = bare_at place _ refl
+    item_refers text_of place item.StyleSheet is row = bare_at place _ refl
+    item_refers text_of place (item.Text text) is row = bare_at place _ refl
+    item_refers text_of place (item.Phrase phrase) is row = bare_at place _ refl
+    item_refers text_of place item.Date is row = bare_at place _ (began_bare view.facts.window)
+    item_refers text_of place (item.Tile term) is row = bare_at place _ refl
+    item_refers text_of place item.EndTile is row = bare_at place _ refl
+    item_refers text_of place (item.Number number) is row = bare_at place _ refl
+    item_refers text_of place (item.Measure measure) is row = bare_at place _ (bare_each word_part word_bare (measure_words view measure))
+    item_refers text_of place item.Name is row = bare_at place _ refl
+    item_refers text_of InRows item.Link is row = linked_refers (Some view.rank.position) (row_name view) row
+    item_refers text_of Outside item.Link is row = absurd (cc)
+    item_refers text_of InTargets item.Link is row = absurd (cc)
+    item_refers text_of place item.Badge is row = bare_at place _ (badge_bare view.node.status)
+    item_refers text_of place item.Meter is row = bare_at place _ refl
+    item_refers text_of place (item.In (If test) block) is row =
+        if_at place (holds view test) (inner block view) (sections block view) (inner_refers.refer place block is view row rows_are)
+    item_refers text_of place (item.In (Unless test) block) is row =
+        if_at place (not (holds view test)) (inner block view) (sections block view) (inner_refers.refer place block is view row rows_are)
+    item_refers text_of place (item.In (Each rows) block) is row =
+        refer_at place (each_row block is (rows_of view rows) (rows_of view rows) (rows_are rows))
+    item_refers text_of place (item.In EachTarget block) is row = refer_at place (each_target block is view.nodes)
 
-  template_refers : {B : Type 0} (inner : B → View → List Part) (only : Bool → B → Bool) → LeadToRows inner only
-      → LeadToRows (template_parts inner) (block_only_rows only)
-  template_refers inner only inner_refers = record {
-    refer = λ in_row block is view row rows_are.
-        items_refer inner only inner_refers view rows_are (λ text. text.now) in_row block.now is row;
+    items_refer : {T : Type 0} (text_of : T → List ℕ) (place : Place) (items : List (Item T B))
+        → list_all (only_known only place) items ≡ true → IsRow place view
+        → Refers count articles (parts_of_items text_of inner view items) [] [] (at place (flat_map (item_sections sections view) items))
+    items_refer text_of place [] is row = bare_at place [] refl
+    items_refer text_of place (item ∷ items) is row =
+        let both = and_parts (only_known only place item) (list_all (only_known only place) items) is in
+        then_at place (item_sections sections view item) (flat_map (item_sections sections view) items)
+        (item_refers text_of place item both.0 row) (items_refer text_of place items both.1 row)
+
+  block_refers : {B : Type 0} (inner sections : B → View → List Part) (only : Place → B → Bool) → LeadToRows inner sections only
+      → LeadToRows (block_parts inner) (block_sections sections) (block_only only)
+  block_refers inner sections only inner_refers = record {
+    refer = λ place block is view row rows_are.
+        items_refer inner sections only inner_refers view rows_are (λ text. text.now) place block.now is row;
   }
 
-  nothing_refers : LeadToRows nothing none_refer
-  nothing_refers = record { refer = λ in_row block is view row rows_are. bare_refers [] refl }
+  nothing_refers : LeadToRows nothing nothing none_refer
+  nothing_refers = record { refer = λ place block is view row rows_are. bare_at place [] refl }
 
-  rows_below : (logs : List Log) (nodes : List Node) (facts : Facts) → AreRanksBelow count facts.longest → AreRanksBelow count facts.warned
-      → AreRows (build_view logs nodes facts)
-  rows_below logs nodes facts longest warned Longest = by (is_timed facts)
-    where
-      by : (timed : Bool) → AreRanksBelow count (if timed then facts.longest else [])
-      by true = longest
-      by false = tt
-  rows_below logs nodes facts longest warned Warned = warned
-
-  pub summary_refers : (logs : List Log) (nodes : List Node) (facts : Facts) → AreRanksBelow count facts.longest
-      → AreRanksBelow count facts.warned → Refers count articles (summary_parts logs nodes facts) [] [] (MarkupPart SummarySection ∷ [])
-  unfolding summary_parts
-  summary_refers logs nodes facts longest warned =
-      let inner = template_refers _ _ (template_refers _ _ (template_refers nothing none_refer nothing_refers)) in
-      then_refer {parts = MarkupPart SummarySection ∷ []}
-      (record { target_ids_are = refl; article_ids_are = refl; target_links_lead = refl; article_links_lead = refl; sections_are = refl })
-      (items_refer _ _ inner (build_view logs nodes facts) (rows_below logs nodes facts longest warned) (λ text. text.now) false
-      (drop 1 SECTION.now) refl tt)
+  pub template_refers : (template : Template) → template_only template ≡ true → (view : View) → AreRows view
+      → Refers count articles (template_parts template view) [] [] (template_sections template view)
+  template_refers template is view rows_are =
+      (block_refers _ _ _ (block_refers _ _ _ (block_refers _ _ _ (block_refers nothing nothing none_refer nothing_refers)))).refer
+      Outside template is view tt rows_are

@@ -1,28 +1,26 @@
--- The elements of a template nest if this is computed of its tags.
-use Rattle.std.proofs.Common.{◌≡◌, ℕ, Bool, true, false, List, [], ◌∷◌, ◌++◌, Option, None, Some, refl, ◌∙◌, ap, subst}
-use Rattle.std.specs.Prelude.{◌==◌, ◌&&◌, bytes_eq, if◌then◌else◌}
+-- Which elements are open after a template, computed from its tags.
+use Rattle.std.proofs.Common.{◌≡◌, ℕ, ◌/◌, Bool, true, false, List, [], ◌∷◌, ◌++◌, Option, None, Some, refl, ◌∙◌, ap, subst}
+use Rattle.std.specs.Prelude.{◌==◌, ◌&&◌, bytes_eq, codes, not, if◌then◌else◌}
 use Rattle.std.specs.List.{flat_map}
-use Rattle.redo_logs.specs.Logs.{Log}
-use Rattle.redo_outline.specs.declared.node.Node.{Node}
 use Rattle.redo_html.specs.Html.{after_end_tag, is_void, nests_in, start_name}
 use Rattle.redo_html.specs.Laws.{markup_tag}
 use Rattle.redo_html.specs.Parts.{Part}
+use Rattle.redo_html.specs.Parts.Part.{MarkupPart}
 use Rattle.redo_html.specs.Tags.{markup_text}
-use Rattle.redo_page.specs.declared.summary.TheConstants.{SECTION}
 use Rattle.redo_page.specs.declared.template.Around.{Around}
-use Rattle.redo_page.specs.declared.template.Around.TheVariants.{If, Each}
+use Rattle.redo_page.specs.declared.template.Around.TheVariants.{If, Unless, Each, EachTarget}
 use Rattle.redo_page.specs.declared.template.Item.{Item}
 use Rattle.redo_page.specs.declared.template.Item.TheVariants as item
-use Rattle.redo_page.specs.Scope.{View, holds, measure_words, row_name, row_node, row_view, rows_of}
-use Rattle.redo_page.specs.Summary.{build_view, summary_parts}
-use Rattle.redo_page.specs.Template.{around_parts, parts_of_item, parts_of_items, nothing, template_parts, tile_end, tile_start}
+use Rattle.redo_page.specs.declared.verdict.Verdict.{Verdict}
+use Rattle.redo_page.specs.declared.verdict.Verdict.TheVariants.{Failed, Unfinished, Made}
+use Rattle.redo_page.specs.Scope.{View, began_parts, date_parts, holds, measure_words, row_name, row_view, rows_of, target_view}
+use Rattle.redo_page.specs.Template.{Block, Template, around_parts, block_parts, parts_of_item, parts_of_items, nothing, template_parts, tile_end, tile_start}
+use Rattle.redo_page.specs.Verdict.{body_markup}
 use Rattle.redo_page.specs.Words.{word_part}
 use Rattle.redo_page.proofs.Nesting.{Leads, Nest, lead_in, nest_each, nest_if, then_lead}
-use Rattle.redo_page.proofs.TargetNesting.{badge_nests, linked_nests, word_nests}
-use Rattle.redo_summary.specs.Summary.{Facts}
-
-abbrev pub Ref : Type 0 → Type 0
-Ref X = record { now : X }
+use Rattle.redo_page.proofs.TargetNesting.{badge_nests, linked_nests, name_nests, word_nests}
+use Rattle.redo_timeline.specs.declared.span.Window.{Window}
+use Rattle.redo_units.specs.Dates.{date_text_of}
 
 -- The names of the open elements, the innermost first, or nothing if an end tag has another name.
 abbrev pub Open : Type 0
@@ -47,9 +45,10 @@ abbrev after_tags : List (List ℕ) → List (List ℕ) → Open
 after_tags stack [] = Some stack
 after_tags stack (tag ∷ tags) = then_open (after_tag stack tag) (λ next. after_tags next tags)
 
--- The fixed tags of an item.
+-- The fixed tags of an item. The start tag of the body has a class.
 abbrev item_tags : {T B : Type 0} → Item T B → List (List ℕ)
 item_tags (item.Tag markup) = markup_text markup ∷ []
+item_tags item.Body = codes "body" ∷ []
 item_tags (item.Tile term) = flat_map markup_tag (tile_start [])
 item_tags item.EndTile = flat_map markup_tag tile_end
 item_tags item = []
@@ -72,8 +71,15 @@ module _ {T B : Type 0} (inner : B → Open) where
 abbrev pub after_nothing : Unit {0} → Open
 after_nothing block = Some []
 
-abbrev pub after_block : {B : Type 0} → (B → Open) → Ref (List (Item (Ref (List ℕ)) B)) → Open
-after_block inner block = after_items inner [] block.now
+abbrev pub after_block : {B : Type 0} → (B → Open) → List (List ℕ) → Block B → Open
+after_block inner stack block = after_items inner stack block.now
+
+-- What is open after a template, if this is open before it.
+abbrev in_template : Block (Block (Block (Unit {0}))) → Open
+in_template = after_block (after_block (after_block after_nothing []) []) []
+
+abbrev pub after_template : List (List ℕ) → Template → Open
+after_template = after_block in_template
 
 -- ---- what is computed is so
 
@@ -134,9 +140,25 @@ closed_stays (Some (name ∷ names)) stack next is = absurd (cc)
 pub record Nests {B : Type 0} (parts : B → View → List Part) (opened : B → Open) : Type 0 where
   pub nests : (block : B) → opened block ≡ Some [] → (view : View) → Nest (parts block view)
 
+date_nests : (date : Option (List ℕ)) → Nest (date_parts date)
+date_nests None = record { leads = λ around tags. refl }
+date_nests (Some date) = record { leads = λ around tags. refl }
+
+began_nests : (window : Option Window) → Nest (began_parts window)
+began_nests None = record { leads = λ around tags. refl }
+began_nests (Some window) = date_nests (date_text_of (window.began / 1000))
+
+body_leads : (verdict : Verdict) (stack : List (List ℕ)) → Leads stack (MarkupPart (body_markup verdict) ∷ []) (codes "body" ∷ stack)
+body_leads Failed stack = record { leads = λ around tags. refl }
+body_leads Unfinished stack = record { leads = λ around tags. refl }
+body_leads Made stack = record { leads = λ around tags. refl }
+
 module _ {B : Type 0} (inner : B → View → List Part) (opened : B → Open) (inner_nests : Nests inner opened) (view : View) where
   around_nests : (around : Around) (block : B) → opened block ≡ Some [] → Nest (around_parts inner view around block)
   around_nests (If test) block is = nest_if (holds view test) (inner_nests.nests block is view)
+  around_nests (Unless test) block is = nest_if (not (holds view test)) (inner_nests.nests block is view)
+  around_nests EachTarget block is =
+      nest_each (λ node. inner block (target_view view node)) (λ node. inner_nests.nests block is (target_view view node)) view.nodes
   around_nests (Each rows) block is =
       nest_each (λ rank. inner block (row_view view (rows_of view rows) rank))
       (λ rank. inner_nests.nests block is (row_view view (rows_of view rows) rank)) (rows_of view rows)
@@ -149,13 +171,20 @@ module _ {B : Type 0} (inner : B → View → List Part) (opened : B → Open) (
       record { leads = λ around tags. tags_lead (flat_map markup_tag (tile_start [])) stack next around tags is }
   item_leads text_of item.EndTile stack next is =
       record { leads = λ around tags. tags_lead (flat_map markup_tag tile_end) stack next around tags is }
+  item_leads text_of item.Body stack next is =
+      subst (λ opened. Leads stack (MarkupPart (body_markup view.verdict) ∷ []) (stack_of opened)) is (body_leads view.verdict stack)
   item_leads text_of (item.Text text) stack next is = stays stack next (record { leads = λ around tags. refl }) is
+  item_leads text_of (item.Phrase phrase) stack next is = stays stack next (record { leads = λ around tags. refl }) is
+  item_leads text_of item.TabTitle stack next is = stays stack next (record { leads = λ around tags. refl }) is
+  item_leads text_of item.StyleSheet stack next is = stays stack next (record { leads = λ around tags. refl }) is
+  item_leads text_of item.Date stack next is = stays stack next (began_nests view.facts.window) is
+  item_leads text_of item.Name stack next is = stays stack next (name_nests (row_name view)) is
   item_leads text_of (item.Number count) stack next is = stays stack next (record { leads = λ around tags. refl }) is
   item_leads text_of item.Meter stack next is = stays stack next (record { leads = λ around tags. refl }) is
   item_leads text_of (item.Measure measure) stack next is =
       stays stack next (nest_each word_part word_nests (measure_words view measure)) is
   item_leads text_of item.Link stack next is = stays stack next (linked_nests (Some view.rank.position) (row_name view)) is
-  item_leads text_of item.Badge stack next is = stays stack next (badge_nests (row_node view).status) is
+  item_leads text_of item.Badge stack next is = stays stack next (badge_nests view.node.status) is
   item_leads text_of (item.In around block) stack next is =
       stays stack next (around_nests around block (closed (opened block) stack next is)) (closed_stays (opened block) stack next is)
 
@@ -172,16 +201,16 @@ module _ {B : Type 0} (inner : B → View → List Part) (opened : B → Open) (
       by None first is others = absurd (cc)
       by (Some middle) first is others = then_lead (item_leads text_of item stack middle first) (others middle is)
 
-pub template_nests : {B : Type 0} (inner : B → View → List Part) (opened : B → Open) → Nests inner opened
-    → Nests (template_parts inner) (after_block opened)
-template_nests inner opened inner_nests =
-    record { nests = λ block is view. items_lead inner opened inner_nests view (λ text. text.now) block.now [] [] is }
-
 nothing_nests : Nests nothing after_nothing
 nothing_nests = record { nests = λ block is view. record { leads = λ around tags. refl } }
 
-pub summary_nests : (logs : List Log) (nodes : List Node) (facts : Facts) → Nest (summary_parts logs nodes facts)
-unfolding summary_parts
-summary_nests logs nodes facts =
-    (template_nests _ _ (template_nests _ _ (template_nests _ _ (template_nests nothing after_nothing nothing_nests)))).nests
-    SECTION refl (build_view logs nodes facts)
+block_nests : {B : Type 0} (inner : B → View → List Part) (opened : B → Open) → Nests inner opened
+    → Nests (block_parts inner) (after_block opened [])
+block_nests inner opened inner_nests =
+    record { nests = λ block is view. items_lead inner opened inner_nests view (λ text. text.now) block.now [] [] is }
+
+pub template_leads : (template : Template) (view : View) (stack next : List (List ℕ)) → after_template stack template ≡ Some next
+    → Leads stack (template_parts template view) next
+template_leads template view stack next is =
+    items_lead _ in_template (block_nests _ _ (block_nests _ _ (block_nests nothing after_nothing nothing_nests))) view (λ text. text.now)
+    template.now stack next is

@@ -1,5 +1,5 @@
 -- Rows of the timeline's section, as the parts that are written. The values are worked out by hand.
-use Rattle.std.proofs.Common.{◌≡◌, ℕ, Bool, true, false, List, [], ◌∷◌, Option, None, Some, pos, replicate, refl}
+use Rattle.std.proofs.Common.{◌≡◌, ℕ, Bool, true, false, List, [], ◌∷◌, ◌++◌, Option, None, Some, pos, replicate, refl}
 use Rattle.std.specs.Fmt.{digits}
 use Rattle.std.specs.Prelude.{codes, length}
 use Rattle.redo_html.specs.declared.chart.GroupKind.TheVariants.{Callers, Recipes, Untimed}
@@ -13,7 +13,9 @@ use Rattle.redo_chart.specs.Laws.{shapes_of}
 use Rattle.redo_logs.specs.declared.log_state.LogState.TheVariants.{Ended}
 use Rattle.redo_logs.specs.Logs.{Log}
 use Rattle.redo_outline.specs.declared.node.Node.{Node}
-use Rattle.redo_page.specs.Timeline.{facts_drawing, has_timeline, marks_parts, pale_text, timeline_end, timeline_if, timeline_parts, timeline_section, timeline_start}
+use Rattle.redo_page.specs.Page.{build_view}
+use Rattle.redo_page.specs.Scope.{View}
+use Rattle.redo_page.specs.Timeline.{facts_drawing, has_timeline, timeline_end, timeline_if, timeline_parts, timeline_section, timeline_start}
 use Rattle.redo_summary.specs.Summary.{Facts}
 use Rattle.redo_timeline.specs.declared.span.Span.{Span}
 use Rattle.redo_timeline.specs.declared.span.Window.{Window}
@@ -73,6 +75,9 @@ some count = replicate count (span 0 1000 11000)
 abbrev known : Facts
 known = facts (Some window) (span 0 1000 11000 ∷ []) (span 1 1000 6000 ∷ span 2 2000 11000 ∷ []) []
 
+abbrev view : Facts → View
+view facts = build_view [] [] [] logs nodes facts
+
 -- ---- whether there is a timeline
 
 -- One of ten targets may have a mark.
@@ -91,31 +96,26 @@ marks_text marks targets rest =
     ∷ words (codes " targets do not say when they began, or when they ended. These are marks in the last row.")
     ∷ tag markup.EndParagraph ∷ rest
 
-marks_are : (marks_parts 0 7 ≡ []) × (marks_parts 1 9 ≡ marks_text 1 9 []) × (marks_parts 2 21 ≡ marks_text 2 21 [])
-marks_are = (refl, refl, refl)
-
 abbrev heading : List Part → List Part
 heading rest = tag markup.TimelineSection ∷ tag markup.TimelineHeading ∷ words (codes "Timeline") ∷ tag markup.EndHeading ∷ rest
 
 starts_are :
-    (timeline_start known ≡ heading (tag markup.TimelineScroll ∷ []))
-    × (timeline_start (facts (Some window) (some 5) (some 14) (some 2)) ≡ heading (marks_text 2 21 (tag markup.TimelineScroll ∷ [])))
-starts_are = (refl, refl)
+    (timeline_start (view known) ≡ heading (tag markup.TimelineScroll ∷ []))
+    × (timeline_start (view (facts (Some window) (some 1) (some 7) (some 1))) ≡ heading (marks_text 1 9 (tag markup.TimelineScroll ∷ [])))
+    × (timeline_start (view (facts (Some window) (some 5) (some 14) (some 2))) ≡ heading (marks_text 2 21 (tag markup.TimelineScroll ∷ [])))
+starts_are = (refl, refl, refl)
 
 -- ---- what follows the chart
 
-abbrev pale : List ℕ
-pale = codes " Pale bars are recipes that ran others. They don't count in the sum of times."
+abbrev pale : Part
+pale = words (codes " Pale bars are recipes that ran others. They don't count in the sum of times.")
 
-pale_are : (pale_text true ≡ pale) × (pale_text false ≡ [])
-pale_are = (refl, refl)
+abbrev after : List Part → List Part
+after texts =
+    tag markup.EndDiv ∷ tag markup.QuietParagraph ∷ words (codes "A bar leads to its log.")
+    ∷ (texts ++ (tag markup.EndParagraph ∷ tag markup.EndSection ∷ []))
 
-abbrev after : List ℕ → List Part
-after text =
-    tag markup.EndDiv ∷ tag markup.QuietParagraph ∷ words (codes "A bar leads to its log.") ∷ words text ∷ tag markup.EndParagraph
-    ∷ tag markup.EndSection ∷ []
-
-ends_are : (timeline_end known ≡ after pale) × (timeline_end (facts (Some window) [] (some 1) []) ≡ after [])
+ends_are : (timeline_end (view known) ≡ after (pale ∷ [])) × (timeline_end (view (facts (Some window) [] (some 1) [])) ≡ after [])
 ends_are = (refl, refl)
 
 -- ---- the section
@@ -138,17 +138,18 @@ unfolding duration_words tick_step_of tick_words decimal_text digits
 chart_is = (refl, refl, refl, refl, refl)
 
 section_is :
-    timeline_section logs nodes known window
-    ≡ heading (tag markup.TimelineScroll ∷ ChartPart (facts_drawing logs nodes known window) ∷ after pale)
+    timeline_section (view known) window
+    ≡ heading (tag markup.TimelineScroll ∷ ChartPart (facts_drawing logs nodes known window) ∷ after (pale ∷ []))
 section_is = refl
 
 -- Without a window, or if too few times are known, there is no section.
 sections_are :
-    (length (timeline_if logs nodes known (Some window)) ≡ 12) × (timeline_if logs nodes known None ≡ [])
-    × (length (timeline_if logs nodes (facts (Some window) [] [] (some 1)) (Some window)) ≡ 0)
+    (length (timeline_if (view known) (Some window)) ≡ 12) × (timeline_if (view known) None ≡ [])
+    × (length (timeline_if (view (facts (Some window) [] [] (some 1))) (Some window)) ≡ 0)
 sections_are = (refl, refl, refl)
 
 timeline_is :
-    (timeline_parts logs nodes known ≡ heading (tag markup.TimelineScroll ∷ ChartPart (facts_drawing logs nodes known window) ∷ after pale))
-    × (timeline_parts logs nodes (record known { window = None }) ≡ [])
+    (timeline_parts (view known)
+    ≡ heading (tag markup.TimelineScroll ∷ ChartPart (facts_drawing logs nodes known window) ∷ after (pale ∷ [])))
+    × (timeline_parts (view (record known { window = None })) ≡ [])
 timeline_is = (refl, refl)

@@ -10,16 +10,16 @@ use Rattle.redo_outline.specs.declared.node.Node.{Node}
 use Rattle.redo_outline.specs.declared.node.RunTimes.{RunTimes}
 use Rattle.redo_outline.specs.Contents.{Contents, contents_of}
 use Rattle.redo_outline.specs.Outline.{outline_of, with_times}
-use Rattle.redo_page.specs.Failed.{failed_parts}
+use Rattle.redo_page.specs.Failed.{failed_parts, is_dependent_failure, positions_where}
 use Rattle.redo_page.specs.Command.{command}
 use Rattle.redo_page.specs.Frame.{head_parts, header_parts, footer_parts}
 use Rattle.redo_page.specs.Verdict.{title_text, verdict_of, verdict_text}
-use Rattle.redo_page.specs.declared.verdict.Verdict.{Verdict}
 use Rattle.redo_page.specs.declared.page.PageRequest.{PageRequest}
 use Rattle.redo_page.specs.Limits.{tree_limits}
+use Rattle.redo_page.specs.Scope.{View}
 use Rattle.redo_page.specs.Summary.{summary_parts}
 use Rattle.redo_page.specs.Timeline.{timeline_parts}
-use Rattle.redo_page.specs.Tree.{Build, articles, tree_parts}
+use Rattle.redo_page.specs.Tree.{Build, articles, no_node, root_failures, tree_parts}
 use Rattle.redo_trim.specs.Trim.{trim}
 use Rattle.redo_summary.specs.Summary.{Facts, summary_of}
 use Rattle.redo_summary.specs.Targets.{time_between}
@@ -50,15 +50,30 @@ abbrev pub options_of : Request → Options
 options_of request = record { recursive = true; unchanged = request.unchanged; details = true; debug_locks = request.debug_locks; debug_pids = false }
 
 -- The head of the page, its header, what failed, and the summary.
-unfoldable pub top_parts_of : List ℕ → List Log → Verdict → List ℕ → List ℕ → List Node → Facts → List Part
-top_parts_of title logs verdict title_text heading nodes facts =
-    head_parts title_text verdict ++ (header_parts title logs verdict heading nodes facts ++ (failed_parts logs nodes ++ summary_parts logs nodes facts))
+unfoldable pub top_parts : View → List Part
+top_parts view = head_parts view ++ (header_parts view ++ (failed_parts view.logs view.nodes ++ summary_parts view))
 
 abbrev pub heading_of : List Node → List ℕ
 heading_of nodes = verdict_text (verdict_of nodes) nodes
 
-abbrev pub top_parts : List ℕ → List Log → List Node → Facts → List Part
-top_parts title logs nodes facts = top_parts_of title logs (verdict_of nodes) (title_text title (verdict_of nodes) (heading_of nodes)) (heading_of nodes) nodes facts
+-- What the templates say about a build, whose page was given this title and this directory, and for which this is the command.
+abbrev pub build_view : List ℕ → List ℕ → List ℕ → List Log → List Node → Facts → View
+build_view title dir command logs nodes facts = record {
+  title = title;
+  dir = dir;
+  verdict = verdict_of nodes;
+  heading = heading_of nodes;
+  tab = title_text title (verdict_of nodes) (heading_of nodes);
+  command = command;
+  logs = logs;
+  nodes = nodes;
+  facts = facts;
+  roots = length (root_failures nodes);
+  dependents = length (positions_where is_dependent_failure 0 nodes);
+  rank = record { value = 0; position = 0 };
+  largest = 0;
+  node = no_node;
+}
 
 -- How long a target took, and when it ended.
 abbrev pub run_times : Times → RunTimes
@@ -69,8 +84,9 @@ abbrev pub tree_contents : List Log → Options → ℕ → List (List ℕ) → 
 tree_contents logs options budget requested nodes = trim (tree_limits logs options nodes budget) [] (contents_of (shown_events logs options requested))
 
 -- The timeline and the tree.
-abbrev pub body_parts : List Log → Options → ℕ → List (List ℕ) → List Node → Facts → List Part
-body_parts logs options budget requested nodes facts = timeline_parts logs nodes facts ++ tree_parts logs options nodes (tree_contents logs options budget requested nodes)
+abbrev pub body_parts : View → Options → ℕ → List (List ℕ) → List Part
+body_parts view options budget requested =
+    timeline_parts view ++ tree_parts view.logs options view.nodes (tree_contents view.logs options budget requested view.nodes)
 
 module _ (request : Request) (logs : List Log) (requested : List (List ℕ)) where
   abbrev pub page_events : List Event
@@ -91,12 +107,12 @@ module _ (request : Request) (logs : List Log) (requested : List (List ℕ)) whe
   abbrev pub page_contents : Contents
   page_contents = tree_contents logs (options_of request) request.max_bytes requested page_outline
 
+  abbrev pub page_view : View
+  page_view = build_view request.title request.dir (command request.dir (options_of request) requested) logs page_outline page_facts
+
   -- The parts of the page.
   unfoldable pub page_parts : List Part
-  page_parts =
-      top_parts request.title logs page_outline page_facts
-      ++ (body_parts logs (options_of request) request.max_bytes requested page_outline page_facts
-      ++ footer_parts request.dir (command request.dir (options_of request) requested) (length page_outline))
+  page_parts = top_parts page_view ++ (body_parts page_view (options_of request) request.max_bytes requested ++ footer_parts page_view)
 
   -- The bytes of the page.
   abbrev pub page_html : List ℕ

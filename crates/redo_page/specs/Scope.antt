@@ -1,25 +1,42 @@
 -- What templates say about a build: the values of their holes, src/scope.rt.
-use Rattle.std.specs.Prelude.{ℕ, ◌+◌, ◌*◌, ◌/◌, max, ◌==◌, ◌&&◌, not, Bool, List, [], ◌∷◌, is_some, length, if◌then◌else◌}
+use Rattle.std.specs.Prelude.{ℕ, ◌+◌, ◌*◌, ◌/◌, max, ◌==◌, ◌&&◌, nat_lt, not, Bool, List, [], ◌∷◌, Option, None, Some, is_none, is_some, length, if◌then◌else◌}
+use Rattle.redo_html.specs.Parts.{Part}
+use Rattle.redo_html.specs.Parts.Part.{TextPart}
 use Rattle.redo_logs.specs.Logs.{Log}
 use Rattle.redo_outline.specs.declared.node.Node.{Node}
 use Rattle.redo_outline.specs.Facts.{saturated, target_at}
+use Rattle.redo_page.specs.declared.labels.TheConstants.{LOGS_IN, LOG_IN, MIDDLE_DOT}
 use Rattle.redo_page.specs.declared.scope.Count.{Count}
 use Rattle.redo_page.specs.declared.scope.Count.TheVariants.{Targets, Roots, Dependents, Warnings, Most, Unknown, Known, Value}
 use Rattle.redo_page.specs.declared.scope.Measure.{Measure}
 use Rattle.redo_page.specs.declared.scope.Measure.TheVariants.{Size, Took, Sum, AtOnce, Duration}
+use Rattle.redo_page.specs.declared.scope.Phrase.{Phrase}
+use Rattle.redo_page.specs.declared.scope.Phrase.TheVariants as phrase
 use Rattle.redo_page.specs.declared.scope.Rows.{Rows}
 use Rattle.redo_page.specs.declared.scope.Rows.TheVariants.{Longest, Warned}
 use Rattle.redo_page.specs.declared.scope.Test.{Test}
-use Rattle.redo_page.specs.declared.scope.Test.TheVariants.{HasDependents, HasWindow, IsTimed, IsUntimed, NoneKnown, SomeKnown, HasTables, HasLongest, HasWarned}
+use Rattle.redo_page.specs.declared.scope.Test.TheVariants.{HasTitle, IsRequested, HasFailed, HasDependents, HasWindow, IsTimed, HasKnown, HasMarks, HasCallers, HasTables, HasLongest, HasWarned}
+use Rattle.redo_page.specs.declared.verdict.Verdict.{Verdict}
+use Rattle.redo_page.specs.Targets.{plural}
+use Rattle.redo_page.specs.Verdict.{sign_text}
 use Rattle.redo_page.specs.Tree.{node_at}
 use Rattle.redo_summary.specs.declared.rank.Rank.{Rank}
 use Rattle.redo_summary.specs.Summary.{Facts, is_timed}
+use Rattle.redo_timeline.specs.declared.span.Window.{Window}
+use Rattle.redo_units.specs.Dates.{date_text_of}
 use Rattle.redo_units.specs.Durations.{duration_words}
 use Rattle.redo_units.specs.Sizes.{size_words, tenths_words}
 use Rattle.redo_units.specs.Words.{WordValue}
 
--- The targets of a build, how many failed, what else is known, and a row of a table.
+-- The title and the capture directory that the page was given, its verdict, heading, title in a tab and command, the targets of the build, how
+-- many failed, what else is known, and a row of a table: its value, the largest value and its target.
 pub record View : Type 0 where
+  pub title : List ℕ
+  pub dir : List ℕ
+  pub verdict : Verdict
+  pub heading : List ℕ
+  pub tab : List ℕ
+  pub command : List ℕ
   pub logs : List Log
   pub nodes : List Node
   pub facts : Facts
@@ -27,6 +44,7 @@ pub record View : Type 0 where
   pub dependents : ℕ
   pub rank : Rank
   pub largest : ℕ
+  pub node : Node
 
 -- The recipes that took longest, unless too little is known.
 abbrev pub shown_longest : Facts → List Rank
@@ -41,11 +59,8 @@ abbrev pub largest_of : List Rank → ℕ
 largest_of [] = 0
 largest_of (rank ∷ ranks) = rank.value
 
-abbrev pub row_node : View → Node
-row_node view = node_at view.nodes view.rank.position
-
 abbrev pub row_name : View → List ℕ
-row_name view = target_at view.logs (row_node view).number
+row_name view = target_at view.logs view.node.number
 
 -- How much of the largest value the row's value is, in hundredths of a percent.
 abbrev pub meter_of : View → ℕ
@@ -68,13 +83,33 @@ measure_words view Sum = duration_words view.facts.sum
 measure_words view AtOnce = tenths_words view.facts.sum view.facts.took
 measure_words view Duration = duration_words view.rank.value
 
+abbrev pub phrase_text : View → Phrase → List ℕ
+phrase_text view phrase.Title = view.title
+phrase_text view phrase.VerdictSign = sign_text view.verdict
+phrase_text view phrase.Heading = view.heading
+phrase_text view phrase.LogsIn = plural (length view.nodes) LOG_IN.now LOGS_IN.now
+phrase_text view phrase.Directory = view.dir
+phrase_text view phrase.Command = view.command
+
+abbrev pub date_parts : Option (List ℕ) → List Part
+date_parts None = []
+date_parts (Some date) = TextPart date ∷ TextPart MIDDLE_DOT.now ∷ []
+
+-- When a build began, if this has a date.
+abbrev pub began_parts : Option Window → List Part
+began_parts None = []
+began_parts (Some window) = date_parts (date_text_of (window.began / 1000))
+
 abbrev pub holds : View → Test → Bool
+holds view HasTitle = not (length view.title == 0)
+holds view IsRequested = is_none view.node.parent
+holds view HasFailed = nat_lt 0 view.roots
 holds view HasDependents = not (view.dependents == 0)
 holds view HasWindow = is_some view.facts.window
 holds view IsTimed = is_timed view.facts
-holds view IsUntimed = not (is_timed view.facts)
-holds view NoneKnown = known_count view.facts == 0
-holds view SomeKnown = not (known_count view.facts == 0)
+holds view HasKnown = not (known_count view.facts == 0)
+holds view HasMarks = not (length view.facts.marks == 0)
+holds view HasCallers = not (length view.facts.callers == 0)
 holds view HasTables = not (length (shown_longest view.facts) == 0 && length view.facts.warned == 0)
 holds view HasLongest = not (length (shown_longest view.facts) == 0)
 holds view HasWarned = not (length view.facts.warned == 0)
@@ -84,4 +119,7 @@ rows_of view Longest = shown_longest view.facts
 rows_of view Warned = view.facts.warned
 
 abbrev pub row_view : View → List Rank → Rank → View
-row_view view ranks rank = record view { rank = rank; largest = largest_of ranks }
+row_view view ranks rank = record view { rank = rank; largest = largest_of ranks; node = node_at view.nodes rank.position }
+
+abbrev pub target_view : View → Node → View
+target_view view node = record view { node = node }

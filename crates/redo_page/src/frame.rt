@@ -1,232 +1,133 @@
 //! The frame of a page: its head, its header and its end.
-ghost use Rattle.std.specs.List.{flat_map};
-ghost use Rattle.redo_page.specs.Private.Writing.{WroteParts};
-ghost use Rattle.redo_page.specs.Command.{command};
-ghost use Rattle.redo_page.specs.Frame.{began_parts, date_parts, failed_nav, footer_parts, head_parts, header_parts, log_count_parts, nav_item, nav_parts, requested_parts, root_parts, timeline_nav, title_parts, top_heading_parts};
-ghost use Rattle.redo_units.specs.Dates.{date_text_of};
-
 use crate::labels::{
-    ALL_LOGS, AS_ONE_TEXT, BUILD_TOOK, LOG_IN, LOGS_IN, MADE_BY, MIDDLE_DOT, OF, PROGRAM, SUMMARY,
-    TIMELINE, WHAT_FAILED,
+    ALL_LOGS, AS_ONE_TEXT, BUILD_TOOK, MADE_BY, OF, PROGRAM, SUMMARY, TIMELINE, WHAT_FAILED,
 };
-use crate::targets::{plural, write_badge, write_name};
-use crate::timeline::has_timeline;
-use crate::verdict::Verdict;
-use crate::words::write_words;
-use crate::writer::PageWriter;
-use redo_device::Sink;
-use redo_html::{Markup, Piece};
-use redo_logs::LogTable;
-use redo_outline::{Node, target_at};
-use redo_summary::Summary;
-use redo_timeline::Window;
-use redo_units::{date, duration};
+use crate::scope::Count::Targets;
+use crate::scope::Measure::Took;
+use crate::scope::Phrase::{Command, Directory, Heading, LogsIn, Title, VerdictSign};
+use crate::scope::Test::{HasFailed, HasTitle, HasWindow, IsRequested, IsTimed};
+use crate::template::Around::{EachTarget, If};
+use crate::template::Item::{
+    Badge, Body, Date, In, Measure, Name, Number, Phrase, StyleSheet, TabTitle, Tag, Text,
+};
+use crate::template::Template;
+use redo_html::Markup::{
+    Charset, Code, ColorScheme, Doctype, EndBody, EndCode, EndFooter, EndHead, EndHeader, EndHtml,
+    EndItem, EndLink, EndMain, EndNav, EndParagraph, EndSign, EndTitle1, EndUnordered, FailedLink,
+    Footer, Head, Header, Html, Item, Main, MetaParagraph, Nav, Paragraph, Policy, Referrer, Sign,
+    SummaryLink, TimelineLink, Title1, TreeLink, Unordered, Viewport,
+};
 
-/// Writes the head of a page, up to the start of its body.
-pub fn write_head<W: Sink>(title: &[u8], verdict: Verdict, page: &mut PageWriter<'_, W>)
-    ensures { WroteParts W.written page.old page.new (head_parts title.now verdict) }
-{
-    page.put(&[
-        Piece::Markup(Markup::Doctype),
-        Piece::Markup(Markup::Html),
-        Piece::Markup(Markup::Head),
-        Piece::Markup(Markup::Charset),
-        Piece::Markup(Markup::Viewport),
-        Piece::Markup(Markup::ColorScheme),
-        Piece::Markup(Markup::Referrer),
-        Piece::Markup(Markup::Policy),
-        Piece::Title(title),
-        Piece::StyleSheet,
-        Piece::Markup(Markup::EndHead),
-        Piece::Markup(verdict.body()),
-    ])
-}
+/// The head, up to the start of the body.
+pub const HEAD: Template = &[
+    Tag(Doctype),
+    Tag(Html),
+    Tag(Head),
+    Tag(Charset),
+    Tag(Viewport),
+    Tag(ColorScheme),
+    Tag(Referrer),
+    Tag(Policy),
+    TabTitle,
+    StyleSheet,
+    Tag(EndHead),
+    Body,
+];
 
-fn write_title<W: Sink>(title: &[u8], page: &mut PageWriter<'_, W>)
-    ensures { WroteParts W.written page.old page.new (title_parts title.now) }
-{
-    if title.is_empty() {
-        return;
-    }
-    page.put(&[
-        Piece::Markup(Markup::Paragraph),
-        Piece::Text(title),
-        Piece::Markup(Markup::EndParagraph),
-    ])
-}
+/// The header, with links to the sections, up to the start of the main part.
+pub const HEADER: Template = &[
+    Tag(Header),
+    Tag(Title1),
+    Tag(Sign),
+    Phrase(VerdictSign),
+    Tag(EndSign),
+    Text(b" "),
+    Phrase(Heading),
+    Tag(EndTitle1),
+    In(
+        If(HasTitle),
+        &[Tag(Paragraph), Phrase(Title), Tag(EndParagraph)],
+    ),
+    In(
+        EachTarget,
+        &[In(
+            If(IsRequested),
+            &[Tag(Paragraph), Name, Badge, Tag(EndParagraph)],
+        )],
+    ),
+    In(
+        If(HasWindow),
+        &[
+            Tag(MetaParagraph),
+            Date,
+            Text(BUILD_TOOK),
+            Measure(Took),
+            Tag(EndParagraph),
+        ],
+    ),
+    Tag(EndHeader),
+    Tag(Nav),
+    Tag(Unordered),
+    In(
+        If(HasFailed),
+        &[
+            Tag(Item),
+            Tag(FailedLink),
+            Text(WHAT_FAILED),
+            Tag(EndLink),
+            Tag(EndItem),
+        ],
+    ),
+    Tag(Item),
+    Tag(SummaryLink),
+    Text(SUMMARY),
+    Tag(EndLink),
+    Tag(EndItem),
+    In(
+        If(HasWindow),
+        &[In(
+            If(IsTimed),
+            &[
+                Tag(Item),
+                Tag(TimelineLink),
+                Text(TIMELINE),
+                Tag(EndLink),
+                Tag(EndItem),
+            ],
+        )],
+    ),
+    Tag(Item),
+    Tag(TreeLink),
+    Text(ALL_LOGS),
+    Tag(EndLink),
+    Tag(EndItem),
+    Tag(EndUnordered),
+    Tag(EndNav),
+    Tag(Main),
+];
 
-// Writes a requested target, and how it ended.
-fn write_root<W: Sink>(table: &LogTable, node: &Node, page: &mut PageWriter<'_, W>)
-    ensures { WroteParts W.written page.old page.new (root_parts table.now node.now) }
-{
-    if node.parent.is_none() {
-        write_requested(target_at(table, node.number), node.status, page);
-    }
-}
-
-fn write_requested<W: Sink>(name: &[u8], status: Option<i32>, page: &mut PageWriter<'_, W>)
-    ensures { WroteParts W.written page.old page.new (requested_parts name.now status) }
-{
-    page.put(&[Piece::Markup(Markup::Paragraph)]);
-    write_name(name, page);
-    write_badge(status, page);
-    page.put(&[Piece::Markup(Markup::EndParagraph)]);
-}
-
-fn write_roots<W: Sink>(table: &LogTable, nodes: &[Node], page: &mut PageWriter<'_, W>)
-    ensures { WroteParts W.written page.old page.new (flat_map (root_parts table.now) nodes.now) }
-{
-    for node in nodes {
-        write_root(table, node, page);
-    }
-}
-
-// Writes a link to a part of the page.
-fn write_nav_item<W: Sink>(link: Markup, text: &[u8], page: &mut PageWriter<'_, W>)
-    ensures { WroteParts W.written page.old page.new (nav_item link text.now) }
-{
-    page.put(&[
-        Piece::Markup(Markup::Item),
-        Piece::Markup(link),
-        Piece::Text(text),
-        Piece::Markup(Markup::EndLink),
-        Piece::Markup(Markup::EndItem),
-    ])
-}
-
-fn write_date<W: Sink>(secs: u64, page: &mut PageWriter<'_, W>)
-    ensures { WroteParts W.written page.old page.new (date_parts (date_text_of secs)) }
-{
-    if let Some(text) = date(secs) {
-        page.put(&[Piece::Text(&text), Piece::Text(MIDDLE_DOT)]);
-    }
-}
-
-// Writes when a build began, and how long it took, if any time is known.
-fn write_began<W: Sink>(window: Option<Window>, took: u64, page: &mut PageWriter<'_, W>)
-    ensures { WroteParts W.written page.old page.new (began_parts window took) }
-{
-    let Some(window) = window else {
-        return;
-    };
-    page.put(&[Piece::Markup(Markup::MetaParagraph)]);
-    write_date(window.began / 1000, page);
-    page.put(&[Piece::Text(BUILD_TOOK)]);
-    write_words(&duration(took), page);
-    page.put(&[Piece::Markup(Markup::EndParagraph)]);
-}
-
-fn write_timeline_nav<W: Sink>(timed: bool, page: &mut PageWriter<'_, W>)
-    ensures { WroteParts W.written page.old page.new (timeline_nav timed) }
-{
-    if timed {
-        write_nav_item(Markup::TimelineLink, TIMELINE, page);
-    }
-}
-
-// Writes links to the sections of the page.
-fn write_nav<W: Sink>(verdict: Verdict, timed: bool, page: &mut PageWriter<'_, W>)
-    ensures { WroteParts W.written page.old page.new (nav_parts verdict timed) }
-{
-    page.put(&[Piece::Markup(Markup::Nav), Piece::Markup(Markup::Unordered)]);
-    write_failed_nav(verdict, page);
-    write_nav_item(Markup::SummaryLink, SUMMARY, page);
-    write_timeline_nav(timed, page);
-    write_nav_item(Markup::TreeLink, ALL_LOGS, page);
-    page.put(&[
-        Piece::Markup(Markup::EndUnordered),
-        Piece::Markup(Markup::EndNav),
-        Piece::Markup(Markup::Main),
-    ]);
-}
-
-fn write_failed_nav<W: Sink>(verdict: Verdict, page: &mut PageWriter<'_, W>)
-    ensures { WroteParts W.written page.old page.new (failed_nav verdict) }
-{
-    match verdict {
-        Verdict::Failed => write_nav_item(Markup::FailedLink, WHAT_FAILED, page),
-        Verdict::Unfinished => {}
-        Verdict::Made => {}
-    }
-}
-
-fn write_heading<W: Sink>(verdict: Verdict, heading: &[u8], page: &mut PageWriter<'_, W>)
-    ensures { WroteParts W.written page.old page.new (top_heading_parts verdict heading.now) }
-{
-    page.put(&[
-        Piece::Markup(Markup::Header),
-        Piece::Markup(Markup::Title1),
-        Piece::Markup(Markup::Sign),
-        Piece::Text(verdict.sign()),
-        Piece::Markup(Markup::EndSign),
-        Piece::Text(b" "),
-        Piece::Text(heading),
-        Piece::Markup(Markup::EndTitle1),
-    ])
-}
-
-/// Writes the header of a page, with links to its parts, up to the start of its main part.
-pub fn write_header<W: Sink>(
-    title: &[u8],
-    table: &LogTable,
-    verdict: Verdict,
-    heading: &[u8],
-    nodes: &[Node],
-    summary: &Summary,
-    page: &mut PageWriter<'_, W>,
-)
-    ensures { WroteParts W.written page.old page.new (header_parts title.now table.now verdict heading.now nodes.now summary.now) }
-{
-    write_heading(verdict, heading, page);
-    write_title(title, page);
-    write_roots(table, nodes, page);
-    write_began(summary.window(), summary.took(), page);
-    page.put(&[Piece::Markup(Markup::EndHeader)]);
-    write_nav(verdict, has_timeline(summary), page);
-}
-
-fn write_log_count<W: Sink>(logs: usize, page: &mut PageWriter<'_, W>)
-    ensures { WroteParts W.written page.old page.new (log_count_parts logs) }
-{
-    let logs = logs as u64;
-    page.put(&[
-        Piece::Number(logs),
-        Piece::Text(plural(logs, LOG_IN, LOGS_IN)),
-    ])
-}
-
-/// Writes the end of a page. `command` writes the same as one text.
-pub fn write_footer<'a, W: Sink>(
-    dir: &'a [u8],
-    command: &'a [u8],
-    logs: usize,
-    page: &mut PageWriter<'_, W>,
-)
-    ensures { WroteParts W.written page.old page.new (footer_parts dir.now command.now logs) }
-{
-    page.put(&[
-        Piece::Markup(Markup::EndMain),
-        Piece::Markup(Markup::Footer),
-        Piece::Markup(Markup::Paragraph),
-        Piece::Text(MADE_BY),
-        Piece::Markup(Markup::Code),
-        Piece::Text(PROGRAM),
-        Piece::Markup(Markup::EndCode),
-        Piece::Text(OF),
-    ]);
-    write_log_count(logs, page);
-    page.put(&[
-        Piece::Markup(Markup::Code),
-        Piece::Text(dir),
-        Piece::Markup(Markup::EndCode),
-        Piece::Text(AS_ONE_TEXT),
-        Piece::Markup(Markup::Code),
-        Piece::Text(command),
-        Piece::Markup(Markup::EndCode),
-        Piece::Markup(Markup::EndParagraph),
-        Piece::Markup(Markup::EndFooter),
-        Piece::Markup(Markup::EndBody),
-        Piece::Markup(Markup::EndHtml),
-        Piece::Text(b"\n"),
-    ])
-}
+/// The end of a page.
+pub const FOOTER: Template = &[
+    Tag(EndMain),
+    Tag(Footer),
+    Tag(Paragraph),
+    Text(MADE_BY),
+    Tag(Code),
+    Text(PROGRAM),
+    Tag(EndCode),
+    Text(OF),
+    Number(Targets),
+    Phrase(LogsIn),
+    Tag(Code),
+    Phrase(Directory),
+    Tag(EndCode),
+    Text(AS_ONE_TEXT),
+    Tag(Code),
+    Phrase(Command),
+    Tag(EndCode),
+    Tag(EndParagraph),
+    Tag(EndFooter),
+    Tag(EndBody),
+    Tag(EndHtml),
+    Text(b"\n"),
+];

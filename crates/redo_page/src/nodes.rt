@@ -4,7 +4,8 @@ ghost use Rattle.redo_page.specs.Tree.{has_failed, is_short, node_at};
 
 use redo_outline::Node;
 
-const NO_NODE: Node = Node {
+/// What is known of no target.
+pub const NO_NODE: Node = Node {
     number: 0,
     parent: None,
     status: None,

@@ -1,5 +1,5 @@
 //! The page of a build.
-ghost use Rattle.std.specs.Prelude.{◌≡◌, true, None, IfOk, length, map};
+ghost use Rattle.std.specs.Prelude.{◌≡◌, ◌++◌, true, None, IfOk, length, map};
 ghost use Rattle.std.specs.List.{flat_map, list_all};
 ghost use Rattle.redo_device.specs.Sink.{Writes};
 ghost use Rattle.redo_html.specs.Parts.{part_html};
@@ -12,15 +12,19 @@ ghost use Rattle.redo_view.specs.Expansion.{shown_events};
 ghost use Rattle.redo_page.specs.Frame.{footer_parts};
 ghost use Rattle.redo_page.specs.Tree.{articles};
 ghost use Rattle.redo_page.specs.Failed.{AreFailures};
-ghost use Rattle.redo_page.specs.Page.{body_parts, options_of, page_html, page_outline, request_of, run_times, top_parts_of};
+ghost use Rattle.redo_page.specs.Page.{body_parts, options_of, page_html, page_outline, request_of, run_times, top_parts};
 ghost use Rattle.redo_summary.specs.Targets.{time_between};
 ghost use Rattle.redo_page.specs.Private.PageTexts.{AreTexts};
+ghost use Rattle.redo_page.specs.Private.Viewing.{view_of};
 ghost use Rattle.redo_page.specs.Private.Writing.{WroteParts};
 
 use crate::command::command;
 use crate::failed::{Failures, MAX_ARTICLES, find_failures, first_of, write_failed};
-use crate::frame::{write_footer, write_head, write_header};
-use crate::summary::write_summary;
+use crate::frame::{FOOTER, HEAD, HEADER};
+use crate::nodes::NO_NODE;
+use crate::scope::Scope;
+use crate::summary::SECTION;
+use crate::template::{Block, write_template};
 use crate::timeline::write_timeline;
 use crate::tree::write_tree;
 use crate::verdict::{Verdict, title_text};
@@ -29,7 +33,7 @@ use redo_device::{Broken, Sink};
 use redo_line::TargetName;
 use redo_logs::LogTable;
 use redo_outline::{Node, Outline, RunTimes};
-use redo_summary::Summary;
+use redo_summary::{Rank, Summary};
 use redo_times::Times;
 use redo_view::{FormFault, Options, Render};
 use std::alloc::{AllocError, Global};
@@ -149,54 +153,91 @@ fn write_outlined<W: Sink>(
     let failures = find_failures(alloc, nodes)?;
     let texts = Texts::new(alloc, request, options, requested, nodes, &failures)?;
     let summary = Summary::new(alloc, nodes, request.times)?;
-    write_top(table, request, &texts, nodes, &failures, &summary, out)?;
+    let roots = failures.roots.as_slice();
+    let dependents = failures.dependents.as_slice();
+    let scope = Scope {
+        request,
+        texts: &texts,
+        table,
+        nodes,
+        facts: &summary,
+        roots: roots.len(),
+        dependents: dependents.len(),
+        rank: Rank {
+            value: 0,
+            position: 0,
+        },
+        largest: 0,
+        node: NO_NODE,
+    };
+    write_stages(alloc, &scope, options, requested, outline, &failures, out)
+}
+
+// Writes a page up to the timeline, then the timeline and the tree, and then the rest.
+fn write_stages<W: Sink>(
+    alloc: Global,
+    scope: &Scope<'_>,
+    options: &Options,
+    requested: &[TargetName],
+    outline: &Outline,
+    failures: &Failures,
+    out: &mut W,
+) -> Result<(), FormFault>
+    requires ended { list_all has_ended scope.now.table.now ≡ true }
+    requires known { find_unknown scope.now.table.now requested.now ≡ None }
+    requires nodes { scope.now.nodes.now ≡ outline.now }
+    requires count { length outline.now ≡ log_count (contents_of (shown_events scope.now.table.now options.now requested.now)) }
+    requires failures { AreFailures scope.now.nodes.now failures.now }
+    ensures { FormWrites (W.written out.old) (W.written out.new)
+        (flat_map part_html (top_parts (view_of scope.now)
+        ++ (body_parts (view_of scope.now) options.now scope.now.request.now.max_bytes requested.now ++ footer_parts (view_of scope.now))))
+        result }
+{
+    write_top(scope, failures, out)?;
     let articles = first_of(MAX_ARTICLES, failures.roots.as_slice());
-    write_body(
-        alloc, table, request, options, requested, outline, articles, &summary, out,
-    )?;
-    write_bottom(request, &texts, nodes.len(), out)?;
+    write_body(alloc, scope, options, requested, outline, articles, out)?;
+    write_template(&FOOTER, scope, out)?;
     Ok(())
 }
 
 // Writes the timeline and the tree.
 fn write_body<W: Sink>(
     alloc: Global,
-    table: &LogTable,
-    request: &PageRequest<'_>,
+    scope: &Scope<'_>,
     options: &Options,
     requested: &[TargetName],
     outline: &Outline,
     positions: &[usize],
-    summary: &Summary,
     out: &mut W,
 ) -> Result<(), FormFault>
-    requires ended { list_all has_ended table.now ≡ true }
-    requires known { find_unknown table.now requested.now ≡ None }
-    requires outline { length outline.now ≡ log_count (contents_of (shown_events table.now options.now requested.now)) }
+    requires ended { list_all has_ended scope.now.table.now ≡ true }
+    requires known { find_unknown scope.now.table.now requested.now ≡ None }
+    requires nodes { scope.now.nodes.now ≡ outline.now }
+    requires count { length outline.now ≡ log_count (contents_of (shown_events scope.now.table.now options.now requested.now)) }
     requires articles { positions.now ≡ articles outline.now }
-    ensures { FormWrites (W.written out.old) (W.written out.new) (flat_map part_html (body_parts table.now options.now
-        request.now.max_bytes requested.now outline.now summary.now)) result }
+    ensures { FormWrites (W.written out.old) (W.written out.new)
+        (flat_map part_html (body_parts (view_of scope.now) options.now scope.now.request.now.max_bytes requested.now)) result }
 {
-    write_timeline(alloc, table, outline.nodes(), summary, out)?;
+    write_timeline(alloc, scope, out)?;
     write_tree(
         alloc,
-        table,
+        scope.table,
         options,
         requested,
         outline,
         positions,
-        request.max_bytes,
+        scope.request.max_bytes,
         out,
     )
 }
 
 // The texts of a page that aren't in its logs.
 #[derive(Drop)]
-struct Texts {
-    verdict: Verdict,
-    heading: Vec<u8>,
-    title: Vec<u8>,
-    command: Vec<u8>,
+pub struct Texts {
+    pub verdict: Verdict,
+    pub heading: Vec<u8>,
+    pub title: Vec<u8>,
+    pub command: Vec<u8>,
 }
 
 impl Texts {
@@ -238,65 +279,22 @@ fn options_of(request: &PageRequest<'_>) -> Options
     }
 }
 
-// Writes everything before the tree.
-fn write_top<W: Sink>(
-    table: &LogTable,
-    request: &PageRequest<'_>,
-    texts: &Texts,
-    nodes: &[Node],
-    failures: &Failures,
-    summary: &Summary,
-    out: &mut W,
-) -> Result<(), Broken>
-    requires { AreFailures nodes.now failures.now }
-    ensures { Writes (W.written out.old) (W.written out.new)
-        (flat_map part_html (top_parts_of request.now.title.now table.now texts.now.verdict
-        texts.now.title.items texts.now.heading.items nodes.now summary.now)) result }
+// Writes everything before the timeline.
+fn write_top<W: Sink>(scope: &Scope<'_>, failures: &Failures, out: &mut W) -> Result<(), Broken>
+    requires { AreFailures scope.now.nodes.now failures.now }
+    ensures { Writes (W.written out.old) (W.written out.new) (flat_map part_html (top_parts (view_of scope.now))) result }
 {
     let mut page = PageWriter::new(out);
-    write_top_parts(table, request, texts, nodes, failures, summary, &mut page);
+    write_top_parts(scope, failures, &mut page);
     page.result()
 }
 
-fn write_top_parts<W: Sink>(
-    table: &LogTable,
-    request: &PageRequest<'_>,
-    texts: &Texts,
-    nodes: &[Node],
-    failures: &Failures,
-    summary: &Summary,
-    page: &mut PageWriter<'_, W>,
-)
-    requires { AreFailures nodes.now failures.now }
-    ensures { WroteParts W.written page.old page.new
-        (top_parts_of request.now.title.now table.now texts.now.verdict
-        texts.now.title.items texts.now.heading.items nodes.now summary.now) }
+fn write_top_parts<W: Sink>(scope: &Scope<'_>, failures: &Failures, page: &mut PageWriter<'_, W>)
+    requires { AreFailures scope.now.nodes.now failures.now }
+    ensures { WroteParts W.written page.old page.new (top_parts (view_of scope.now)) }
 {
-    write_head(&texts.title, texts.verdict, page);
-    write_header(
-        request.title,
-        table,
-        texts.verdict,
-        &texts.heading,
-        nodes,
-        summary,
-        page,
-    );
-    write_failed(table, nodes, failures, page);
-    write_summary(table, nodes, failures, summary, page);
-}
-
-// Writes everything after the tree.
-fn write_bottom<W: Sink>(
-    request: &PageRequest<'_>,
-    texts: &Texts,
-    logs: usize,
-    out: &mut W,
-) -> Result<(), Broken>
-    ensures { Writes (W.written out.old) (W.written out.new)
-        (flat_map part_html (footer_parts request.now.dir.now texts.now.command.items logs)) result }
-{
-    let mut page = PageWriter::new(out);
-    write_footer(request.dir, &texts.command, logs, &mut page);
-    page.result()
+    HEAD.write(scope, page);
+    HEADER.write(scope, page);
+    write_failed(scope.table, scope.nodes, failures, page);
+    SECTION.write(scope, page);
 }

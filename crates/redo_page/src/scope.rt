@@ -2,17 +2,22 @@
 ghost use Rattle.std.specs.Prelude.{◌≡◌};
 ghost use Rattle.redo_page.specs.Private.Viewing.{view_of};
 ghost use Rattle.redo_page.specs.Private.Writing.{WroteParts};
-ghost use Rattle.redo_page.specs.Scope.{count_of, holds, largest_of, measure_words, meter_of, known_count, row_name, row_node, row_view, rows_of, shown_longest};
+ghost use Rattle.redo_page.specs.Scope.{began_parts, count_of, date_parts, holds, largest_of, measure_words, meter_of, known_count, phrase_text, row_name, row_view, rows_of, shown_longest, target_view};
 ghost use Rattle.redo_page.specs.Words.{words_parts};
+ghost use Rattle.redo_units.specs.Dates.{date_text_of};
 
+use crate::labels::{LOG_IN, LOGS_IN, MIDDLE_DOT};
 use crate::nodes::node_at;
+use crate::page::{PageRequest, Texts};
+use crate::targets::plural;
 use crate::words::write_words;
 use crate::writer::PageWriter;
 use redo_device::Sink;
+use redo_html::Piece;
 use redo_logs::LogTable;
 use redo_outline::{Node, target_at};
 use redo_summary::{Rank, Summary};
-use redo_units::{duration, size, tenths};
+use redo_units::{date, duration, size, tenths};
 
 /// A number in a template.
 #[derive(Clone, Copy)]
@@ -50,21 +55,44 @@ pub enum Measure {
     Duration,
 }
 
+/// A text in a template that depends on the build.
+#[derive(Clone, Copy)]
+pub enum Phrase {
+    /// The title that the page was asked to have.
+    Title,
+    /// The sign before the heading.
+    VerdictSign,
+    /// What became of the build.
+    Heading,
+    /// The words between the number of logs and the capture directory.
+    LogsIn,
+    /// The capture directory.
+    Directory,
+    /// The command that writes the same as one text.
+    Command,
+}
+
 /// A condition in a template.
 #[derive(Clone, Copy)]
 pub enum Test {
+    /// The page was asked to have a title.
+    HasTitle,
+    /// The row's target was requested.
+    IsRequested,
+    /// A target failed.
+    HasFailed,
     /// A target failed with another one.
     HasDependents,
     /// The time that the build took is known.
     HasWindow,
     /// Most times are known.
     IsTimed,
-    /// Too many times are unknown.
-    IsUntimed,
-    /// No time is known.
-    NoneKnown,
     /// A time is known.
-    SomeKnown,
+    HasKnown,
+    /// One time of a target is unknown.
+    HasMarks,
+    /// A recipe ran others.
+    HasCallers,
     /// There is a table.
     HasTables,
     /// A target is among those that took longest.
@@ -82,18 +110,21 @@ pub enum Rows {
     Warned,
 }
 
-/// What a template says something about: the targets of a build, how many failed, what else is known, and a row of a table.
+/// What a template says something about: what the page was asked, the targets of a build, what is known of them, and a row of a table.
 #[derive(Clone, Copy)]
 pub struct Scope<'a> {
+    pub request: &'a PageRequest<'a>,
+    pub texts: &'a Texts,
     pub table: &'a LogTable,
     pub nodes: &'a [Node],
     pub facts: &'a Summary,
     /// The numbers of failed targets without a failure below them, and of those above them.
     pub roots: usize,
     pub dependents: usize,
-    /// The row, and the largest value in its table.
+    /// The row, the largest value in its table, and its target.
     pub rank: Rank,
     pub largest: u64,
+    pub node: Node,
 }
 
 impl<'a> Scope<'a> {
@@ -126,17 +157,50 @@ impl<'a> Scope<'a> {
         }
     }
 
+    /// Returns a text that depends on the build.
+    pub fn phrase(&self, phrase: Phrase) -> &'a [u8]
+        ensures { result.now ≡ phrase_text (view_of self.now) phrase }
+    {
+        match phrase {
+            Phrase::Title => self.request.title,
+            Phrase::VerdictSign => self.texts.verdict.sign(),
+            Phrase::Heading => &self.texts.heading,
+            Phrase::LogsIn => plural(self.nodes.len() as u64, LOG_IN, LOGS_IN),
+            Phrase::Directory => self.request.dir,
+            Phrase::Command => &self.texts.command,
+        }
+    }
+
+    /// Returns the title that a browser shows in its tab.
+    pub fn tab(&self) -> &'a [u8]
+        ensures { result.now ≡ (view_of self.now).tab }
+    {
+        &self.texts.title
+    }
+
+    /// Writes when the build began, if this has a date, and a middle dot.
+    pub fn write_date<W: Sink>(&self, page: &mut PageWriter<'_, W>)
+        ensures { WroteParts W.written page.old page.new (began_parts self.now.facts.now.window) }
+    {
+        if let Some(window) = self.facts.window() {
+            write_date(window.began / 1000, page);
+        }
+    }
+
     /// Returns whether this holds.
     pub fn holds(&self, test: Test) -> bool
         ensures { result ≡ holds (view_of self.now) test }
     {
         match test {
+            Test::HasTitle => !self.request.title.is_empty(),
+            Test::IsRequested => self.node.parent.is_none(),
+            Test::HasFailed => self.roots > 0,
             Test::HasDependents => self.dependents != 0,
             Test::HasWindow => self.facts.window().is_some(),
             Test::IsTimed => self.facts.is_timed(),
-            Test::IsUntimed => !self.facts.is_timed(),
-            Test::NoneKnown => known_count(self.facts) == 0,
-            Test::SomeKnown => known_count(self.facts) != 0,
+            Test::HasKnown => known_count(self.facts) != 0,
+            Test::HasMarks => !self.facts.marks().is_empty(),
+            Test::HasCallers => !self.facts.callers().is_empty(),
             Test::HasTables => {
                 !shown_longest(self.facts).is_empty() || !self.facts.warned().is_empty()
             }
@@ -162,22 +226,23 @@ impl<'a> Scope<'a> {
         Scope {
             rank,
             largest: largest_of(ranks),
+            node: node_at(self.nodes, rank.position),
             ..*self
         }
+    }
+
+    /// Returns the scope of one of the targets.
+    pub fn at_target(&self, node: Node) -> Scope<'a>
+        ensures { view_of result ≡ target_view (view_of self.now) node }
+    {
+        Scope { node, ..*self }
     }
 
     /// Returns the name of the row's target.
     pub fn name(&self) -> &'a [u8]
         ensures { result.now ≡ row_name (view_of self.now) }
     {
-        target_at(self.table, node_at(self.nodes, self.rank.position).number)
-    }
-
-    /// Returns the status of the row's target.
-    pub fn status(&self) -> Option<i32>
-        ensures { result ≡ (row_node (view_of self.now)).status }
-    {
-        node_at(self.nodes, self.rank.position).status
+        target_at(self.table, self.node.number)
     }
 
     /// Returns how much of the largest value the row's value is, in hundredths of a percent.
@@ -185,6 +250,14 @@ impl<'a> Scope<'a> {
         ensures { result ≡ meter_of (view_of self.now) }
     {
         self.rank.value.saturating_mul(10000) / self.largest.max(1)
+    }
+}
+
+fn write_date<W: Sink>(secs: u64, page: &mut PageWriter<'_, W>)
+    ensures { WroteParts W.written page.old page.new (date_parts (date_text_of secs)) }
+{
+    if let Some(text) = date(secs) {
+        page.put(&[Piece::Text(&text), Piece::Text(MIDDLE_DOT)]);
     }
 }
 

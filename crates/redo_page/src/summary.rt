@@ -1,10 +1,4 @@
 //! The summary of a build: how much there was, and what took long.
-ghost use Rattle.std.specs.Prelude.{◌≡◌};
-ghost use Rattle.redo_page.specs.Failed.{AreFailures};
-ghost use Rattle.redo_page.specs.Summary.{summary_parts};
-ghost use Rattle.redo_page.specs.Private.Writing.{WroteParts};
-
-use crate::failed::Failures;
 use crate::labels::{
     ABOVE, AND_COUNT, AT_MOST, AT_ONCE, FAILED, FEW_TIMES_OF, LOGS, LONGEST, MOST_WARNINGS,
     NO_TIMES, OF, SUM_OF_TIMES, SUMMARY, TARGETS, TIMES_UNKNOWN, TOOK, WARNED_LINES,
@@ -12,37 +6,21 @@ use crate::labels::{
 use crate::scope::Count::{Dependents, Known, Most, Roots, Targets, Unknown, Value, Warnings};
 use crate::scope::Measure::{AtOnce, Duration, Size, Sum, Took};
 use crate::scope::Rows::{Longest, Warned};
-use crate::scope::Scope;
 use crate::scope::Test::{
-    HasDependents, HasLongest, HasTables, HasWarned, HasWindow, IsTimed, IsUntimed, NoneKnown,
-    SomeKnown,
+    HasDependents, HasKnown, HasLongest, HasTables, HasWarned, HasWindow, IsTimed,
 };
-use crate::template::Around::{Each, If};
+use crate::template::Around::{Each, If, Unless};
 use crate::template::Item::{Badge, EndTile, In, Link, Measure, Meter, Number, Tag, Text, Tile};
-use crate::template::{Block, Item};
-use crate::writer::PageWriter;
-use redo_device::Sink;
+use crate::template::Template;
 use redo_html::Markup::{
     Columns, DescriptionList, Div, EndCell, EndDescriptionList, EndDiv, EndHeading, EndParagraph,
     EndRowHeading, EndSection, EndTable, EndTableBody, EndTableRow, EndTitle3, MeterCell,
     NumberCell, QuietParagraph, RowHeading, SummaryHeading, SummarySection, Table, TableBody,
     TableRow, Title3,
 };
-use redo_logs::LogTable;
-use redo_outline::Node;
-use redo_summary::{Rank, Summary};
-
-// Templates, by the depth of what their items contain.
-type Flat = &'static [Item<&'static [u8], ()>];
-
-type Nested2 = &'static [Item<&'static [u8], Flat>];
-
-type Nested3 = &'static [Item<&'static [u8], Nested2>];
-
-type Nested4 = &'static [Item<&'static [u8], Nested3>];
 
 /// The section.
-pub const SECTION: Nested4 = &[
+pub const SECTION: Template = &[
     Tag(SummarySection),
     Tag(SummaryHeading),
     Text(SUMMARY),
@@ -149,12 +127,12 @@ pub const SECTION: Nested4 = &[
         ],
     ),
     In(
-        If(IsUntimed),
+        Unless(IsTimed),
         &[
             Tag(QuietParagraph),
-            In(If(NoneKnown), &[Text(NO_TIMES)]),
+            In(Unless(HasKnown), &[Text(NO_TIMES)]),
             In(
-                If(SomeKnown),
+                If(HasKnown),
                 &[
                     Text(FEW_TIMES_OF),
                     Number(Unknown),
@@ -168,31 +146,3 @@ pub const SECTION: Nested4 = &[
     ),
     Tag(EndSection),
 ];
-
-/// Writes the section `Summary`.
-pub fn write_summary<W: Sink>(
-    table: &LogTable,
-    nodes: &[Node],
-    failures: &Failures,
-    summary: &Summary,
-    page: &mut PageWriter<'_, W>,
-)
-    requires { AreFailures nodes.now failures.now }
-    ensures { WroteParts W.written page.old page.new (summary_parts table.now nodes.now summary.now) }
-{
-    let roots = failures.roots.as_slice();
-    let dependents = failures.dependents.as_slice();
-    let scope = Scope {
-        table,
-        nodes,
-        facts: summary,
-        roots: roots.len(),
-        dependents: dependents.len(),
-        rank: Rank {
-            value: 0,
-            position: 0,
-        },
-        largest: 0,
-    };
-    SECTION.write(&scope, page);
-}

@@ -1,26 +1,46 @@
 //! Templates: a section of a page as data, and the function that writes it.
 ghost use Rattle.std.specs.Prelude.{◌≡◌, ℕ, List};
 ghost use Rattle.std.specs.List.{flat_map};
-ghost use Rattle.redo_html.specs.Parts.{Part};
+ghost use Rattle.redo_device.specs.Sink.{Writes};
+ghost use Rattle.redo_html.specs.Parts.{Part, part_html};
 ghost use Rattle.redo_page.specs.Private.Viewing.{view_of};
 ghost use Rattle.redo_page.specs.Private.Writing.{WroteParts};
-ghost use Rattle.redo_page.specs.Scope.{View, row_view};
+ghost use Rattle.redo_page.specs.Scope.{View, row_view, target_view};
 ghost use Rattle.redo_page.specs.Template.{around_parts, parts_of_item, parts_of_items, nothing, tile_end, tile_start};
 
-use crate::scope::{Count, Measure, Rows, Scope, Test};
-use crate::targets::{write_badge, write_linked};
+use crate::scope::{Count, Measure, Phrase, Rows, Scope, Test};
+use crate::targets::{write_badge, write_linked, write_name};
 use crate::writer::PageWriter;
-use redo_device::Sink;
+use redo_device::{Broken, Sink};
 use redo_html::{Markup, Piece};
 use redo_summary::Rank;
+
+/// A template. Its items contain others, up to four levels deep.
+pub type Template = &'static [Item<&'static [u8], Block3>];
+
+type Block3 = &'static [Item<&'static [u8], Block2>];
+
+type Block2 = &'static [Item<&'static [u8], Block1>];
+
+type Block1 = &'static [Item<&'static [u8], ()>];
 
 /// What a template consists of. `T` is a text, and `B` is what an item contains.
 #[derive(Clone, Copy)]
 pub enum Item<T, B> {
     /// A tag.
     Tag(Markup),
+    /// The start tag of the body, which says what became of the build.
+    Body,
+    /// The title that a browser shows in its tab.
+    TabTitle,
+    /// The style sheet.
+    StyleSheet,
     /// Words of the program.
     Text(T),
+    /// A text that depends on the build.
+    Phrase(Phrase),
+    /// When the build began, if this has a date, and a middle dot.
+    Date,
     /// The start of a term and its description.
     Tile(T),
     /// The end of the description.
@@ -29,6 +49,8 @@ pub enum Item<T, B> {
     Number(Count),
     /// A number with a unit.
     Measure(Measure),
+    /// The name of the row's target.
+    Name,
     /// The name of the row's target, which leads to the target in the tree.
     Link,
     /// The badge of the row's target.
@@ -44,8 +66,12 @@ pub enum Item<T, B> {
 pub enum Around {
     /// If this holds.
     If(Test),
+    /// If this doesn't hold.
+    Unless(Test),
     /// Once for each of these rows.
     Each(Rows),
+    /// Once for each target, in the order of the tree.
+    EachTarget,
 }
 
 /// What an item can contain.
@@ -112,13 +138,19 @@ fn write_item<T: Label, B: Block, W: Sink>(
 {
     match item {
         Item::Tag(markup) => page.put(&[Piece::Markup(*markup)]),
+        Item::Body => page.put(&[Piece::Markup(scope.texts.verdict.body())]),
+        Item::TabTitle => page.put(&[Piece::Title(scope.tab())]),
+        Item::StyleSheet => page.put(&[Piece::StyleSheet]),
         Item::Text(text) => page.put(&[Piece::Text(text.get())]),
+        Item::Phrase(phrase) => page.put(&[Piece::Text(scope.phrase(*phrase))]),
+        Item::Date => scope.write_date(page),
         Item::Tile(term) => write_tile_start(term.get(), page),
         Item::EndTile => write_tile_end(page),
         Item::Number(count) => page.put(&[Piece::Number(scope.count(*count))]),
         Item::Measure(measure) => scope.write_measure(*measure, page),
+        Item::Name => write_name(scope.name(), page),
         Item::Link => write_linked(Some(scope.rank.position), scope.name(), page),
-        Item::Badge => write_badge(scope.status(), page),
+        Item::Badge => write_badge(scope.node.status, page),
         Item::Meter => page.put(&[Piece::Meter(scope.meter())]),
         Item::In(around, block) => write_in(*around, block, scope, page),
     }
@@ -159,7 +191,13 @@ fn write_in<B: Block, W: Sink>(
                 block.write(scope, page);
             }
         }
+        Around::Unless(test) => {
+            if !scope.holds(test) {
+                block.write(scope, page);
+            }
+        }
         Around::Each(rows) => write_each(scope.rows(rows), block, scope, page),
+        Around::EachTarget => write_each_target(block, scope, page),
     }
 }
 
@@ -175,4 +213,26 @@ fn write_each<B: Block, W: Sink>(
     for rank in ranks {
         block.write(&scope.at_row(ranks, *rank), page);
     }
+}
+
+fn write_each_target<B: Block, W: Sink>(block: &B, scope: &Scope<'_>, page: &mut PageWriter<'_, W>)
+    ensures { WroteParts W.written page.old page.new
+        (flat_map (λ node. B.parts block.now (target_view (view_of scope.now) node)) scope.now.nodes.now) }
+{
+    for node in scope.nodes {
+        block.write(&scope.at_target(*node), page);
+    }
+}
+
+/// Writes a template by itself.
+pub fn write_template<B: Block, W: Sink>(
+    template: &B,
+    scope: &Scope<'_>,
+    out: &mut W,
+) -> Result<(), Broken>
+    ensures { Writes (W.written out.old) (W.written out.new) (flat_map part_html (B.parts template.now (view_of scope.now))) result }
+{
+    let mut page = PageWriter::new(out);
+    template.write(scope, &mut page);
+    page.result()
 }

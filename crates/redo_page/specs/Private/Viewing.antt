@@ -4,6 +4,12 @@ use Rattle.redo_page.specs.Scope.{View}
 
 abbrev pub view_of : Scope → View
 view_of scope = record {
+  title = scope.request.now.title.now;
+  dir = scope.request.now.dir.now;
+  verdict = scope.texts.now.verdict;
+  heading = scope.texts.now.heading.items;
+  tab = scope.texts.now.title.items;
+  command = scope.texts.now.command.items;
   logs = scope.table.now;
   nodes = scope.nodes.now;
   facts = scope.facts.now;
@@ -11,4 +17,5 @@ view_of scope = record {
   dependents = scope.dependents;
   rank = scope.rank;
   largest = scope.largest;
+  node = scope.node;
 }
