@@ -28,7 +28,7 @@ from checks import CAPTURES, PROGRAM, environment, install_capture  # noqa: E402
 MOST_SECONDS = 300  # for one build
 FIXED = 300
 DAILY = 300
-# Of each 100,000 seeds, those of builds that may be captured with --colour; and how many of them are tried, fixed ones and daily ones.
+# The seeds, of each 100,000, whose builds may be captured with --colour; and how many of them are tried, fixed ones and daily ones.
 COLOURED = range(50000, 100000)
 FIXED_COLOURED = DAILY_COLOURED = 60
 # The end of text that has no line feed. Such text and what another process prints next are one line, or two.
@@ -819,7 +819,7 @@ def message_differences(build, captured, printed, words):
     for message in printed.messages:
         if TROUBLE.search(message):
             yield f"message: {message}"
-    # The status of a target that two makes make is that of the make that ended it last.
+    # If two makes make a target, the make that ended it last sets its status.
     shared = {name for name, count in build.recipe_count.items() if count > 1}
     failed = {"no recipe failed;": {word.name for word in words if not word.is_ignored}, "no recipe failed, except": causes(build, words)[0] - shared}
     for start, names in failed.items():
