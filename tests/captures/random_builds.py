@@ -624,7 +624,8 @@ def following_lines(build):
         for rule in make.rules:
             texts = [line.text for line in rule.lines]
             for text, local in itertools.product(["\n".join(texts)] if make.is_one_shell else texts, rule.locals):
-                text = re.sub(r"\$\((info|warning|shell) .*?\)", "", text).replace("$(D)$@", make.name(local)).replace("$$", "$")
+                text = re.sub(r"\$\((info|warning|shell) .*?\)", "", text).replace("$(D)$@", make.name(local))
+                text = text.replace("$(MAKE)", os.environ.get("RANDOM_MAKE", "make")).replace("$$", "$")
                 lines = [re.sub(r"^[-+@\t]*", "", part) for part in text.split("\n")]
                 for line, after in zip(lines, lines[1:]):
                     following.setdefault(line, set()).add(after)
