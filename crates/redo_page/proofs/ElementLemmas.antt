@@ -183,7 +183,7 @@ own_left position inside =
 
 -- ---- the lines of each log
 
--- Of all lines, those at the position of a log and at the next positions are its lines and those of the logs below it.
+-- The lines at the position of a log and at the next positions are the lines of this log and of the logs below it.
 abbrev Located : List PositionedLine → ℕ → Contents → Type 0
 Located all position Nothing = Unit {0}
 Located all position (Shown event rest) = Located all position rest
@@ -351,7 +351,7 @@ one_end parts others after rest first last same = by (compared parts others afte
 -- ---- the tree
 
 module _ (build : Build) (all : List PositionedLine) where
-  -- The element that begins here, if it is that of a log, shows its lines.
+  -- If a log's element begins here, it shows the log's lines.
   abbrev ShowsHere : List Part → Type 0
   ShowsHere (MarkupPart tag ∷ rest) = (inside after : List Part) → inside ++ (end ∷ after) ≡ rest → Closed inside
       → ShowsItsLines build all tag inside

@@ -1,4 +1,4 @@
--- What the sections before the tree tell of targets.
+-- The names of targets in the sections before the tree.
 use Rattle.std.proofs.Common.{◌≡◌, ℕ, suc, Bool, true, false, List, [], ◌∷◌, ◌++◌, Option, None, Some, refl, ap}
 use Rattle.std.specs.Prelude.{◌==◌, ◌||◌, drop, length, nat_lt, not, take, if◌then◌else◌}
 use Rattle.std.specs.List.{flat_map, list_all}

@@ -1,4 +1,4 @@
--- What a page tells of targets: names in links, and names with facts where logs and articles begin.
+-- The names of targets in a page: names in links, and names with facts where logs and articles begin.
 use Rattle.std.proofs.Common.{◌≡◌, ℕ, Bool, true, false, List, [], ◌∷◌, ◌++◌, Option, None, Some, refl, sym, ◌∙◌, ap, subst, inl, inr}
 use Rattle.std.specs.List.{flat_map, list_all}
 use Rattle.std.proofs.lemmas.Bool.{and_parts}
@@ -72,7 +72,7 @@ module _ (logs : List Log) (nodes : List Node) where
       by tag calm = (tt, tell)
   calm_part part rest calm tell = (tt, tell)
 
-  -- Parts without links and ids tell nothing.
+  -- Parts without links and ids have no name to check.
   pub calm_tell : (parts : List Part) → list_all is_calm parts ≡ true → Tells parts
   calm_tell [] calm = none_tell
   calm_tell (part ∷ parts) calm =
@@ -135,7 +135,7 @@ module _ (logs : List Log) (nodes : List Node) where
       → Tells (MarkupPart (markup.OutputLink position) ∷ TextPart SHOWN_ABOVE.now ∷ MarkupPart markup.EndLink ∷ [])
   above_link_tells position = record { before = λ rest tell. (inr (SHOWN_ABOVE.now, refl, (rest, refl)), (tt, (tt, tell))) }
 
-  -- The name of a link is that of the target at its position, if it has one.
+  -- If a link has a position, its name is the name of the target there.
   abbrev pub IsNameAt : Option ℕ → List ℕ → Type 0
   IsNameAt None name = Unit {0}
   IsNameAt (Some position) name = target_name logs nodes position ≡ name

@@ -321,7 +321,7 @@ abbrev pub is_within : ℕ → ℕ → PositionedLine → Bool
 is_within position below positioned = is_between position (position + below) positioned.position
 
 module _ (build : Build) (lines : List PositionedLine) where
-  -- Of these lines, parts show those of the log at a position and of the logs below it, and no others.
+  -- Parts show exactly the lines of the log at a position and of the logs below it.
   abbrev pub ShowsLinesFrom : ℕ → List Part → Type 0
   ShowsLinesFrom position parts =
       log_bytes parts ≡ positioned_bytes (unmoved_lines build (filter (is_within position (node_at build.nodes position).below) lines))
