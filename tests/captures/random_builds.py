@@ -35,6 +35,8 @@ FIXED_COLOURED = DAILY_COLOURED = 60
 UNENDED = "<unended>"
 # make writes the text of $(info) and the line feed after it in two parts. So another process may print between them.
 INFO = "<info>"
+# What a script puts before each line of some makes.
+BEFORE_LINE = r"\[[^\[\]~]+ ~\d+\]"
 SIGNALS = ("KILL", "TERM", "SEGV", "ABRT", "PIPE", "HUP", "USR1")
 STATUSES = (1, 2, 3, 77, 126, 127, 130, 255)
 
@@ -445,10 +447,13 @@ def lines_of(data):
     text = data.decode("utf-8", "surrogateescape")
     # A shell writes its name and what it says in two parts. Another process may write to the same file between them.
     text = text.replace("/bin/sh: 1: ", "")
-    text, late_line_feeds = re.subn(f"{INFO}(?!\n)", INFO + "\n", text)
+    # What another process printed before the late line feed of $(info) is a line of its own, with the same token before it.
+    late_line_feeds, found = 0, True
+    while found:
+        text, found = re.subn(f"(?m)^((?:{BEFORE_LINE} )*)(.*?{INFO})(?!\n)", r"\1\2\n\1", text)
+        late_line_feeds += found
     lines = re.sub(f"{UNENDED}\n?", UNENDED + "\n", text).splitlines()
-    # A script puts a token before each line of some makes.
-    empty = [line for line in lines if re.fullmatch(r"(\[[^\[\]~]+ ~\d+\] )?", line)]
+    empty = [line for line in lines if re.fullmatch(f"({BEFORE_LINE} )*", line)]
     for line in empty[:late_line_feeds]:
         lines.remove(line)
     return lines
