@@ -149,7 +149,7 @@ void report(const char *command, int is_quiet) {
   if (show_mode == SHOW_FAILED && !is_quiet && !captures_output) report_printed(&groups.texts);
   if (command_status != 0 && groups.failed.count == 0 && !is_stopped) {
     if (groups.ignored.count == 0) warn("no recipe failed; see %s's own message", base_name(command));
-    else warn("no recipe failed, except where that was ignored; see %s's own message", base_name(command));
+    else warn("only failures that seem to be ignored: %s; see %s's own message", show_command("", &groups.ignored), base_name(command));
   }
   if (command_status != 0) warn("show all logs: %s", show_all_command());
 }

@@ -827,7 +827,7 @@ def message_differences(build, captured, printed, words):
             yield f"message: {message}"
     # If two makes make a target, the make that ended it last sets its status.
     shared = {name for name, count in build.recipe_count.items() if count > 1}
-    failed = {"no recipe failed;": {word.name for word in words if not word.is_ignored}, "no recipe failed, except": causes(build, words)[0] - shared}
+    failed = {"no recipe failed;": {word.name for word in words if not word.is_ignored}, "only failures that": causes(build, words)[0] - shared}
     for start, names in failed.items():
         if names and any(message.startswith(start) for message in printed.messages):
             yield f"{start} but {names}"

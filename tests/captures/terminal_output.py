@@ -172,7 +172,7 @@ def ignored_failures(checks, at):
     folder = project(at("all"), "all: a b\na: ; @$(MAKE) -s probe || :\nb: a ; @$(MAKE) -s cause\ncause: ; @echo cause >&2; exit 4\n" + probe)
     checks.expect("a recipe that did not fail, and another", last_lines(2, make(folder, "-s")[2]), failed("cause"))
     folder = project(at("norule"), "all: a nope\na: ; @$(MAKE) -s probe 2>/dev/null || :\n" + probe)
-    lines = ["no recipe failed, except where that was ignored; see make's own message", "show all logs: redo-log -r all"]
+    lines = ["only failures that seem to be ignored: redo-log probe; see make's own message", "show all logs: redo-log -r all"]
     checks.expect("only failures that are ignored", last_lines(2, make(folder, "-ks")[2]), "".join(f"redo-log-capture: {line}\n" for line in lines))
 
     folder = project(at("again"), "all: s1 s2\ns1: ; @$(MAKE) -s -f x.mk x X=1\ns2: s1; @$(MAKE) -s -f x.mk x\n")
