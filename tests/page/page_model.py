@@ -140,11 +140,11 @@ def exit_badge(status):
 
 
 def badge(status):
-    return b' <strong class="o">not closed</strong>' if status is None else exit_badge(status) if status else b""
+    return b' <strong class="o">unfinished</strong>' if status is None else exit_badge(status) if status else b""
 
 
 def small(html):
-    return b" <small>" + html + b"</small>"
+    return b" <small>\xc2\xb7 " + html + b"</small>"
 
 
 def facts(shown):
@@ -160,7 +160,7 @@ def facts(shown):
     if below:
         out += small(b"%d below" % len(below))
     if warned:
-        out += small(b"with <em>" + many(warned, b" warning", b" warnings") + b"</em>")
+        out += small(b"<em>" + many(warned, b" warning below", b" warnings below") + b"</em>")
     return out
 
 
@@ -349,8 +349,8 @@ class Page:
         above = [shown for shown in build.order if shown.failed and shown not in build.first]
         open_ended = [shown for shown in build.order if shown.status is None and not shown.children and shown.parent is not build.top]
         self.more(build.first[10:], b" more that failed", b' start="11"', True)
-        self.more(above, b" above these, which failed with them", b"", False)
-        self.more(open_ended, b" not closed", b"", False)
+        self.more(above, b" failed because of these", b"", False)
+        self.more(open_ended, b" unfinished", b"", False)
         self.put(b"</section>")
 
     def row(self, shown, to, with_cause):
@@ -427,7 +427,7 @@ class Page:
         order, first, timing = self.build.order, self.build.first, self.timing
         above = sum(shown.failed for shown in order) - len(first)
         yield b"Targets", b"%d" % len(order)
-        yield b"Failed", b"%d" % len(first) + (b", and %d above" % above if above else b"")
+        yield b"Failed", b"%d" % len(first) + (b", and %d dependent" % above if above else b"")
         yield b"Lines with warning:", b"%d" % min(MOST, sum(shown.warnings for shown in order))
         yield b"Logs", size(min(MOST, sum(shown.size for shown in order)))
         if timing.window:
@@ -498,7 +498,7 @@ class Page:
         else:
             title = name + (b", " + took if has_length else b"")
             if shown.status is None:
-                title += b", not closed"
+                title += b", unfinished"
             elif shown.status != 0:
                 title += b", exit %d" % shown.status
         last = name.rpartition(b"/")[2]
@@ -515,7 +515,7 @@ class Page:
             heading = b"%d of " % failures + many(targets, b" target failed", b" targets failed")
         elif any(shown.status is None for shown in build.top.children):
             verdict, sign = b"open", "\u2026"
-            heading = many(targets, b" target begun, not ended", b" targets begun, not ended")
+            heading = b"%d of " % sum(shown.status is None for shown in build.order) + many(targets, b" target unfinished", b" targets unfinished")
         else:
             verdict, sign = b"good", "\u2713"
             heading = many(targets, b" target made, none failed", b" targets made, none failed")

@@ -222,8 +222,8 @@ def numbered(first, last, length=99):
 LONG = {b"all": record(b"do", 1, b"a") + numbered(1, 100) + record(b"done", 2, b"0 all"), b"a": b""}
 page = made_page(LONG, max_bytes=5, directory=b"my dir")
 check("a long log", part(page, b"<ul class=\"tree\">", b"</section>"),
-      b'<li><details open id="t0"><summary><bdi>all</bdi> <small>100 lines</small> <small>1 below</small></summary><ul><li id="t1"><bdi>a</bdi> '
-      b"<strong class=\"o\">not closed</strong></li><li><pre>\n" + numbered(1, 10) + b"</pre></li>" + NOTE + b"<li><pre>\n" + numbered(71, 100)
+      b'<li><details open id="t0"><summary><bdi>all</bdi> <small>\xc2\xb7 100 lines</small> <small>\xc2\xb7 1 below</small></summary><ul><li id="t1"><bdi>a</bdi> '
+      b"<strong class=\"o\">unfinished</strong></li><li><pre>\n" + numbered(1, 10) + b"</pre></li>" + NOTE + b"<li><pre>\n" + numbered(71, 100)
       + b"</pre></li></ul></details></li></ul>")
 check("its size", tile(b"Logs", b"10.0 kB") in page, True)
 check("the command at the end", part(page, b"As one text: <code>", b"</code>"), b"redo-log -r --dir='my dir' all")
@@ -275,7 +275,7 @@ check("groups between lines that are left out", re.findall(rb'<li class="note">|
       [b'<li class="note">', b"<summary>5 targets", b"<summary>5 targets"])
 # The sixty-first log is not nested.
 DEEP = {b"all": record(b"do", 1, b"d1"), **{b"d%d" % depth: record(b"do", 1, b"d%d" % (depth + 1)) for depth in range(1, 60)}, b"d60": numbered(1, 100)}
-check("a log that is not nested", part(made_page(DEEP, max_bytes=1), b"<small>level 60</small></li>", b"</ul>"),
+check("a log that is not nested", part(made_page(DEEP, max_bytes=1), b"<small>\xc2\xb7 level 60</small></li>", b"</ul>"),
       b"<li><pre>\n" + numbered(1, 10) + b"</pre></li>" + NOTE + b"<li><pre>\n" + numbered(71, 100) + b'</pre></li><li class="note">end of <bdi>d60</bdi></li>')
 # An output of 300 lines is in an article, and not cut. One of 301 lines is in the tree, and the excerpt in its article has the last 60.
 for count, wanted in [(300, []), (301, [*range(1, 11), None, *range(272, 302)])]:
@@ -324,9 +324,9 @@ def bare(page):
 
 
 header, summary, timeline, nav = bare(made_page({b"all": b"warning: x\n"}))
-check("no times: header", header, b'<p><bdi>all</bdi> <strong class="o">not closed</strong></p>')
+check("no times: header", header, b'<p><bdi>all</bdi> <strong class="o">unfinished</strong></p>')
 check("no times: summary", summary, tile(b"Targets", b"1") + tile(b"Failed", b"0") + tile(b"Lines with warning:", b"1") + tile(b"Logs", b"11 bytes")
-      + b'</dl><div class="cols"><div><h3>Most warnings</h3><table><tbody><tr><th scope="row"><a href="#t0"><bdi>all</bdi></a> <strong class="o">not closed</strong></th>'
+      + b'</dl><div class="cols"><div><h3>Most warnings</h3><table><tbody><tr><th scope="row"><a href="#t0"><bdi>all</bdi></a> <strong class="o">unfinished</strong></th>'
       b'<td class="n">1</td><td class="m">' + meter_html(10_000) + b'</td></tr></tbody></table></div></div>'
       b'<p class="quiet">There is no timeline: the logs do not say when the targets ran.</p>')
 check("no times: timeline", (timeline, b"#timeline" in nav), (None, False))
@@ -353,7 +353,7 @@ header, summary, timeline, nav = bare(page)
 check("make: header", header, '<p><bdi>all</bdi> <strong class="x">exit 2</strong></p><p class="meta">Sun, 13 Sep 2020 12:26:41 GMT \u00b7 took 8.00 s</p>'.encode())
 check("make: nav", [part(item, b"#", b"\"") for item in nav.split(b"<li>")[1:]], [b"failed", b"summary", b"timeline", b"tree"])
 check("make: tiles", summary.partition(b"</dl>")[0], b"".join(tile(*pair) for pair in [
-    (b"Targets", b"4"), (b"Failed", b"1, and 2 above"), (b"Lines with warning:", b"0"), (b"Logs", b"8 bytes"), (b"Took", b"8.00 s"),
+    (b"Targets", b"4"), (b"Failed", b"1, and 2 dependent"), (b"Lines with warning:", b"0"), (b"Logs", b"8 bytes"), (b"Took", b"8.00 s"),
     (b"Sum of times", b"9.00 s"), (b"At once", b"1.1, at most 2")]))
 
 
@@ -395,7 +395,7 @@ check("make: timeline", timeline, b' aria-labelledby="h-timeline"><h2 id="h-time
       + b'</g><g class="e" fill="#8a6d3b"></g></svg></div><p class="quiet">A bar leads to its log. Pale bars are recipes that ran others. '
       b"They don't count in the sum of times.</p>")
 check("make: an article", part(page, b'<p class="meta">6.00 s', b"</p>"), ' \u00b7 <bdi>all</bdi> \u203a <bdi>d/x</bdi> \u203a <a href="#t3">its place in the tree</a>'.encode())
-check("make: facts", part(page, b"<bdi>sub/y</bdi> <small>3.00", b"</summary>"), b" s</small> <small>1 line</small>")
+check("make: facts", part(page, b"<bdi>sub/y</bdi> <small>\xc2\xb7 3.00", b"</summary>"), b" s</small> <small>\xc2\xb7 1 line</small>")
 
 # Of eleven targets, one has no beginning: 1 of 11 is more than a tenth. Of ten others and this one, 1 of 10 isn't.
 for count, wanted in ((8, False), (9, True)):

@@ -56,7 +56,7 @@ last_parts = (refl, refl, refl, refl, refl, refl)
 statuses :
     status_text None ∷ status_text (Some (pos 0)) ∷ status_text (Some (pos 1)) ∷ status_text (Some (pos 127))
     ∷ status_text (Some (negsuc 0)) ∷ status_text (Some (negsuc 14)) ∷ []
-    ≡ codes ", not closed" ∷ [] ∷ codes ", exit 1" ∷ codes ", exit 127" ∷ codes ", exit -1" ∷ codes ", exit -15" ∷ []
+    ≡ codes ", unfinished" ∷ [] ∷ codes ", exit 1" ∷ codes ", exit 127" ∷ codes ", exit -1" ∷ codes ", exit -15" ∷ []
 unfolding decimal_text digits
 statuses = refl
 
@@ -84,7 +84,7 @@ titles :
     title_of logs nodes Recipes (bar 0 1 1000 2500) ∷ title_of logs nodes Callers (bar 1 1 0 60000)
     ∷ title_of logs nodes Recipes (bar 2 1 9 5) ∷ title_of logs nodes Untimed (bar 3 1 5 5) ∷ title_of logs nodes Recipes (bar 2 3 10 30)
     ∷ title_of logs nodes Untimed (bar 3 12 10 30) ∷ []
-    ≡ codes "out/b.o, 1.50 s, exit -1" ∷ codes "all, 1 min 00 s, not closed" ∷ codes "out/a.o, 0.00 s" ∷ codes "t, exit 12"
+    ≡ codes "out/b.o, 1.50 s, exit -1" ∷ codes "all, 1 min 00 s, unfinished" ∷ codes "out/a.o, 0.00 s" ∷ codes "t, exit 12"
     ∷ codes "3 targets in 0.02 s, from out/a.o" ∷ codes "12 targets, from t" ∷ []
 unfolding duration_words decimal_text digits
 titles = refl
@@ -196,7 +196,7 @@ axis_drawn : shapes_of Axis chart ≡ axis_shapes 98 10000
 unfolding tick_step_of
 axis_drawn = refl
 
-callers_drawn : shapes_of Callers chart ≡ drawn_at 1 0 20 10000 12 false (codes "all, 10.0 s, not closed") (Some (codes "all")) ∷ []
+callers_drawn : shapes_of Callers chart ≡ drawn_at 1 0 20 10000 12 false (codes "all, 10.0 s, unfinished") (Some (codes "all")) ∷ []
 unfolding tick_step_of duration_words decimal_text digits
 callers_drawn = refl
 

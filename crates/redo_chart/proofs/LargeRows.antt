@@ -68,7 +68,7 @@ long_titles = (refl, refl, refl)
 
 statuses : map status_text (None ∷ Some (pos 0) ∷ Some (pos 6) ∷ Some (pos 130) ∷ Some (pos 256) ∷ Some (pos 2147483647) ∷ Some (negsuc 4)
     ∷ Some (negsuc 2147483647) ∷ [])
-    ≡ codes ", not closed" ∷ [] ∷ codes ", exit 6" ∷ codes ", exit 130" ∷ codes ", exit 256" ∷ codes ", exit 2147483647" ∷ codes ", exit -5"
+    ≡ codes ", unfinished" ∷ [] ∷ codes ", exit 6" ∷ codes ", exit 130" ∷ codes ", exit 256" ∷ codes ", exit 2147483647" ∷ codes ", exit -5"
     ∷ codes ", exit -2147483648" ∷ []
 unfolding decimal_text digits
 statuses = refl

@@ -20,7 +20,7 @@ magnitude (negsuc less) = suc less
 
 -- How a target ended. The text is empty if its status is 0.
 abbrev pub status_text : Option ℤ → List ℕ
-status_text None = codes ", not closed"
+status_text None = codes ", unfinished"
 status_text (Some (pos zero)) = []
 status_text (Some status) = before_magnitude status ++ decimal_text (magnitude status)
 

@@ -101,7 +101,7 @@ fn push_status(status: Option<i32>, text: &mut Vec<u8>) -> Result<(), AllocError
     ensures { OnOk result (text.new.items ≡ text.old.items ++ spec.status_text status) }
 {
     match status {
-        None => text.extend_from_slice(b", not closed"),
+        None => text.extend_from_slice(b", unfinished"),
         Some(0) => Ok(()),
         Some(status) => push_words(
             &[

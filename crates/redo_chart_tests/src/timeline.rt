@@ -92,7 +92,7 @@ static HTML: &[u8] =
         <text x=\"100.00%\" y=\"11\" text-anchor=\"end\">10 s</text></g>\
         <g class=\"w\" fill=\"#8886\"><a href=\"#t0\" tabindex=\"-1\">\
         <svg x=\"0.00%\" y=\"20\" width=\"100.00%\" height=\"12\">\
-        <title>all, 10.0 s, not closed</title><rect width=\"100%\" height=\"12\"></rect>\
+        <title>all, 10.0 s, unfinished</title><rect width=\"100%\" height=\"12\"></rect>\
         <text x=\"4\" y=\"9\" fill=\"currentColor\">all</text></svg></a></g>\
         <g class=\"k\" fill=\"#3a6ea5\"><a href=\"#t1\" tabindex=\"-1\">\
         <svg x=\"0.00%\" y=\"40\" width=\"40.00%\" height=\"16\"><title>out/a.o, 4.00 s</title>\

@@ -81,7 +81,7 @@ no_section = refl
 one_failure :
     bytes_eq (html (failed_parts logs (node 0 None (Some (pos 3)) 0 1 true ∷ b ∷ [])))
     (codes "<section id=\"failed\" aria-labelledby=\"h-failed\"><h2 id=\"h-failed\">What failed</h2><article id=\"f1\"><h3><bdi>b</bdi> <strong class=\"x\">exit 1</strong></h3><p class=\"meta\"><bdi>all</bdi>"
-    ++ then (codes "<a href=\"#t1\">its place in the tree</a></p><pre>\ncc b.c\nb.c:1: error: x\n</pre></article><details class=\"more\"><summary>1 above these, which failed with them</summary><ol class=\"list\"><li><a href=\"#t0\"><bdi>all</bdi></a> <strong class=\"x\">exit 3</strong></li></ol></details></section>"))
+    ++ then (codes "<a href=\"#t1\">its place in the tree</a></p><pre>\ncc b.c\nb.c:1: error: x\n</pre></article><details class=\"more\"><summary>1 failed because of these</summary><ol class=\"list\"><li><a href=\"#t0\"><bdi>all</bdi></a> <strong class=\"x\">exit 3</strong></li></ol></details></section>"))
     ≡ true
 unfolding failed_parts section_parts list_parts more_parts target_row row_parts unlisted_parts cause_of_node cause_parts cut_to begins_with article_parts article_of path_parts output_parts whole_parts in_tree_parts symbols_after first_symbol symbol_len is_sequence sequence_len sequence_numbers first_code_point code_point_len is_unprintable notation unprintable_text number_text encode_utf8 digits html_from
 one_failure = refl
@@ -90,7 +90,7 @@ one_failure = refl
 one_unclosed :
     bytes_eq (html (failed_parts logs (node 0 None (Some (pos 3)) 0 2 true ∷ b ∷ node 3 (Some 0) None 2 0 false ∷ [])))
     (codes "<section id=\"failed\" aria-labelledby=\"h-failed\"><h2 id=\"h-failed\">What failed</h2><article id=\"f1\"><h3><bdi>b</bdi> <strong class=\"x\">exit 1</strong></h3><p class=\"meta\"><bdi>all</bdi>"
-    ++ then (codes "<a href=\"#t1\">its place in the tree</a></p><pre>\ncc b.c\nb.c:1: error: x\n</pre></article><details class=\"more\"><summary>1 above these, which failed with them</summary><ol class=\"list\"><li><a href=\"#t0\"><bdi>all</bdi></a> <strong class=\"x\">exit 3</strong></li></ol></details><details class=\"more\"><summary>1 not closed</summary><ol class=\"list\"><li><a href=\"#t2\"><bdi>d</bdi></a> <strong class=\"o\">not closed</strong></li></ol></details></section>"))
+    ++ then (codes "<a href=\"#t1\">its place in the tree</a></p><pre>\ncc b.c\nb.c:1: error: x\n</pre></article><details class=\"more\"><summary>1 failed because of these</summary><ol class=\"list\"><li><a href=\"#t0\"><bdi>all</bdi></a> <strong class=\"x\">exit 3</strong></li></ol></details><details class=\"more\"><summary>1 unfinished</summary><ol class=\"list\"><li><a href=\"#t2\"><bdi>d</bdi></a> <strong class=\"o\">unfinished</strong></li></ol></details></section>"))
     ≡ true
 unfolding failed_parts section_parts list_parts more_parts article_row target_row row_parts unlisted_parts cause_of_node cause_parts cut_to begins_with article_parts article_of path_parts output_parts whole_parts in_tree_parts symbols_after first_symbol symbol_len is_sequence sequence_len sequence_numbers first_code_point code_point_len is_unprintable notation unprintable_text number_text encode_utf8 digits html_from
 one_unclosed = refl
@@ -324,7 +324,7 @@ short_path = refl
 -- The path to the article of a target at the end of a long path begins with `…`.
 long_path :
     bytes_eq (html (article_parts logs chain 5))
-    (codes "<article id=\"f5\"><h3><bdi>b</bdi> <strong class=\"o\">not closed</strong></h3><p class=\"meta\">"
+    (codes "<article id=\"f5\"><h3><bdi>b</bdi> <strong class=\"o\">unfinished</strong></h3><p class=\"meta\">"
     ++ (0xE2 ∷ 0x80 ∷ 0xA6
     ∷ then (codes "<bdi>b</bdi>" ++ then (codes "<bdi>c</bdi>" ++ then (codes "<bdi>d</bdi>" ++ then (codes "<bdi>all</bdi>"
     ++ then (codes "<a href=\"#t5\">its place in the tree</a></p><p class=\"quiet\">It printed nothing that was captured.</p></article>")))))))

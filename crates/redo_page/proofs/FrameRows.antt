@@ -64,10 +64,11 @@ unfolding number_text digits
 failed_texts_are = (refl, refl, refl)
 
 unfinished_texts_are :
-    (verdict_text Unfinished (begun ∷ []) ≡ codes "1 target begun, not ended")
-    × (verdict_text Unfinished (begun ∷ made ∷ []) ≡ codes "2 targets begun, not ended")
+    (verdict_text Unfinished (begun ∷ []) ≡ codes "1 of 1 target unfinished")
+    × (verdict_text Unfinished (begun ∷ made ∷ []) ≡ codes "1 of 2 targets unfinished")
+    × (verdict_text Unfinished (begun ∷ made ∷ node (Some 0) None false ∷ []) ≡ codes "2 of 3 targets unfinished")
 unfolding number_text digits
-unfinished_texts_are = (refl, refl)
+unfinished_texts_are = (refl, refl, refl)
 
 made_texts_are :
     (verdict_text Made [] ≡ codes "0 targets made, none failed") × (verdict_text Made (made ∷ []) ≡ codes "1 target made, none failed")
@@ -173,7 +174,7 @@ untimed_is = refl
 requested_are :
     header_parts (view [] (record made { number = 1 } ∷ node (Some 0) (Some (pos 0)) false ∷ begun ∷ []) (facts None 0 0 0))
     ≡ heading (0xE2 ∷ 0x80 ∷ 0xA6 ∷ []) (name (codes "b") (tag markup.EndParagraph
-    ∷ name (codes "a") (words (codes " ") ∷ tag markup.OpenBadge ∷ words (codes "not closed") ∷ tag markup.EndBadge ∷ tag markup.EndParagraph
+    ∷ name (codes "a") (words (codes " ") ∷ tag markup.OpenBadge ∷ words (codes "unfinished") ∷ tag markup.EndBadge ∷ tag markup.EndParagraph
     ∷ nav (item markup.SummaryLink (codes "Summary") last_item))))
 requested_are = refl
 

@@ -11,6 +11,7 @@ use Rattle.redo_html.specs.declared.markup.Markup.TheVariants.{FailedSection, Su
 use Rattle.redo_html.specs.Chart.{drawing_links}
 use Rattle.redo_html.specs.Parts.{Part}
 use Rattle.redo_html.specs.Parts.Part.{MarkupPart, LogPart, TextPart, NumberPart, TitlePart, StylePart, ChartPart, MeterPart}
+use Rattle.redo_page.specs.declared.labels.TheConstants.{FACT_DOT}
 use Rattle.redo_page.specs.Laws.{target_id, target_ids, target_link, target_links, article_id, article_ids, article_link, article_links, is_among}
 use Rattle.redo_line.specs.declared.entry.How.{How}
 use Rattle.redo_outline.specs.declared.node.Node.{Node}
@@ -247,7 +248,7 @@ words_bare before after words first last =
 
 pub took_bare : (took : Option ℕ) → Bare (took_parts took)
 took_bare None = refl
-took_bare (Some ms) = words_bare (TextPart (codes " ") ∷ MarkupPart Small ∷ []) (MarkupPart EndSmall ∷ []) (duration_words ms) refl refl
+took_bare (Some ms) = words_bare (TextPart (codes " ") ∷ MarkupPart Small ∷ TextPart FACT_DOT.now ∷ []) (MarkupPart EndSmall ∷ []) (duration_words ms) refl refl
 
 warnings_below_bare : (warnings : ℕ) → Bare (warnings_below_parts warnings)
 warnings_below_bare warnings = bare_if (not (warnings == 0)) _ refl

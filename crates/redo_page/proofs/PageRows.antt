@@ -37,6 +37,10 @@ use Rattle.redo_units.specs.Durations.{duration_words}
 use Rattle.redo_units.specs.Sizes.{size_words, tenths_words}
 use Rattle.redo_times.specs.declared.times.Times.{Times}
 
+-- A middle dot (U+00B7) in UTF-8, and a space.
+abbrev fact_dot : List ℕ
+fact_dot = 0xC2 ∷ 0xB7 ∷ codes " "
+
 abbrev tag : Markup → Part
 tag markup = MarkupPart markup
 
@@ -305,8 +309,8 @@ made_page :
     ∷ item markup.SummaryLink (codes "Summary")
     (item markup.TreeLink (codes "All logs") (tag markup.EndUnordered ∷ tag markup.EndNav ∷ tag markup.Main
     ∷ summary 2 0 2 (tree (tag markup.Item ∷ tag (markup.OpenDetails 0) ∷ tag markup.Summary ∷ name (codes "a")
-    (words (codes " ") ∷ tag markup.Small ∷ NumberPart 1 ∷ words (codes " line") ∷ tag markup.EndSmall ∷ words (codes " ")
-    ∷ tag markup.Small ∷ NumberPart 1 ∷ words (codes " below") ∷ tag markup.EndSmall
+    (words (codes " ") ∷ tag markup.Small ∷ words fact_dot ∷ NumberPart 1 ∷ words (codes " line") ∷ tag markup.EndSmall ∷ words (codes " ")
+    ∷ tag markup.Small ∷ words fact_dot ∷ NumberPart 1 ∷ words (codes " below") ∷ tag markup.EndSmall
     ∷ tag markup.EndSummary ∷ tag markup.Unordered ∷ tag markup.Item ∷ tag markup.Pre ∷ LogPart plain_style (codes "x\n")
     ∷ tag markup.EndPre ∷ tag markup.EndItem
     ∷ tag (markup.TargetItem 1) ∷ name (codes "b")
@@ -338,7 +342,7 @@ failed_page :
     ∷ words (codes "its place in the tree") ∷ tag markup.EndLink ∷ tag markup.EndParagraph
     ∷ tag markup.Pre ∷ LogPart plain_style (codes "x\n") ∷ tag markup.EndPre ∷ tag markup.EndArticle ∷ tag markup.EndSection
     ∷ summary 1 1 2 (tree (tag markup.Item ∷ tag (markup.OpenDetails 0) ∷ tag markup.Summary ∷ name (codes "a") (badge
-    (words (codes " ") ∷ tag markup.Small ∷ NumberPart 1 ∷ words (codes " line") ∷ tag markup.EndSmall ∷ tag markup.EndSummary
+    (words (codes " ") ∷ tag markup.Small ∷ words fact_dot ∷ NumberPart 1 ∷ words (codes " line") ∷ tag markup.EndSmall ∷ tag markup.EndSummary
     ∷ tag markup.Unordered
     ∷ tag markup.NoteItem ∷ tag (markup.OutputLink 0) ∷ words (codes "What it printed is shown above") ∷ tag markup.EndLink
     ∷ tag markup.EndItem ∷ tag markup.EndUnordered ∷ tag markup.EndDetails ∷ tag markup.EndItem

@@ -126,7 +126,7 @@ timed rest =
 abbrev all_tiles : List Part → List Part
 all_tiles rest =
     tile_of (codes "Targets") (number 3 ∷ [])
-    (tile_of (codes "Failed") (number 1 ∷ words (codes ", and ") ∷ number 1 ∷ words (codes " above") ∷ [])
+    (tile_of (codes "Failed") (number 1 ∷ words (codes ", and ") ∷ number 1 ∷ words (codes " dependent") ∷ [])
     (tile_of (codes "Lines with warning:") (number 7 ∷ [])
     (tile_of (codes "Logs") (number 1 ∷ words (codes " byte") ∷ words [] ∷ words [] ∷ [])
     (tile_of (codes "Took") (number 1 ∷ words (codes " min ") ∷ number 3 ∷ number 0 ∷ words (codes " s") ∷ []) (timed rest)))))
@@ -211,7 +211,7 @@ summary_is :
     × (summary unknown
     ≡ section
     (tile_of (codes "Targets") (number 3 ∷ [])
-    (tile_of (codes "Failed") (number 1 ∷ words (codes ", and ") ∷ number 1 ∷ words (codes " above") ∷ [])
+    (tile_of (codes "Failed") (number 1 ∷ words (codes ", and ") ∷ number 1 ∷ words (codes " dependent") ∷ [])
     (tile_of (codes "Lines with warning:") (number 4 ∷ [])
     (tile_of (codes "Logs") (number 46 ∷ words (codes ".") ∷ number 0 ∷ words (codes " kB") ∷ [])
     (tag markup.EndDescriptionList ∷ tag markup.QuietParagraph ∷ nothing_known ∷ tag markup.EndParagraph ∷ tag markup.EndSection ∷ [])))))
@@ -225,7 +225,7 @@ summary_begins :
     ≡ section
     (tile_of (codes "Targets") (number 3 ∷ [])
     (tag markup.Div ∷ tag markup.Term ∷ words (codes "Failed") ∷ tag markup.EndTerm ∷ tag markup.Description ∷ number 1
-    ∷ words (codes ", and ") ∷ number 1 ∷ words (codes " above") ∷ []))
+    ∷ words (codes ", and ") ∷ number 1 ∷ words (codes " dependent") ∷ []))
 unfolding summary_parts duration_words size_words tenths_words
 summary_begins = refl
 
@@ -308,7 +308,7 @@ warned_are = refl
 
 warned_words_are :
     flat_map words_of (summary warned)
-    ≡ codes "Summary" ∷ codes "Targets" ∷ codes "Failed" ∷ codes ", and " ∷ codes " above" ∷ codes "Lines with warning:" ∷ codes "Logs"
+    ≡ codes "Summary" ∷ codes "Targets" ∷ codes "Failed" ∷ codes ", and " ∷ codes " dependent" ∷ codes "Lines with warning:" ∷ codes "Logs"
     ∷ codes "." ∷ codes " kB" ∷ codes "Most warnings" ∷ codes "a" ∷ codes "b" ∷ codes " " ∷ codes "exit " ∷ []
     ∷ codes "There is no timeline: the logs do not say when the targets ran." ∷ []
 unfolding summary_parts duration_words size_words tenths_words

@@ -7,6 +7,7 @@ use Rattle.redo_html.specs.Parts.Part.{MarkupPart, TextPart}
 use Rattle.redo_line.specs.declared.entry.How.{How}
 use Rattle.redo_outline.specs.declared.node.Node.{Node}
 use Rattle.redo_outline.specs.Facts.{is_failure}
+use Rattle.redo_page.specs.declared.labels.TheConstants.{FACT_DOT}
 use Rattle.redo_page.specs.Targets.{name_parts, exit_parts, badge_parts, lines_parts, warnings_parts, below_parts, warnings_below_parts, facts_parts, how_parts, linked_parts, took_parts}
 use Rattle.redo_page.specs.Words.{word_part, words_parts}
 use Rattle.redo_units.specs.Durations.{duration_words}
@@ -48,7 +49,7 @@ words_nest {inside} before after words first last = then_lead first (then_lead (
 pub took_nests : (took : Option ℕ) → Nest (took_parts took)
 took_nests None = record { leads = λ around tags. refl }
 took_nests (Some ms) =
-    words_nest {inside = codes "small" ∷ []} (TextPart (codes " ") ∷ MarkupPart Small ∷ []) (MarkupPart EndSmall ∷ []) (duration_words ms)
+    words_nest {inside = codes "small" ∷ []} (TextPart (codes " ") ∷ MarkupPart Small ∷ TextPart FACT_DOT.now ∷ []) (MarkupPart EndSmall ∷ []) (duration_words ms)
     (record { leads = λ around tags. refl }) (record { leads = λ around tags. refl })
 
 pub facts_nest : (node : Node) → Nest (facts_parts node)

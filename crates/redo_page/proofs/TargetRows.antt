@@ -11,6 +11,10 @@ use Rattle.redo_page.specs.Targets.{badge_parts, below_parts, exit_parts, facts_
 use Rattle.redo_units.specs.Durations.{duration_words}
 use Rattle.redo_page.specs.Tree.{no_node}
 
+-- A middle dot (U+00B7) in UTF-8, and a space.
+abbrev fact_dot : List ℕ
+fact_dot = 0xC2 ∷ 0xB7 ∷ codes " "
+
 abbrev tag : Markup → Part
 tag markup = MarkupPart markup
 
@@ -43,7 +47,7 @@ exits_are :
 exits_are = (refl, refl)
 
 badges_are :
-    (badge_parts None ≡ words (codes " ") ∷ tag markup.OpenBadge ∷ words (codes "not closed") ∷ tag markup.EndBadge ∷ [])
+    (badge_parts None ≡ words (codes " ") ∷ tag markup.OpenBadge ∷ words (codes "unfinished") ∷ tag markup.EndBadge ∷ [])
     × (badge_parts (Some (pos 0)) ≡ [])
     × (badge_parts (Some (pos 1)) ≡ words (codes " ") ∷ tag markup.ExitBadge ∷ words (codes "exit ") ∷ words [] ∷ number 1
     ∷ tag markup.EndBadge ∷ [])
@@ -55,35 +59,35 @@ badges_are = (refl, refl, refl, refl)
 
 lines_are :
     (lines_parts 0 ≡ [])
-    × (lines_parts 1 ≡ words (codes " ") ∷ tag markup.Small ∷ number 1 ∷ words (codes " line") ∷ tag markup.EndSmall ∷ [])
-    × (lines_parts 2 ≡ words (codes " ") ∷ tag markup.Small ∷ number 2 ∷ words (codes " lines") ∷ tag markup.EndSmall ∷ [])
+    × (lines_parts 1 ≡ words (codes " ") ∷ tag markup.Small ∷ words fact_dot ∷ number 1 ∷ words (codes " line") ∷ tag markup.EndSmall ∷ [])
+    × (lines_parts 2 ≡ words (codes " ") ∷ tag markup.Small ∷ words fact_dot ∷ number 2 ∷ words (codes " lines") ∷ tag markup.EndSmall ∷ [])
 lines_are = (refl, refl, refl)
 
 warnings_are :
     (warnings_parts 0 ≡ [])
-    × (warnings_parts 1 ≡ words (codes " ") ∷ tag markup.Small ∷ tag markup.Warnings ∷ number 1 ∷ words (codes " warning")
+    × (warnings_parts 1 ≡ words (codes " ") ∷ tag markup.Small ∷ words fact_dot ∷ tag markup.Warnings ∷ number 1 ∷ words (codes " warning")
     ∷ tag markup.EndWarnings ∷ tag markup.EndSmall ∷ [])
-    × (warnings_parts 2 ≡ words (codes " ") ∷ tag markup.Small ∷ tag markup.Warnings ∷ number 2 ∷ words (codes " warnings")
+    × (warnings_parts 2 ≡ words (codes " ") ∷ tag markup.Small ∷ words fact_dot ∷ tag markup.Warnings ∷ number 2 ∷ words (codes " warnings")
     ∷ tag markup.EndWarnings ∷ tag markup.EndSmall ∷ [])
 warnings_are = (refl, refl, refl)
 
 below_are :
     (below_parts 0 ≡ []) × (below_parts 1
-    ≡ words (codes " ") ∷ tag markup.Small ∷ number 1 ∷ words (codes " below") ∷ tag markup.EndSmall ∷ [])
+    ≡ words (codes " ") ∷ tag markup.Small ∷ words fact_dot ∷ number 1 ∷ words (codes " below") ∷ tag markup.EndSmall ∷ [])
 below_are = (refl, refl)
 
 warnings_below_are :
     (warnings_below_parts 0 ≡ [])
-    × (warnings_below_parts 1 ≡ words (codes " ") ∷ tag markup.Small ∷ words (codes "with ") ∷ tag markup.Warnings ∷ number 1
-    ∷ words (codes " warning") ∷ tag markup.EndWarnings ∷ tag markup.EndSmall ∷ [])
-    × (warnings_below_parts 2 ≡ words (codes " ") ∷ tag markup.Small ∷ words (codes "with ") ∷ tag markup.Warnings ∷ number 2
-    ∷ words (codes " warnings") ∷ tag markup.EndWarnings ∷ tag markup.EndSmall ∷ [])
+    × (warnings_below_parts 1 ≡ words (codes " ") ∷ tag markup.Small ∷ words fact_dot ∷ tag markup.Warnings ∷ number 1
+    ∷ words (codes " warning below") ∷ tag markup.EndWarnings ∷ tag markup.EndSmall ∷ [])
+    × (warnings_below_parts 2 ≡ words (codes " ") ∷ tag markup.Small ∷ words fact_dot ∷ tag markup.Warnings ∷ number 2
+    ∷ words (codes " warnings below") ∷ tag markup.EndWarnings ∷ tag markup.EndSmall ∷ [])
 warnings_below_are = (refl, refl, refl)
 
 took_are :
     (took_parts None ≡ [])
     × (took_parts (Some 1234)
-    ≡ words (codes " ") ∷ tag markup.Small ∷ number 1 ∷ words (codes ".") ∷ number 2 ∷ number 3 ∷ words (codes " s")
+    ≡ words (codes " ") ∷ tag markup.Small ∷ words fact_dot ∷ number 1 ∷ words (codes ".") ∷ number 2 ∷ number 3 ∷ words (codes " s")
     ∷ tag markup.EndSmall ∷ [])
 unfolding duration_words
 took_are = (refl, refl)
@@ -105,13 +109,13 @@ node = record no_node {
 facts_are :
     facts_parts node
     ≡ words (codes " ") ∷ tag markup.ExitBadge ∷ words (codes "exit ") ∷ words [] ∷ number 5 ∷ tag markup.EndBadge
-    ∷ words (codes " ") ∷ tag markup.Small ∷ number 1 ∷ words (codes " min ") ∷ number 0 ∷ number 1 ∷ words (codes " s")
+    ∷ words (codes " ") ∷ tag markup.Small ∷ words fact_dot ∷ number 1 ∷ words (codes " min ") ∷ number 0 ∷ number 1 ∷ words (codes " s")
     ∷ tag markup.EndSmall
-    ∷ words (codes " ") ∷ tag markup.Small ∷ number 3 ∷ words (codes " lines") ∷ tag markup.EndSmall
-    ∷ words (codes " ") ∷ tag markup.Small ∷ tag markup.Warnings ∷ number 2 ∷ words (codes " warnings") ∷ tag markup.EndWarnings
+    ∷ words (codes " ") ∷ tag markup.Small ∷ words fact_dot ∷ number 3 ∷ words (codes " lines") ∷ tag markup.EndSmall
+    ∷ words (codes " ") ∷ tag markup.Small ∷ words fact_dot ∷ tag markup.Warnings ∷ number 2 ∷ words (codes " warnings") ∷ tag markup.EndWarnings
     ∷ tag markup.EndSmall
-    ∷ words (codes " ") ∷ tag markup.Small ∷ number 4 ∷ words (codes " below") ∷ tag markup.EndSmall
-    ∷ words (codes " ") ∷ tag markup.Small ∷ words (codes "with ") ∷ tag markup.Warnings ∷ number 1 ∷ words (codes " warning")
+    ∷ words (codes " ") ∷ tag markup.Small ∷ words fact_dot ∷ number 4 ∷ words (codes " below") ∷ tag markup.EndSmall
+    ∷ words (codes " ") ∷ tag markup.Small ∷ words fact_dot ∷ tag markup.Warnings ∷ number 1 ∷ words (codes " warning below")
     ∷ tag markup.EndWarnings ∷ tag markup.EndSmall
     ∷ []
 unfolding duration_words
@@ -120,7 +124,7 @@ facts_are = refl
 -- ---- locks
 
 abbrev done : List ℕ → List Part
-done word = words (codes " ") ∷ tag markup.Small ∷ words word ∷ tag markup.EndSmall ∷ []
+done word = words (codes " ") ∷ tag markup.Small ∷ words fact_dot ∷ words word ∷ tag markup.EndSmall ∷ []
 
 hows_are :
     (how_parts false Made ≡ []) × (how_parts true Made ≡ done (codes "made")) × (how_parts true Waiting ≡ done (codes "waiting"))

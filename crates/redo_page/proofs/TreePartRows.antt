@@ -23,6 +23,10 @@ use Rattle.redo_page.specs.declared.block.Pending.TheVariants as pending
 use Rattle.redo_page.specs.declared.level.Level.{Level}
 use Rattle.redo_page.specs.Tree.{Build, after_item, after_log, after_shown, after_text, closing_parts, contents_parts, depth_parts, details_markup, done_parts, empty_start, end_cmp, entry_parts, failure_cmp, flat_end, flat_start, group_end, group_left, group_parts, group_size, group_start, has_article, has_failed, has_one_child, heading_parts, is_empty, is_expanded, is_in_level, is_moved, is_moved_if, is_root_failure, is_same_position, is_seen, is_silent, item_parts, level_of, log_end, log_start, mention_parts, moved_parts, nested_start, no_node, node_at, node_if, note_parts, opening_parts, opening_position, position_of, position_of_name, request_parts, root_failures, section_end, section_start, seen_parts, shown_parts, text_parts, top_level, tree_parts}
 
+-- A middle dot (U+00B7) in UTF-8, and a space.
+abbrev fact_dot : List ℕ
+fact_dot = 0xC2 ∷ 0xB7 ∷ codes " "
+
 abbrev tag : Markup → Part
 tag markup = MarkupPart markup
 
@@ -217,10 +221,10 @@ starts_are = (refl, refl, refl, refl)
 abbrev facts : List Part → List Part
 facts rest =
     words (codes " ") ∷ tag markup.ExitBadge ∷ words (codes "exit ") ∷ words [] ∷ number 2 ∷ tag markup.EndBadge
-    ∷ words (codes " ") ∷ tag markup.Small ∷ number 1 ∷ words (codes " line") ∷ tag markup.EndSmall ∷ rest
+    ∷ words (codes " ") ∷ tag markup.Small ∷ words fact_dot ∷ number 1 ∷ words (codes " line") ∷ tag markup.EndSmall ∷ rest
 
 abbrev made : List Part → List Part
-made rest = words (codes " ") ∷ tag markup.Small ∷ words (codes "made") ∷ tag markup.EndSmall ∷ rest
+made rest = words (codes " ") ∷ tag markup.Small ∷ words fact_dot ∷ words (codes "made") ∷ tag markup.EndSmall ∷ rest
 
 headings_are :
     (heading_parts build (Requested (codes "a") (OpensHere 0)) 1 ≡ name (codes "a") (facts []))
@@ -248,7 +252,7 @@ details_are = (refl, refl)
 
 -- How deep a log is, and the end of its item.
 abbrev depth : ℕ → List Part → List Part
-depth value rest = words (codes " ") ∷ tag markup.Small ∷ words (codes "level ") ∷ number value ∷ tag markup.EndSmall
+depth value rest = words (codes " ") ∷ tag markup.Small ∷ words fact_dot ∷ words (codes "level ") ∷ number value ∷ tag markup.EndSmall
     ∷ tag markup.EndItem ∷ rest
 
 flat_are :
@@ -334,7 +338,7 @@ mentions_are :
     × (mention_parts build Locked (codes "x") NotOpened ≡ tag markup.Item ∷ name (codes "x") (tag markup.EndItem ∷ []))
     × (mention_parts (build_of true nodes []) Locked (codes "b") (OpenedBefore 1)
     ≡ tag markup.Item ∷ link 2 (codes "b")
-    (words (codes " ") ∷ tag markup.Small ∷ words (codes "locked") ∷ tag markup.EndSmall ∷ tag markup.EndItem ∷ []))
+    (words (codes " ") ∷ tag markup.Small ∷ words fact_dot ∷ words (codes "locked") ∷ tag markup.EndSmall ∷ tag markup.EndItem ∷ []))
 mentions_are = (refl, refl, refl)
 
 abbrev in_c : Level
@@ -433,7 +437,7 @@ group_is :
     (Opened (Mentioned 1 9 Made (codes "b") (OpensHere 1)) 1 Nothing
     (Opened (Mentioned 1 9 Made (codes "d") (OpensHere 3)) 3 Nothing Nothing))
     ≡ tag (markup.TargetItem 2) ∷ name (codes "b") (tag markup.EndItem ∷ tag (markup.TargetItem 3) ∷ name (codes "d")
-    (words (codes " ") ∷ tag markup.OpenBadge ∷ words (codes "not closed") ∷ tag markup.EndBadge ∷ tag markup.EndItem ∷ end))
+    (words (codes " ") ∷ tag markup.OpenBadge ∷ words (codes "unfinished") ∷ tag markup.EndBadge ∷ tag markup.EndItem ∷ end))
 group_is = refl
 
 -- ---- the section
@@ -449,7 +453,7 @@ section_is = (refl, refl)
 
 -- The output of the only target that failed is moved.
 moved_in_tree :
-    drop 31 (tree_parts logs (options true) (a ∷ [])
+    drop 33 (tree_parts logs (options true) (a ∷ [])
     (Opened (Mentioned 1 9 Made (codes "a") (OpensHere 0)) 0 (Shown (EntryShown 1 (Text (codes "x"))) Nothing) Nothing))
     ≡ tag markup.NoteItem ∷ tag (markup.OutputLink 0) ∷ words (codes "What it printed is shown above") ∷ tag markup.EndLink
     ∷ tag markup.EndItem

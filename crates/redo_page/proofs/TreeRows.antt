@@ -1,7 +1,7 @@
 -- Rows of trees: the logs, the requested targets, the options, and the HTML of the tree. An independent program in Python wrote the HTML.
 use Rattle.std.proofs.Common.{◌≡◌, ℕ, Bool, true, false, List, [], ◌∷◌, ◌++◌, Option, None, Some, ℤ, pos, negsuc, refl}
 use Rattle.std.specs.Char.{encode_utf8}
-use Rattle.std.specs.Prelude.{codes}
+use Rattle.std.specs.Prelude.{◌==◌, codes, if◌then◌else◌}
 use Rattle.std.specs.Fmt.{digits}
 use Rattle.std.specs.List.{flat_map}
 use Rattle.redo_line.specs.declared.entry.Entry.{Entry}
@@ -29,6 +29,10 @@ use Rattle.redo_page.specs.declared.block.Pending.{Pending}
 use Rattle.redo_page.specs.declared.block.Pending.TheVariants as pending
 use Rattle.redo_page.specs.Blocks.{after_line, fits, line_parts}
 use Rattle.redo_page.specs.Tree.{articles, contents_parts, is_short, no_node, node_at, top_level, tree_parts}
+
+-- A text with middle dots (U+00B7) in place of its tildes.
+abbrev dotted : List ℕ → List ℕ
+dotted text = flat_map (λ byte. if byte == 126 then 0xC2 ∷ 0xB7 ∷ [] else byte ∷ []) text
 
 record Row : Type 0 where
   logs : List Log
@@ -68,7 +72,7 @@ text : IsRow (row
     (log (codes "all") (Text (codes "a <b>") ∷ Text (codes "c & d") ∷ Closing 9 (pos 0) ∷ [])
     ∷ [])
     (codes "all" ∷ []) plain
-    (codes "<li><details open id=\"t0\"><summary><bdi>all</bdi> <small>2 lines</small></summary><ul><li><pre>\na &lt;b&gt;\nc &amp; d\n</pre></li></ul></details></li></ul></section>"))
+    (dotted (codes "<li><details open id=\"t0\"><summary><bdi>all</bdi> <small>~ 2 lines</small></summary><ul><li><pre>\na &lt;b&gt;\nc &amp; d\n</pre></li></ul></details></li></ul></section>")))
 unfolding symbols_after first_symbol symbol_len is_sequence sequence_len sequence_numbers first_code_point code_point_len is_unprintable notation unprintable_text number_text encode_utf8 digits html_from show_log show_log_within
 text = refl
 
@@ -85,7 +89,7 @@ seven : IsRow (row
     ∷ Closing 9 (negsuc 0) ∷ [])
     ∷ [])
     (codes "all" ∷ []) plain
-    (codes "<li><details open id=\"t0\"><summary><bdi>all</bdi> <strong class=\"x\">exit 1</strong> <small>6 below</small> <small>with <em>2 warnings</em></small></summary><ul><li><details open id=\"t1\"><summary><bdi>a</bdi> <small>2 lines</small> <small><em>1 warning</em></small> <small>1 below</small> <small>with <em>1 warning</em></small></summary><ul><li><pre>\ncc a.c\na.c: warning: x\n</pre></li><li><details open id=\"t2\"><summary><bdi>c</bdi> <strong class=\"x\">exit -1</strong> <small>2 lines</small> <small><em>1 warning</em></small></summary><ul><li class=\"note\"><a href=\"#f2\">What it printed is shown above</a></li><li class=\"note\">redo: warning:</li></ul></details></li></ul></details></li><li id=\"t3\"><bdi>s</bdi></li><li id=\"t4\"><bdi>t</bdi></li><li id=\"t5\"><bdi>u</bdi></li><li><details open id=\"t6\"><summary><bdi>b</bdi> <strong class=\"x\">exit 2</strong> <small>1 line</small></summary><ul><li class=\"note\"><a href=\"#f6\">What it printed is shown above</a></li><li class=\"note\">needs <a href=\"#t2\"><bdi>c</bdi></a> <strong class=\"x\">exit -1</strong></li><li class=\"note\">needs <bdi>x</bdi> <strong class=\"x\">exit 3</strong></li></ul></details></li></ul></details></li></ul></section>"))
+    (dotted (codes "<li><details open id=\"t0\"><summary><bdi>all</bdi> <strong class=\"x\">exit 1</strong> <small>~ 6 below</small> <small>~ <em>2 warnings below</em></small></summary><ul><li><details open id=\"t1\"><summary><bdi>a</bdi> <small>~ 2 lines</small> <small>~ <em>1 warning</em></small> <small>~ 1 below</small> <small>~ <em>1 warning below</em></small></summary><ul><li><pre>\ncc a.c\na.c: warning: x\n</pre></li><li><details open id=\"t2\"><summary><bdi>c</bdi> <strong class=\"x\">exit -1</strong> <small>~ 2 lines</small> <small>~ <em>1 warning</em></small></summary><ul><li class=\"note\"><a href=\"#f2\">What it printed is shown above</a></li><li class=\"note\">redo: warning:</li></ul></details></li></ul></details></li><li id=\"t3\"><bdi>s</bdi></li><li id=\"t4\"><bdi>t</bdi></li><li id=\"t5\"><bdi>u</bdi></li><li><details open id=\"t6\"><summary><bdi>b</bdi> <strong class=\"x\">exit 2</strong> <small>~ 1 line</small></summary><ul><li class=\"note\"><a href=\"#f6\">What it printed is shown above</a></li><li class=\"note\">needs <a href=\"#t2\"><bdi>c</bdi></a> <strong class=\"x\">exit -1</strong></li><li class=\"note\">needs <bdi>x</bdi> <strong class=\"x\">exit 3</strong></li></ul></details></li></ul></details></li></ul></section>")))
 unfolding symbols_after first_symbol symbol_len is_sequence sequence_len sequence_numbers first_code_point code_point_len is_unprintable notation unprintable_text number_text encode_utf8 digits html_from show_log show_log_within
 seven = refl
 
@@ -107,7 +111,7 @@ group : IsRow (row
     ∷ log (codes "l") (Closing 9 (pos 0) ∷ [])
     ∷ [])
     (codes "all" ∷ []) plain
-    (codes "<li><details open id=\"t0\"><summary><bdi>all</bdi> <small>1 line</small> <small>12 below</small></summary><ul><li><details class=\"s\"><summary>5 targets that printed nothing</summary><ul><li id=\"t1\"><bdi>a</bdi></li><li><details id=\"t2\"><summary><bdi>b</bdi> <small>5 below</small></summary><ul><li id=\"t3\"><bdi>h</bdi></li><li id=\"t4\"><bdi>i</bdi></li><li id=\"t5\"><bdi>j</bdi></li><li id=\"t6\"><bdi>k</bdi></li><li id=\"t7\"><bdi>l</bdi></li></ul></details></li><li id=\"t8\"><bdi>c</bdi></li><li id=\"t9\"><bdi>d</bdi></li><li id=\"t10\"><bdi>e</bdi></li></ul></details></li><li><details id=\"t11\"><summary><bdi>f</bdi> <small>1 line</small></summary><ul><li><pre>\ny\n</pre></li></ul></details></li><li><pre>\nx\n</pre></li><li id=\"t12\"><bdi>g</bdi></li></ul></details></li></ul></section>"))
+    (dotted (codes "<li><details open id=\"t0\"><summary><bdi>all</bdi> <small>~ 1 line</small> <small>~ 12 below</small></summary><ul><li><details class=\"s\"><summary>5 targets that printed nothing</summary><ul><li id=\"t1\"><bdi>a</bdi></li><li><details id=\"t2\"><summary><bdi>b</bdi> <small>~ 5 below</small></summary><ul><li id=\"t3\"><bdi>h</bdi></li><li id=\"t4\"><bdi>i</bdi></li><li id=\"t5\"><bdi>j</bdi></li><li id=\"t6\"><bdi>k</bdi></li><li id=\"t7\"><bdi>l</bdi></li></ul></details></li><li id=\"t8\"><bdi>c</bdi></li><li id=\"t9\"><bdi>d</bdi></li><li id=\"t10\"><bdi>e</bdi></li></ul></details></li><li><details id=\"t11\"><summary><bdi>f</bdi> <small>~ 1 line</small></summary><ul><li><pre>\ny\n</pre></li></ul></details></li><li><pre>\nx\n</pre></li><li id=\"t12\"><bdi>g</bdi></li></ul></details></li></ul></section>")))
 unfolding symbols_after first_symbol symbol_len is_sequence sequence_len sequence_numbers first_code_point code_point_len is_unprintable notation unprintable_text number_text encode_utf8 digits html_from show_log show_log_within
 group = refl
 
@@ -120,7 +124,7 @@ four : IsRow (row
     ∷ log (codes "d") (Closing 9 (pos 0) ∷ [])
     ∷ [])
     (codes "all" ∷ []) plain
-    (codes "<li><details open id=\"t0\"><summary><bdi>all</bdi> <small>1 line</small> <small>4 below</small></summary><ul><li id=\"t1\"><bdi>a</bdi></li><li id=\"t2\"><bdi>b</bdi></li><li id=\"t3\"><bdi>c</bdi></li><li id=\"t4\"><bdi>d</bdi></li><li><pre>\nx\n</pre></li></ul></details></li></ul></section>"))
+    (dotted (codes "<li><details open id=\"t0\"><summary><bdi>all</bdi> <small>~ 1 line</small> <small>~ 4 below</small></summary><ul><li id=\"t1\"><bdi>a</bdi></li><li id=\"t2\"><bdi>b</bdi></li><li id=\"t3\"><bdi>c</bdi></li><li id=\"t4\"><bdi>d</bdi></li><li><pre>\nx\n</pre></li></ul></details></li></ul></section>")))
 unfolding symbols_after first_symbol symbol_len is_sequence sequence_len sequence_numbers first_code_point code_point_len is_unprintable notation unprintable_text number_text encode_utf8 digits html_from show_log show_log_within
 four = refl
 
@@ -132,7 +136,7 @@ only_child : IsRow (row
     ∷ log (codes "w") (Text (codes "w") ∷ [])
     ∷ [])
     (codes "x" ∷ codes "w" ∷ []) plain
-    (codes "<li><details open id=\"t0\"><summary><bdi>x</bdi> <small>3 below</small></summary><ul><li><details open id=\"t1\"><summary><bdi>y</bdi> <small>2 below</small></summary><ul><li><details open id=\"t2\"><summary><bdi>z</bdi> <small>1 line</small> <small>1 below</small></summary><ul><li><pre>\nz\n</pre></li><li><details id=\"t3\"><summary><bdi>v</bdi> <small>1 line</small></summary><ul><li><pre>\nv\n</pre></li></ul></details></li></ul></details></li></ul></details></li></ul></details></li><li><details open id=\"t4\"><summary><bdi>w</bdi> <strong class=\"o\">not closed</strong> <small>1 line</small></summary><ul><li><pre>\nw\n</pre></li></ul></details></li></ul></section>"))
+    (dotted (codes "<li><details open id=\"t0\"><summary><bdi>x</bdi> <small>~ 3 below</small></summary><ul><li><details open id=\"t1\"><summary><bdi>y</bdi> <small>~ 2 below</small></summary><ul><li><details open id=\"t2\"><summary><bdi>z</bdi> <small>~ 1 line</small> <small>~ 1 below</small></summary><ul><li><pre>\nz\n</pre></li><li><details id=\"t3\"><summary><bdi>v</bdi> <small>~ 1 line</small></summary><ul><li><pre>\nv\n</pre></li></ul></details></li></ul></details></li></ul></details></li></ul></details></li><li><details open id=\"t4\"><summary><bdi>w</bdi> <strong class=\"o\">unfinished</strong> <small>~ 1 line</small></summary><ul><li><pre>\nw\n</pre></li></ul></details></li></ul></section>")))
 unfolding symbols_after first_symbol symbol_len is_sequence sequence_len sequence_numbers first_code_point code_point_len is_unprintable notation unprintable_text number_text encode_utf8 digits html_from show_log show_log_within
 only_child = refl
 
@@ -143,7 +147,7 @@ locked : IsRow (row
     ∷ log (codes "y") (Closing 9 (pos 0) ∷ [])
     ∷ [])
     (codes "x" ∷ []) locks
-    (codes "<li><details open id=\"t0\"><summary><bdi>x</bdi> <small>2 lines</small> <small>1 below</small></summary><ul><li id=\"t1\"><bdi>y</bdi> <small>waiting</small></li><li><a href=\"#t1\"><bdi>y</bdi></a> <small>locked</small></li><li><bdi>q</bdi> <small>unlocked</small></li><li><a href=\"#t1\"><bdi>y</bdi></a> <small>unchanged</small></li><li class=\"note\">(a &lt; b)</li><li><pre>\n1\n</pre></li><li class=\"note\">redo: 2</li><li><pre>\n3\n</pre></li></ul></details></li></ul></section>"))
+    (dotted (codes "<li><details open id=\"t0\"><summary><bdi>x</bdi> <small>~ 2 lines</small> <small>~ 1 below</small></summary><ul><li id=\"t1\"><bdi>y</bdi> <small>~ waiting</small></li><li><a href=\"#t1\"><bdi>y</bdi></a> <small>~ locked</small></li><li><bdi>q</bdi> <small>~ unlocked</small></li><li><a href=\"#t1\"><bdi>y</bdi></a> <small>~ unchanged</small></li><li class=\"note\">(a &lt; b)</li><li><pre>\n1\n</pre></li><li class=\"note\">redo: 2</li><li><pre>\n3\n</pre></li></ul></details></li></ul></section>")))
 unfolding symbols_after first_symbol symbol_len is_sequence sequence_len sequence_numbers first_code_point code_point_len is_unprintable notation unprintable_text number_text encode_utf8 digits html_from show_log show_log_within
 locked = refl
 
@@ -158,7 +162,7 @@ six : IsRow (row
     ∷ log (codes "f") (Closing 9 (pos 0) ∷ [])
     ∷ [])
     (codes "all" ∷ []) plain
-    (codes "<li><details open id=\"t0\"><summary><bdi>all</bdi> <small>6 below</small></summary><ul><li id=\"t1\"><bdi>a</bdi></li><li id=\"t2\"><bdi>b</bdi></li><li id=\"t3\"><bdi>c</bdi></li><li id=\"t4\"><bdi>d</bdi></li><li id=\"t5\"><bdi>e</bdi></li><li id=\"t6\"><bdi>f</bdi></li></ul></details></li></ul></section>"))
+    (dotted (codes "<li><details open id=\"t0\"><summary><bdi>all</bdi> <small>~ 6 below</small></summary><ul><li id=\"t1\"><bdi>a</bdi></li><li id=\"t2\"><bdi>b</bdi></li><li id=\"t3\"><bdi>c</bdi></li><li id=\"t4\"><bdi>d</bdi></li><li id=\"t5\"><bdi>e</bdi></li><li id=\"t6\"><bdi>f</bdi></li></ul></details></li></ul></section>")))
 unfolding symbols_after first_symbol symbol_len is_sequence sequence_len sequence_numbers first_code_point code_point_len is_unprintable notation unprintable_text number_text encode_utf8 digits html_from show_log show_log_within
 six = refl
 
@@ -169,7 +173,7 @@ unseen : IsRow (row
     ∷ Closing 9 (pos 0) ∷ Text (codes "4") ∷ [])
     ∷ [])
     (codes "x" ∷ []) plain
-    (codes "<li><details open id=\"t0\"><summary><bdi>x</bdi> <small>1 line</small> <small>2 below</small></summary><ul><li id=\"t1\"><bdi>a</bdi></li><li><details id=\"t2\"><summary><bdi>b</bdi> <small>4 lines</small></summary><ul><li><pre>\n1\n2\n3\n4\n</pre></li></ul></details></li><li><pre>\nx\n</pre></li></ul></details></li></ul></section>"))
+    (dotted (codes "<li><details open id=\"t0\"><summary><bdi>x</bdi> <small>~ 1 line</small> <small>~ 2 below</small></summary><ul><li id=\"t1\"><bdi>a</bdi></li><li><details id=\"t2\"><summary><bdi>b</bdi> <small>~ 4 lines</small></summary><ul><li><pre>\n1\n2\n3\n4\n</pre></li></ul></details></li><li><pre>\nx\n</pre></li></ul></details></li></ul></section>")))
 unfolding symbols_after first_symbol symbol_len is_sequence sequence_len sequence_numbers first_code_point code_point_len is_unprintable notation unprintable_text number_text encode_utf8 digits html_from show_log show_log_within
 unseen = refl
 
@@ -179,7 +183,7 @@ nested_children : IsRow (row
     ∷ log (codes "b") (Text (codes "y") ∷ Closing 9 (pos 0) ∷ [])
     ∷ [])
     (codes "x" ∷ []) plain
-    (codes "<li><details open id=\"t0\"><summary><bdi>x</bdi> <small>1 line</small> <small>2 below</small></summary><ul><li><details id=\"t1\"><summary><bdi>a</bdi> <small>1 below</small></summary><ul><li><details id=\"t2\"><summary><bdi>b</bdi> <small>1 line</small></summary><ul><li><pre>\ny\n</pre></li></ul></details></li></ul></details></li><li><pre>\nx\n</pre></li></ul></details></li></ul></section>"))
+    (dotted (codes "<li><details open id=\"t0\"><summary><bdi>x</bdi> <small>~ 1 line</small> <small>~ 2 below</small></summary><ul><li><details id=\"t1\"><summary><bdi>a</bdi> <small>~ 1 below</small></summary><ul><li><details id=\"t2\"><summary><bdi>b</bdi> <small>~ 1 line</small></summary><ul><li><pre>\ny\n</pre></li></ul></details></li></ul></details></li><li><pre>\nx\n</pre></li></ul></details></li></ul></section>")))
 unfolding symbols_after first_symbol symbol_len is_sequence sequence_len sequence_numbers first_code_point code_point_len is_unprintable notation unprintable_text number_text encode_utf8 digits html_from show_log show_log_within
 nested_children = refl
 
@@ -199,7 +203,7 @@ groups : IsRow (row
     ∷ log (codes "j") (Closing 9 (pos 0) ∷ [])
     ∷ [])
     (codes "all" ∷ []) plain
-    (codes "<li><details open id=\"t0\"><summary><bdi>all</bdi> <strong class=\"o\">not closed</strong> <small>10 below</small></summary><ul><li><details class=\"s\"><summary>5 targets that printed nothing</summary><ul><li id=\"t1\"><bdi>a</bdi></li><li id=\"t2\"><bdi>b</bdi></li><li id=\"t3\"><bdi>c</bdi></li><li id=\"t4\"><bdi>d</bdi></li><li id=\"t5\"><bdi>e</bdi></li></ul></details></li><li class=\"note\">redo: -</li><li><details class=\"s\"><summary>5 targets that printed nothing</summary><ul><li id=\"t6\"><bdi>f</bdi></li><li id=\"t7\"><bdi>g</bdi></li><li id=\"t8\"><bdi>h</bdi></li><li id=\"t9\"><bdi>i</bdi></li><li id=\"t10\"><bdi>j</bdi></li></ul></details></li></ul></details></li></ul></section>"))
+    (dotted (codes "<li><details open id=\"t0\"><summary><bdi>all</bdi> <strong class=\"o\">unfinished</strong> <small>~ 10 below</small></summary><ul><li><details class=\"s\"><summary>5 targets that printed nothing</summary><ul><li id=\"t1\"><bdi>a</bdi></li><li id=\"t2\"><bdi>b</bdi></li><li id=\"t3\"><bdi>c</bdi></li><li id=\"t4\"><bdi>d</bdi></li><li id=\"t5\"><bdi>e</bdi></li></ul></details></li><li class=\"note\">redo: -</li><li><details class=\"s\"><summary>5 targets that printed nothing</summary><ul><li id=\"t6\"><bdi>f</bdi></li><li id=\"t7\"><bdi>g</bdi></li><li id=\"t8\"><bdi>h</bdi></li><li id=\"t9\"><bdi>i</bdi></li><li id=\"t10\"><bdi>j</bdi></li></ul></details></li></ul></details></li></ul></section>")))
 unfolding symbols_after first_symbol symbol_len is_sequence sequence_len sequence_numbers first_code_point code_point_len is_unprintable notation unprintable_text number_text encode_utf8 digits html_from show_log show_log_within
 groups = refl
 
@@ -267,17 +271,17 @@ abbrev shown : Node
 shown = node None 1 2 false
 
 depths_are :
-    (one_log (shown ∷ []) 59 ≡ codes "<li><details id=\"t0\"><summary><bdi>a</bdi> <strong class=\"o\">not closed</strong> <small>1 line</small></summary><ul><li><pre>\nx\n</pre></li><li class=\"note\">redo: y</li></ul></details></li>")
-    × (one_log (shown ∷ []) 60 ≡ codes "<li id=\"t0\"><bdi>a</bdi> <strong class=\"o\">not closed</strong> <small>1 line</small> <small>level 60</small></li><li><pre>\nx\n</pre></li><li class=\"note\">redo: y</li><li class=\"note\">end of <bdi>a</bdi></li>")
-    × (one_log (failed ∷ []) 60 ≡ codes
-    "<li id=\"t0\"><bdi>a</bdi> <strong class=\"x\">exit 2</strong> <small>1 line</small> <small>level 60</small></li><li class=\"note\"><a href=\"#f0\">What it printed is shown above</a></li><li class=\"note\">redo: y</li><li class=\"note\">end of <bdi>a</bdi></li>")
+    (one_log (shown ∷ []) 59 ≡ dotted (codes "<li><details id=\"t0\"><summary><bdi>a</bdi> <strong class=\"o\">unfinished</strong> <small>~ 1 line</small></summary><ul><li><pre>\nx\n</pre></li><li class=\"note\">redo: y</li></ul></details></li>"))
+    × (one_log (shown ∷ []) 60 ≡ dotted (codes "<li id=\"t0\"><bdi>a</bdi> <strong class=\"o\">unfinished</strong> <small>~ 1 line</small> <small>~ level 60</small></li><li><pre>\nx\n</pre></li><li class=\"note\">redo: y</li><li class=\"note\">end of <bdi>a</bdi></li>"))
+    × (one_log (failed ∷ []) 60 ≡ dotted (codes
+    "<li id=\"t0\"><bdi>a</bdi> <strong class=\"x\">exit 2</strong> <small>~ 1 line</small> <small>~ level 60</small></li><li class=\"note\"><a href=\"#f0\">What it printed is shown above</a></li><li class=\"note\">redo: y</li><li class=\"note\">end of <bdi>a</bdi></li>"))
 unfolding symbols_after first_symbol symbol_len is_sequence sequence_len sequence_numbers first_code_point code_point_len is_unprintable notation unprintable_text number_text encode_utf8 digits html_from
 depths_are = (refl, refl, refl)
 
 -- The output of the log at depth 60 is too long to be in its article.
 long_is :
     one_log (node (Some (pos 2)) 301 602 false ∷ []) 60
-    ≡ codes "<li id=\"t0\"><bdi>a</bdi> <strong class=\"x\">exit 2</strong> <small>301 lines</small> <small>level 60</small></li><li><pre>\nx\n</pre></li><li class=\"note\">redo: y</li><li class=\"note\">end of <bdi>a</bdi></li>"
+    ≡ dotted (codes "<li id=\"t0\"><bdi>a</bdi> <strong class=\"x\">exit 2</strong> <small>~ 301 lines</small> <small>~ level 60</small></li><li><pre>\nx\n</pre></li><li class=\"note\">redo: y</li><li class=\"note\">end of <bdi>a</bdi></li>")
 unfolding symbols_after first_symbol symbol_len is_sequence sequence_len sequence_numbers first_code_point code_point_len is_unprintable notation unprintable_text number_text encode_utf8 digits html_from
 long_is = refl
 
@@ -291,7 +295,7 @@ levels_are :
     }) (record { position = Some 7; expanded = false; depth = 59 }) 0 pending.Nothing
     (Opened (Mentioned 1 9 Made (codes "a") (OpensHere 0)) 0
     (Opened (Mentioned 1 9 Made (codes "b") (OpensHere 1)) 1 (Shown (EntryShown 2 (Text (codes "x"))) Nothing) Nothing) Nothing))
-    ≡ codes "<li><details id=\"t0\"><summary><bdi>a</bdi> <strong class=\"o\">not closed</strong> <small>1 line</small></summary><ul><li id=\"t1\"><bdi>b</bdi> <strong class=\"o\">not closed</strong> <small>1 line</small> <small>level 60</small></li><li><pre>\nx\n</pre></li><li class=\"note\">end of <bdi>b</bdi></li></ul></details></li>"
+    ≡ dotted (codes "<li><details id=\"t0\"><summary><bdi>a</bdi> <strong class=\"o\">unfinished</strong> <small>~ 1 line</small></summary><ul><li id=\"t1\"><bdi>b</bdi> <strong class=\"o\">unfinished</strong> <small>~ 1 line</small> <small>~ level 60</small></li><li><pre>\nx\n</pre></li><li class=\"note\">end of <bdi>b</bdi></li></ul></details></li>")
 unfolding symbols_after first_symbol symbol_len is_sequence sequence_len sequence_numbers first_code_point code_point_len is_unprintable notation unprintable_text number_text encode_utf8 digits html_from
 levels_are = refl
 

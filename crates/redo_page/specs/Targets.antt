@@ -7,7 +7,7 @@ use Rattle.redo_html.specs.Parts.{Part}
 use Rattle.redo_html.specs.Parts.Part.{MarkupPart, TextPart, NumberPart}
 use Rattle.redo_outline.specs.declared.node.Node.{Node}
 use Rattle.redo_outline.specs.Facts.{is_failure}
-use Rattle.redo_page.specs.declared.labels.TheConstants.{BELOW, EXIT, LINE, LINES, LOCKED, MADE, NOT_CLOSED, UNCHANGED, UNLOCKED, WAITING, WARNING, WARNINGS, WITH}
+use Rattle.redo_page.specs.declared.labels.TheConstants.{BELOW, EXIT, FACT_DOT, LINE, LINES, LOCKED, MADE, NOT_CLOSED, UNCHANGED, UNLOCKED, WAITING, WARNING, WARNING_BELOW, WARNINGS, WARNINGS_BELOW}
 use Rattle.redo_page.specs.Words.{words_parts}
 use Rattle.redo_units.specs.Durations.{duration_words}
 
@@ -38,29 +38,33 @@ badge_parts (Some status) = parts_if (is_failure (Some status)) (exit_parts stat
 abbrev pub plural : ℕ → List ℕ → List ℕ → List ℕ
 plural number one many = if number == 1 then one else many
 
--- The counts beside a name, each with a space before it.
+-- A fact beside a name, with a middle dot (U+00B7) before it.
+abbrev pub fact_parts : List Part → List Part
+fact_parts parts = TextPart (codes " ") ∷ MarkupPart Small ∷ TextPart FACT_DOT.now ∷ (parts ++ MarkupPart EndSmall ∷ [])
+
+-- The counts beside a name.
 abbrev pub lines_parts : ℕ → List Part
 lines_parts lines =
     parts_if (not (lines == 0))
-    (TextPart (codes " ") ∷ MarkupPart Small ∷ NumberPart lines ∷ TextPart (plural lines LINE.now LINES.now) ∷ MarkupPart EndSmall ∷ [])
+    (fact_parts (NumberPart lines ∷ TextPart (plural lines LINE.now LINES.now) ∷ []))
 
 abbrev pub warnings_parts : ℕ → List Part
 warnings_parts warnings =
     parts_if (not (warnings == 0))
-    (TextPart (codes " ") ∷ MarkupPart Small ∷ MarkupPart Warnings ∷ NumberPart warnings ∷ TextPart (plural warnings WARNING.now WARNINGS.now) ∷ MarkupPart EndWarnings ∷ MarkupPart EndSmall ∷ [])
+    (fact_parts (MarkupPart Warnings ∷ NumberPart warnings ∷ TextPart (plural warnings WARNING.now WARNINGS.now) ∷ MarkupPart EndWarnings ∷ []))
 
 abbrev pub below_parts : ℕ → List Part
-below_parts below = parts_if (not (below == 0)) (TextPart (codes " ") ∷ MarkupPart Small ∷ NumberPart below ∷ TextPart BELOW.now ∷ MarkupPart EndSmall ∷ [])
+below_parts below = parts_if (not (below == 0)) (fact_parts (NumberPart below ∷ TextPart BELOW.now ∷ []))
 
 abbrev pub warnings_below_parts : ℕ → List Part
 warnings_below_parts warnings =
     parts_if (not (warnings == 0))
-    (TextPart (codes " ") ∷ MarkupPart Small ∷ TextPart WITH.now ∷ MarkupPart Warnings ∷ NumberPart warnings ∷ TextPart (plural warnings WARNING.now WARNINGS.now) ∷ MarkupPart EndWarnings ∷ MarkupPart EndSmall ∷ [])
+    (fact_parts (MarkupPart Warnings ∷ NumberPart warnings ∷ TextPart (plural warnings WARNING_BELOW.now WARNINGS_BELOW.now) ∷ MarkupPart EndWarnings ∷ []))
 
 -- How long a target took, if this is known.
 abbrev pub took_parts : Option ℕ → List Part
 took_parts None = []
-took_parts (Some ms) = TextPart (codes " ") ∷ MarkupPart Small ∷ (words_parts (duration_words ms) ++ MarkupPart EndSmall ∷ [])
+took_parts (Some ms) = fact_parts (words_parts (duration_words ms))
 
 -- The facts that follow the name of a target.
 abbrev pub facts_parts : Node → List Part
@@ -77,7 +81,7 @@ how_word Unlocked = UNLOCKED.now
 how_word Unchanged = UNCHANGED.now
 
 abbrev pub how_parts : Bool → How → List Part
-how_parts shown how = parts_if shown (TextPart (codes " ") ∷ MarkupPart Small ∷ TextPart (how_word how) ∷ MarkupPart EndSmall ∷ [])
+how_parts shown how = parts_if shown (fact_parts (TextPart (how_word how) ∷ []))
 
 -- A name that leads to the position of a target in the tree, if it is there.
 abbrev pub linked_parts : Option ℕ → List ℕ → List Part

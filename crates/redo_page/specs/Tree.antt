@@ -28,7 +28,7 @@ use Rattle.redo_page.specs.declared.block.Pending.{Pending}
 use Rattle.redo_page.specs.declared.block.Pending.TheVariants as pending
 use Rattle.redo_page.specs.declared.level.Level.{Level}
 use Rattle.redo_page.specs.Blocks.{after_line, end_parts, line_parts, nested_end}
-use Rattle.redo_page.specs.Targets.{parts_if, name_parts, linked_parts, exit_parts, facts_parts, how_parts}
+use Rattle.redo_page.specs.Targets.{parts_if, name_parts, linked_parts, exit_parts, fact_parts, facts_parts, how_parts}
 use Rattle.redo_outline.specs.Facts.{target_at}
 
 abbrev pub no_node : Node
@@ -148,7 +148,7 @@ empty_start position heading = (MarkupPart (markup.TargetItem position) ∷ []) 
 
 -- How deep a log is that is not nested.
 abbrev pub depth_parts : ℕ → List Part
-depth_parts depth = TextPart (codes " ") ∷ MarkupPart markup.Small ∷ TextPart LEVEL.now ∷ NumberPart depth ∷ MarkupPart markup.EndSmall ∷ MarkupPart markup.EndItem ∷ []
+depth_parts depth = fact_parts (TextPart LEVEL.now ∷ NumberPart depth ∷ []) ++ MarkupPart markup.EndItem ∷ []
 
 abbrev pub details_markup : Bool → ℕ → Markup
 details_markup expanded position = if expanded then markup.OpenDetails position else markup.Details position

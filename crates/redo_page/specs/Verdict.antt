@@ -1,11 +1,11 @@
 -- What became of a build, and the heading and the title that say so.
 use Rattle.std.specs.Prelude.{ℕ, ◌==◌, ◌&&◌, nat_lt, Bool, List, ◌++◌, is_none, length, codes, if◌then◌else◌}
-use Rattle.std.specs.List.{list_any}
+use Rattle.std.specs.List.{filter, list_any}
 use Rattle.redo_html.specs.declared.markup.Markup.{Markup}
 use Rattle.redo_html.specs.declared.markup.Markup.TheVariants as markup
 use Rattle.redo_html.specs.Shown.{number_text}
 use Rattle.redo_outline.specs.declared.node.Node.{Node}
-use Rattle.redo_page.specs.declared.labels.TheConstants.{FAILED_SIGN, MADE_SIGN, MIDDLE_DOT, OF, TARGETS_BEGUN, TARGETS_FAILED, TARGETS_MADE, TARGET_BEGUN, TARGET_FAILED, TARGET_MADE, UNFINISHED_SIGN}
+use Rattle.redo_page.specs.declared.labels.TheConstants.{FAILED_SIGN, MADE_SIGN, MIDDLE_DOT, OF, TARGETS_FAILED, TARGETS_MADE, TARGETS_UNFINISHED, TARGET_FAILED, TARGET_MADE, TARGET_UNFINISHED, UNFINISHED_SIGN}
 use Rattle.redo_page.specs.declared.verdict.Verdict.{Verdict}
 use Rattle.redo_page.specs.declared.verdict.Verdict.TheVariants.{Failed, Unfinished, Made}
 use Rattle.redo_page.specs.Targets.{plural}
@@ -19,15 +19,20 @@ is_unfinished node = is_none node.parent && is_none node.status
 abbrev pub counted_text : ℕ → List ℕ → List ℕ → List ℕ
 counted_text number one many = number_text number ++ plural number one many
 
-abbrev pub failed_text : ℕ → ℕ → List ℕ
-failed_text failures targets = number_text failures ++ (OF.now ++ counted_text targets TARGET_FAILED.now TARGETS_FAILED.now)
+-- How many targets of all, and words that depend on the number of all.
+abbrev pub share_text : ℕ → ℕ → List ℕ → List ℕ → List ℕ
+share_text part all one many = number_text part ++ (OF.now ++ counted_text all one many)
+
+-- The targets of which no record says how they ended.
+abbrev pub unfinished_count : List Node → ℕ
+unfinished_count nodes = length (filter (λ node. is_none node.status) nodes)
 
 abbrev pub verdict_of : List Node → Verdict
 verdict_of nodes = if nat_lt 0 (length (root_failures nodes)) then Failed else if list_any is_unfinished nodes then Unfinished else Made
 
 abbrev pub verdict_text : Verdict → List Node → List ℕ
-verdict_text Failed nodes = failed_text (length (root_failures nodes)) (length nodes)
-verdict_text Unfinished nodes = counted_text (length nodes) TARGET_BEGUN.now TARGETS_BEGUN.now
+verdict_text Failed nodes = share_text (length (root_failures nodes)) (length nodes) TARGET_FAILED.now TARGETS_FAILED.now
+verdict_text Unfinished nodes = share_text (unfinished_count nodes) (length nodes) TARGET_UNFINISHED.now TARGETS_UNFINISHED.now
 verdict_text Made nodes = counted_text (length nodes) TARGET_MADE.now TARGETS_MADE.now
 
 -- A ballot cross (U+2717), an ellipsis (U+2026) or a check mark (U+2713), in UTF-8.

@@ -1,10 +1,10 @@
 //! What failed: the section at the top of a page.
-ghost use Rattle.std.specs.Prelude.{◌≡◌, ◌∷◌, ◌++◌, true, false, IfOk, [], drop, take};
+ghost use Rattle.std.specs.Prelude.{◌≡◌, ◌∷◌, ◌++◌, true, false, IfOk, [], drop, suc, take};
 ghost use Rattle.std.specs.List.{flat_map};
 ghost use Rattle.redo_html.specs.declared.markup.Markup.TheVariants.{EndDetails, EndOrdered, Ordered, OrderedFrom};
 ghost use Rattle.redo_html.specs.Parts.Part.{MarkupPart};
 ghost use Rattle.redo_page.specs.Failed.{AreFailures, article_parts, article_row, cause_if, failed_parts, list_parts, more_parts, row_parts, section_parts, target_row, unlisted_parts};
-ghost use Rattle.redo_page.specs.Tree.{end_cmp, failure_cmp};
+ghost use Rattle.redo_page.specs.Tree.{end_cmp, failure_cmp, max_articles};
 ghost use Rattle.redo_timeline.specs.Order.{sort};
 ghost use Rattle.redo_page.specs.Private.Writing.{WroteParts};
 ghost use Rattle.redo_page.specs.declared.labels.TheConstants.{COUNT_NOT_CLOSED, FAILED_WITH_THESE, MORE_FAILED};
@@ -309,7 +309,7 @@ fn write_others<W: Sink>(
     page: &mut PageWriter<'_, W>,
 )
     ensures { WroteParts W.written page.old page.new
-        (more_parts table.now nodes.now (OrderedFrom 11) true MORE_FAILED.now positions.now) }
+        (more_parts table.now nodes.now (OrderedFrom (suc max_articles)) true MORE_FAILED.now positions.now) }
 {
     let list = Markup::OrderedFrom(MAX_ARTICLES as u64 + 1);
     write_more(table, nodes, list, true, MORE_FAILED, positions, page)

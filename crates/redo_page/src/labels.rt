@@ -21,9 +21,9 @@ pub const TARGET_FAILED: &[u8] = b" target failed";
 
 pub const TARGETS_FAILED: &[u8] = b" targets failed";
 
-pub const TARGET_BEGUN: &[u8] = b" target begun, not ended";
+pub const TARGET_UNFINISHED: &[u8] = b" target unfinished";
 
-pub const TARGETS_BEGUN: &[u8] = b" targets begun, not ended";
+pub const TARGETS_UNFINISHED: &[u8] = b" targets unfinished";
 
 pub const TARGET_MADE: &[u8] = b" target made, none failed";
 
@@ -49,9 +49,11 @@ pub const LOGS_IN: &[u8] = b" logs in ";
 pub const AS_ONE_TEXT: &[u8] = b". As one text: ";
 
 // Targets.
+pub const FACT_DOT: &[u8] = b"\xc2\xb7 ";
+
 pub const EXIT: &[u8] = b"exit ";
 
-pub const NOT_CLOSED: &[u8] = b"not closed";
+pub const NOT_CLOSED: &[u8] = b"unfinished";
 
 pub const LINE: &[u8] = b" line";
 
@@ -63,7 +65,9 @@ pub const WARNINGS: &[u8] = b" warnings";
 
 pub const BELOW: &[u8] = b" below";
 
-pub const WITH: &[u8] = b"with ";
+pub const WARNING_BELOW: &[u8] = b" warning below";
+
+pub const WARNINGS_BELOW: &[u8] = b" warnings below";
 
 pub const MADE: &[u8] = b"made";
 
@@ -95,9 +99,9 @@ pub const IN_ITS_LOG: &[u8] = b"in its log";
 
 pub const MORE_FAILED: &[u8] = b" more that failed";
 
-pub const FAILED_WITH_THESE: &[u8] = b" above these, which failed with them";
+pub const FAILED_WITH_THESE: &[u8] = b" failed because of these";
 
-pub const COUNT_NOT_CLOSED: &[u8] = b" not closed";
+pub const COUNT_NOT_CLOSED: &[u8] = b" unfinished";
 
 pub const AND: &[u8] = b"and ";
 
@@ -110,7 +114,7 @@ pub const FAILED: &[u8] = b"Failed";
 
 pub const AND_COUNT: &[u8] = b", and ";
 
-pub const ABOVE: &[u8] = b" above";
+pub const DEPENDENT: &[u8] = b" dependent";
 
 pub const WARNED_LINES: &[u8] = b"Lines with warning:";
 

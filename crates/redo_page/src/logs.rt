@@ -9,7 +9,7 @@ ghost use Rattle.redo_page.specs.Tree.{after_log, closing_parts, depth_parts, de
 use crate::block::Pending;
 use crate::build::{BuildRef, is_empty, is_silent};
 use crate::items::write_end;
-use crate::labels::{END_OF, LEVEL, SHOWN_ABOVE, SILENT_TARGETS};
+use crate::labels::{END_OF, FACT_DOT, LEVEL, SHOWN_ABOVE, SILENT_TARGETS};
 use crate::level::Level;
 use crate::targets::{write_facts, write_how, write_name};
 use crate::writer::PageWriter;
@@ -79,6 +79,7 @@ fn write_depth<W: Sink>(depth: usize, page: &mut PageWriter<'_, W>)
     page.put(&[
         Piece::Text(b" "),
         Piece::Markup(Markup::Small),
+        Piece::Text(FACT_DOT),
         Piece::Text(LEVEL),
         Piece::Number(depth as u64),
         Piece::Markup(Markup::EndSmall),

@@ -1,6 +1,6 @@
 //! The summary of a build: how much there was, and what took long.
 use crate::labels::{
-    ABOVE, AND_COUNT, AT_MOST, AT_ONCE, FAILED, FEW_TIMES_OF, LOGS, LONGEST, MOST_WARNINGS,
+    AND_COUNT, AT_MOST, AT_ONCE, DEPENDENT, FAILED, FEW_TIMES_OF, LOGS, LONGEST, MOST_WARNINGS,
     NO_TIMES, OF, SUM_OF_TIMES, SUMMARY, TARGETS, TIMES_UNKNOWN, TOOK, WARNED_LINES,
 };
 use crate::scope::Count::{Dependents, Known, Most, Roots, Targets, Unknown, Value, Warnings};
@@ -33,7 +33,7 @@ pub const SECTION: Template = &[
     Number(Roots),
     In(
         If(HasDependents),
-        &[Text(AND_COUNT), Number(Dependents), Text(ABOVE)],
+        &[Text(AND_COUNT), Number(Dependents), Text(DEPENDENT)],
     ),
     EndTile,
     Tile(WARNED_LINES),

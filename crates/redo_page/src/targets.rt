@@ -4,8 +4,8 @@ ghost use Rattle.redo_page.specs.Private.Writing.{WroteParts};
 ghost use Rattle.redo_page.specs.Targets.{name_parts, sign, magnitude, exit_parts, badge_parts, plural, lines_parts, warnings_parts, below_parts, warnings_below_parts, facts_parts, how_word, how_parts, linked_parts, took_parts};
 
 use crate::labels::{
-    BELOW, EXIT, LINE, LINES, LOCKED, MADE, NOT_CLOSED, UNCHANGED, UNLOCKED, WAITING, WARNING,
-    WARNINGS, WITH,
+    BELOW, EXIT, FACT_DOT, LINE, LINES, LOCKED, MADE, NOT_CLOSED, UNCHANGED, UNLOCKED, WAITING,
+    WARNING, WARNING_BELOW, WARNINGS, WARNINGS_BELOW,
 };
 use crate::words::write_words;
 use crate::writer::PageWriter;
@@ -102,6 +102,7 @@ fn write_lines<W: Sink>(lines: u64, page: &mut PageWriter<'_, W>)
     page.put(&[
         Piece::Text(b" "),
         Piece::Markup(Markup::Small),
+        Piece::Text(FACT_DOT),
         Piece::Number(lines),
         Piece::Text(plural(lines, LINE, LINES)),
         Piece::Markup(Markup::EndSmall),
@@ -117,6 +118,7 @@ fn write_warnings<W: Sink>(warnings: u64, page: &mut PageWriter<'_, W>)
     page.put(&[
         Piece::Text(b" "),
         Piece::Markup(Markup::Small),
+        Piece::Text(FACT_DOT),
         Piece::Markup(Markup::Warnings),
         Piece::Number(warnings),
         Piece::Text(plural(warnings, WARNING, WARNINGS)),
@@ -134,6 +136,7 @@ fn write_below<W: Sink>(below: usize, page: &mut PageWriter<'_, W>)
     page.put(&[
         Piece::Text(b" "),
         Piece::Markup(Markup::Small),
+        Piece::Text(FACT_DOT),
         Piece::Number(below as u64),
         Piece::Text(BELOW),
         Piece::Markup(Markup::EndSmall),
@@ -149,10 +152,10 @@ fn write_warnings_below<W: Sink>(warnings: u64, page: &mut PageWriter<'_, W>)
     page.put(&[
         Piece::Text(b" "),
         Piece::Markup(Markup::Small),
-        Piece::Text(WITH),
+        Piece::Text(FACT_DOT),
         Piece::Markup(Markup::Warnings),
         Piece::Number(warnings),
-        Piece::Text(plural(warnings, WARNING, WARNINGS)),
+        Piece::Text(plural(warnings, WARNING_BELOW, WARNINGS_BELOW)),
         Piece::Markup(Markup::EndWarnings),
         Piece::Markup(Markup::EndSmall),
     ])
@@ -164,7 +167,11 @@ fn write_took<W: Sink>(took: Option<u64>, page: &mut PageWriter<'_, W>)
     let Some(ms) = took else {
         return;
     };
-    page.put(&[Piece::Text(b" "), Piece::Markup(Markup::Small)]);
+    page.put(&[
+        Piece::Text(b" "),
+        Piece::Markup(Markup::Small),
+        Piece::Text(FACT_DOT),
+    ]);
     write_words(&duration(ms), page);
     page.put(&[Piece::Markup(Markup::EndSmall)]);
 }
@@ -203,6 +210,7 @@ pub fn write_how<W: Sink>(shown: bool, how: How, page: &mut PageWriter<'_, W>)
     page.put(&[
         Piece::Text(b" "),
         Piece::Markup(Markup::Small),
+        Piece::Text(FACT_DOT),
         Piece::Text(word_of(how)),
         Piece::Markup(Markup::EndSmall),
     ])

@@ -1,12 +1,12 @@
 //! What became of a build, and the heading and the title that say so.
 ghost use Rattle.std.specs.Prelude.{◌≡◌, ◌++◌, IfOk, length};
 ghost use Rattle.std.specs.List.{list_any};
-ghost use Rattle.redo_page.specs.Verdict.{body_markup, counted_text, failed_text, is_unfinished, sign_text, title_text, titled, verdict_of, verdict_text};
+ghost use Rattle.redo_page.specs.Verdict.{body_markup, counted_text, is_unfinished, share_text, sign_text, title_text, titled, unfinished_count, verdict_of, verdict_text};
 ghost use Rattle.redo_page.specs.Tree.{root_failures};
 
 use crate::labels::{
-    FAILED_SIGN, MADE_SIGN, MIDDLE_DOT, OF, TARGET_BEGUN, TARGET_FAILED, TARGET_MADE,
-    TARGETS_BEGUN, TARGETS_FAILED, TARGETS_MADE, UNFINISHED_SIGN,
+    FAILED_SIGN, MADE_SIGN, MIDDLE_DOT, OF, TARGET_FAILED, TARGET_MADE, TARGET_UNFINISHED,
+    TARGETS_FAILED, TARGETS_MADE, TARGETS_UNFINISHED, UNFINISHED_SIGN,
 };
 use crate::targets::plural;
 use itoa::Buffer;
@@ -69,8 +69,25 @@ impl Verdict {
     {
         let targets = nodes.len() as u64;
         match self {
-            Verdict::Failed => failed_text(alloc, failures as u64, targets),
-            Verdict::Unfinished => counted_text(alloc, targets, TARGET_BEGUN, TARGETS_BEGUN),
+            Verdict::Failed => {
+                share_text(
+                    alloc,
+                    failures as u64,
+                    targets,
+                    TARGET_FAILED,
+                    TARGETS_FAILED,
+                )
+            }
+            Verdict::Unfinished => {
+                let unfinished = count_unfinished(nodes) as u64;
+                share_text(
+                    alloc,
+                    unfinished,
+                    targets,
+                    TARGET_UNFINISHED,
+                    TARGETS_UNFINISHED,
+                )
+            }
             Verdict::Made => counted_text(alloc, targets, TARGET_MADE, TARGETS_MADE),
         }
     }
@@ -84,13 +101,26 @@ fn any_unfinished(nodes: &[Node]) -> bool
         .any(|node| node.parent.is_none() && node.status.is_none())
 }
 
-fn failed_text(alloc: Global, failures: u64, targets: u64) -> Result<Vec<u8>, AllocError>
-    ensures { IfOk result (λ text. text.items ≡ failed_text failures targets) }
+fn count_unfinished(nodes: &[Node]) -> usize
+    ensures { result ≡ unfinished_count nodes.now }
+{
+    nodes.iter().filter(|node| node.status.is_none()).count()
+}
+
+// Returns how many targets of all, and words that depend on the number of all.
+fn share_text(
+    alloc: Global,
+    part: u64,
+    all: u64,
+    one: &[u8],
+    many: &[u8],
+) -> Result<Vec<u8>, AllocError>
+    ensures { IfOk result (λ text. text.items ≡ share_text part all one.now many.now) }
 {
     let mut buffer = Buffer::new();
-    let targets = counted_text(alloc, targets, TARGET_FAILED, TARGETS_FAILED)?;
+    let targets = counted_text(alloc, all, one, many)?;
     let of_targets = join(alloc, OF, &targets)?;
-    join(alloc, buffer.format(failures).as_bytes(), &of_targets)
+    join(alloc, buffer.format(part).as_bytes(), &of_targets)
 }
 
 // Returns a number, and words that depend on it.

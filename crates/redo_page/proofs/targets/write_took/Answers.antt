@@ -1,8 +1,5 @@
-use Rattle.std.proofs.Common.{ap, sym, ◌∷◌, [], ◌++◌, ◌∙◌}
-use Rattle.std.specs.Prelude.{codes}
-use Rattle.redo_html.specs.declared.markup.Markup.TheVariants as markup
-use Rattle.redo_html.specs.Parts.Part.{MarkupPart, TextPart}
-use Rattle.redo_page.specs.Targets.{took_parts}
+use Rattle.std.proofs.Common.{ap, sym, ◌∙◌}
+use Rattle.redo_page.specs.Targets.{fact_parts, took_parts}
 use Rattle.redo_page.specs.Words.{words_parts}
 use Rattle.redo_page.proofs.PartLoops.{wrote_as}
 use Rattle.redo_page.proofs.WriterLemmas.{wrote_then}
@@ -11,6 +8,6 @@ use Rattle.redo_page.proofs.targets.write_took.Goals as goal
 pub returns : goal.returns
 returns g c =
     wrote_as g.W.Sink.written c.args.page.now c.put-2.new.self _ _
-    ((λ i. TextPart (codes " ") ∷ MarkupPart markup.Small ∷ (words_parts (c.duration.ensures i) ++ MarkupPart markup.EndSmall ∷ []))
+    ((λ i. fact_parts (words_parts (c.duration.ensures i)))
     ∙ ap took_parts (sym c.in-Some.is))
     (wrote_then c.put.ensures (wrote_then c.write_words.ensures c.put-2.ensures))
