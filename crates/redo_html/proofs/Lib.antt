@@ -3,6 +3,7 @@ mod ChartRows
 mod ChartTags
 mod ChartWriting
 mod HtmlRows
+mod LargeRows
 mod LawRows
 mod CodePointRows
 mod LineLemmas

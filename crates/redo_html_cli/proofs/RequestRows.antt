@@ -1,8 +1,10 @@
 -- Rows of what the page of a job is asked: each option reaches its own part of the request.
-use Rattle.std.proofs.Common.{◌≡◌, ℕ, Bool, true, false, List, [], ◌∷◌, Option, None, Some, refl}
+use Rattle.std.proofs.Common.{◌≡◌, ℕ, Bool, true, false, List, [], ◌∷◌, ◌++◌, Option, None, Some, length, replicate, refl}
 use Rattle.std.specs.Prelude.{codes}
 use Rattle.std.specs.List.{AllByRecursion}
 use Rattle.redo_html_args.specs.Job.{PageParts}
+use Rattle.redo_command.specs.Logs.{opaque_logs}
+use Rattle.redo_html_cli.specs.Page.{page_call}
 use Rattle.redo_html_cli.specs.Request.{request_for}
 use Rattle.redo_page.specs.Page.{Request}
 use Rattle.redo_times.specs.declared.times.Times.{Times}
@@ -53,3 +55,30 @@ rows =
 
 these_requests : AllByRecursion (λ r. request_for r.job r.times ≡ r.request) rows
 these_requests = (refl, (refl, (refl, (refl, (refl, tt)))))
+
+-- A long title, a long directory, and the times of 301 targets.
+abbrev long : ℕ → List ℕ
+long count = replicate count 97 ++ codes "x"
+
+abbrev many_times : List Times
+many_times = replicate 300 (record { began = None; ended = None }) ++ record { began = Some 5; ended = Some 7 } ∷ []
+
+abbrev long_job : PageParts
+long_job = record {
+  dir = long 5000;
+  output = None;
+  title = Some (long 1000);
+  unchanged = false;
+  debug_locks = false;
+  max_bytes = 16000000;
+  senders = 5;
+  targets = [];
+}
+
+long_request : (length (request_for long_job many_times).title ≡ 1001) × (length (request_for long_job many_times).dir ≡ 5001)
+    × (length (request_for long_job many_times).times ≡ 301)
+long_request = (refl, refl, refl)
+
+-- Each requested target is an argument of the call.
+many_targets : length (page_call opaque_logs (record long_job { targets = replicate 150 (codes "a") }) [] []).arguments ≡ 150
+many_targets = refl

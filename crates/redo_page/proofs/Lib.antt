@@ -19,6 +19,7 @@ mod FrameRows
 mod Ids
 mod JoinLemmas
 mod KeptLines
+mod LargeRows
 mod LawRows
 mod LimitLemmas
 mod LimitRows

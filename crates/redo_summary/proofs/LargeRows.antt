@@ -1,12 +1,15 @@
 -- Rows of long builds, of single targets, and of large sums.
-use Rattle.std.proofs.Common.{◌≡◌, ℕ, true, false, [], ◌∷◌, Option, None, Some, map, refl}
+use Rattle.std.proofs.Common.{◌≡◌, ℕ, true, false, List, [], ◌∷◌, ◌++◌, Option, None, Some, pos, negsuc, length, map, replicate, refl}
 use Rattle.redo_timeline.specs.declared.span.Span.{Span}
 use Rattle.redo_timeline.specs.declared.span.Window.{Window}
 use Rattle.redo_summary.specs.Callers.{callers_of}
-use Rattle.redo_summary.specs.Ranks.{duration, longest_of}
-use Rattle.redo_summary.specs.Summary.{facts_of, is_timed, total}
-use Rattle.redo_summary.specs.Targets.{only_time}
-use Rattle.redo_summary.specs.Window.{time_over, window_over}
+use Rattle.redo_outline.proofs.Nodes.{no_node}
+use Rattle.redo_outline.specs.declared.node.Node.{Node}
+use Rattle.redo_times.specs.declared.times.Times.{Times}
+use Rattle.redo_summary.specs.Ranks.{duration, first_ranks, longest_of, most_warned}
+use Rattle.redo_summary.specs.Summary.{bytes_of, facts_of, is_timed, total, warnings_of}
+use Rattle.redo_summary.specs.Targets.{no_times, only_time, targets_of, times_of}
+use Rattle.redo_summary.specs.Window.{known_times, time_over, window_over}
 use Rattle.redo_summary.specs.declared.rank.Rank.{Rank}
 use Rattle.redo_summary.specs.declared.target.Target.{Target}
 
@@ -72,3 +75,54 @@ ranks : longest_of (span 0 0 11 ∷ span 1 0 10 ∷ span 2 0 9 ∷ span 3 0 8 �
     ∷ span 9 0 3 ∷ span 10 0 604800000 ∷ [])
     ≡ rank 604800000 10 ∷ rank 11 0 ∷ rank 10 1 ∷ rank 9 2 ∷ rank 8 3 ∷ rank 7 4 ∷ rank 6 6 ∷ rank 5 7 ∷ rank 4 8 ∷ rank 3 9 ∷ []
 ranks = refl
+
+-- Durations of more than 2^32 milliseconds are in order too.
+long_ranks : first_ranks (rank 4294967296 0 ∷ rank 4294967297 1 ∷ rank 8589934592 2 ∷ [])
+    ≡ rank 8589934592 2 ∷ rank 4294967297 1 ∷ rank 4294967296 0 ∷ []
+long_ranks = refl
+
+-- ---- many targets
+
+-- A target that was made, with this number of bytes and of warnings.
+abbrev made : ℕ → ℕ → Node
+made bytes warnings = record no_node { status = Some (pos 0); bytes = bytes; warnings = warnings }
+
+many_warnings :
+    (most_warned (made 0 1000 ∷ made 0 12345 ∷ made 0 0 ∷ []) ≡ rank 12345 1 ∷ rank 1000 0 ∷ [])
+    × (warnings_of (made 0 1000 ∷ made 0 12345 ∷ []) ≡ 13345) × (bytes_of (made 4294967296 0 ∷ made 4294967297 0 ∷ []) ≡ 8589934593)
+    × (warnings_of (replicate 1500 (made 7 2)) ≡ 3000) × (bytes_of (replicate 1500 (made 7 2)) ≡ 10500)
+many_warnings = (refl, refl, refl, refl, refl)
+
+-- 150 recipes at once.
+abbrev at_once : List Target
+at_once = replicate 150 (target 0 None (Some 100) (Some 120))
+
+many_recipes : ((facts_of [] at_once).sum ≡ 3000) × ((facts_of [] at_once).most ≡ 150)
+many_recipes = (refl, refl)
+
+-- A tenth of all spans and marks may be marks, however many these are.
+abbrev with_marks : ℕ → ℕ → List Target
+with_marks recipes marks = replicate recipes (target 0 None (Some 100) (Some 120)) ++ replicate marks (target 1 (Some 0) (Some 100) None)
+
+many_marks : map (λ targets. is_timed (facts_of [] targets))
+    (with_marks 27 3 ∷ with_marks 26 3 ∷ with_marks 108 12 ∷ with_marks 107 12 ∷ []) ≡ true ∷ false ∷ true ∷ false ∷ []
+many_marks = refl
+
+-- The log with the number 5000 has its own times.
+abbrev ran : ℕ → ℕ → Times
+ran began ended = record { began = Some began; ended = Some ended }
+
+late_log : times_of (replicate 5000 no_times ++ ran 3 4 ∷ ran 5 6 ∷ []) 5000 ≡ ran 3 4
+late_log = refl
+
+-- A requested target may have failed, and a signal may have killed one.
+abbrev failed_in : Option ℕ → Target
+failed_in parent = record { position = 0; parent = parent; failed = true; times = no_times }
+
+failures : map (λ node. targets_of (node ∷ []) []) (record no_node { status = Some (pos 1) } ∷ record no_node { status = Some (negsuc 8) }
+    ∷ record no_node { parent = Some 7; status = Some (pos 130) } ∷ [])
+    ≡ (failed_in None ∷ []) ∷ (failed_in None ∷ []) ∷ (failed_in (Some 7) ∷ []) ∷ []
+failures = refl
+
+many_times : length (known_times (replicate 1500 (target 0 None (Some 100) (Some 120)))) ≡ 3000
+many_times = refl

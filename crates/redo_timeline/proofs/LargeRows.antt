@@ -4,7 +4,7 @@ use Rattle.redo_timeline.specs.declared.span.Span.{Span}
 use Rattle.redo_timeline.specs.declared.span.Window.{Window}
 use Rattle.redo_timeline.specs.Bars.{bar_of, joins, units}
 use Rattle.redo_timeline.specs.Lanes.{take_lane}
-use Rattle.redo_timeline.specs.Parallelism.{count_at, runs_at}
+use Rattle.redo_timeline.specs.Parallelism.{count_at, most_of, runs_at}
 
 abbrev span : ℕ → ℕ → Span
 span began ended = record { began = began; position = 0; ended = ended; failed = false }
@@ -32,6 +32,12 @@ one_bar = refl
 count : (bar_of day 0 (replicate 1000 (span 0 1))).count ≡ 1000
 count = refl
 
+-- Such a bar begins and ends with its spans, and may have more than 2^16 of them.
+many_spans :
+    ((bar_of day 0 (spans_from 5000 1000)).began ≡ 5000) × ((bar_of day 0 (spans_from 5000 1000)).ended ≡ 6000)
+    × ((bar_of day 0 (replicate 70000 (span 0 1))).count ≡ 70000)
+many_spans = (refl, refl, refl)
+
 -- A lane with a thousand spans is free after the last one.
 full_lane : map (λ (lane : List Span). length lane) (take_lane 96 (span 1000 1001) (spans_from 0 1000 ∷ [])) ≡ 1001 ∷ []
 full_lane = refl
@@ -42,3 +48,14 @@ runs = refl
 
 no_length : (runs_at 5 (span 5 5) ≡ false) × (count_at (span 5 5 ∷ span 5 7 ∷ span 3 5 ∷ []) (span 5 5) ≡ 2)
 no_length = (refl, refl)
+
+-- 300 spans run at once.
+at_once : most_of (replicate 300 (span 5 7)) ≡ 300
+at_once = refl
+
+-- A bar of a span that failed begins with the span, even at the end of the window.
+abbrev failed : Span
+failed = record { began = 9999; position = 0; ended = 10000; failed = true }
+
+last_bar : (bar_of (record { began = 0; width = 10000 }) 0 (failed ∷ [])).x ≡ 9999
+last_bar = refl

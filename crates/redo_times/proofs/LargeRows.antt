@@ -1,14 +1,19 @@
 -- Rows of long names, late times and equal times, and what holds of streams of any length.
-use Rattle.std.proofs.Common.{◌≡◌, ℕ, Bool, List, [], ◌∷◌, ◌++◌, None, Some, map, replicate, refl}
-use Rattle.std.specs.Prelude.{codes}
+use Rattle.std.proofs.Common.{◌≡◌, ℕ, Bool, false, List, [], ◌∷◌, ◌++◌, None, Some, pos, negsuc, length, map, replicate, refl}
+use Rattle.std.specs.Prelude.{codes, slice_get}
+use Rattle.redo_device.specs.Feed.{Stream}
 use Rattle.redo_line.specs.Decimal.{number}
-use Rattle.redo_line.specs.Parts.{split_once}
-use Rattle.redo_line.specs.declared.entry.Entry.TheVariants.{Mention}
-use Rattle.redo_line.specs.declared.entry.How.TheVariants.{Waiting, Locked, Unlocked, Unchanged}
+use Rattle.redo_line.specs.Entry.{entry_of, record_entry}
+use Rattle.redo_line.specs.Lines.{ended, split_lines, with_line_feed}
+use Rattle.redo_line.specs.Parts.{after_prefix, split_once}
+use Rattle.redo_line.specs.Record.{fields_of, record_fields, status_of}
+use Rattle.redo_name.specs.Names.{normal, reduce_suffix}
+use Rattle.redo_line.specs.declared.entry.Entry.TheVariants.{Closing, Done, Mention}
+use Rattle.redo_line.specs.declared.entry.How.TheVariants.{Made, Waiting, Locked, Unlocked, Unchanged}
 use Rattle.redo_times.specs.declared.report.Report.{Report}
-use Rattle.redo_times.specs.declared.report.Stage.TheVariants.{Began}
-use Rattle.redo_times.specs.Readers.{logs_of}
-use Rattle.redo_times.specs.Report.{stage_of}
+use Rattle.redo_times.specs.declared.report.Stage.TheVariants.{Began, EndedInOtherLog, EndedInOwnLog}
+use Rattle.redo_times.specs.Readers.{logs_of, times_of_all}
+use Rattle.redo_times.specs.Report.{report_of, reports_in, stage_of}
 use Rattle.redo_times.specs.Time.{time_value}
 use Rattle.redo_times.specs.Times.{before_end, first_time, last_time, times_at}
 
@@ -37,6 +42,10 @@ equal_times : (before_end (Some 1600000000000) (Some 1600000000000) ≡ Some 160
     × (before_end (Some 1600000000001) (Some 1600000000000) ≡ None)
 equal_times = (refl, refl)
 
+-- Or a week and three months later.
+late_ends : map (before_end (Some 1600000000000)) (Some 1600604800000 ∷ Some 1607776000000 ∷ []) ≡ replicate 2 (Some 1600000000000)
+late_ends = refl
+
 -- Decimals after the third are dropped.
 fractions : map time_value (codes "1600000000.0009" ∷ codes "1600000000.9995" ∷ codes "1600000000.12345" ∷ codes "1600000000.4567" ∷ [])
     ≡ Some 1600000000000 ∷ Some 1600000000999 ∷ Some 1600000000123 ∷ Some 1600000000456 ∷ []
@@ -52,3 +61,34 @@ mentions = refl
 whole_streams : (target bytes : List ℕ) (fails : Bool)
     → logs_of (target ∷ []) (record { bytes = bytes; fails = fails } ∷ []) ≡ record { target = target; bytes = bytes } ∷ []
 whole_streams target bytes fails = refl
+
+-- Whatever the status of a target is, a `done` record says that it ended.
+done_records : map (λ status. stage_of (codes "a") (Done 7 status (codes "b")))
+    (pos 0 ∷ pos 1 ∷ pos 2 ∷ pos 130 ∷ negsuc 0 ∷ negsuc 8 ∷ []) ≡ replicate 6 (Some (EndedInOtherLog, codes "b"))
+done_records = refl
+
+closing_records : map (λ status. stage_of (codes "a") (Closing 7 status)) (pos 0 ∷ pos 1 ∷ pos 2 ∷ pos 130 ∷ negsuc 0 ∷ negsuc 8 ∷ [])
+    ≡ replicate 6 (Some (EndedInOwnLog, codes "a"))
+closing_records = refl
+
+-- Whatever the process is, a `do` record says that a target began.
+do_records : map (λ pid. stage_of (codes "a") (Mention pid Made (codes "b"))) (0 ∷ 1 ∷ 7 ∷ 32768 ∷ 4194304 ∷ [])
+    ≡ replicate 5 (Some (Began, codes "b"))
+do_records = refl
+
+-- The log of the last of 151 targets says when it ended.
+abbrev stream : List ℕ → Stream
+stream bytes = record { bytes = bytes; fails = false }
+
+many_logs :
+    slice_get
+    (times_of_all 1000 (replicate 150 (codes "b") ++ codes "a" ∷ [])
+    (replicate 150 (stream []) ++ stream (with_line_feed (codes "@@REDO:done:7:1700000004@@ 2 a")) ∷ []))
+    150
+    ≡ Some (record { began = None; ended = Some 1700000004000 })
+unfolding split_lines ended record_fields fields_of status_of split_once after_prefix normal reduce_suffix number time_value entry_of record_entry report_of
+many_logs = refl
+
+many_lines : length (reports_in (codes "a") (replicate 1500 [] ++ codes "@@REDO:done:7:1700000004@@ 0 a" ∷ [])) ≡ 1
+unfolding split_lines ended record_fields fields_of status_of split_once after_prefix normal reduce_suffix number time_value entry_of record_entry report_of
+many_lines = refl

@@ -1,7 +1,9 @@
 -- Rows of long lines and logs, and what holds of any number of logs.
-use Rattle.std.proofs.Common.{◌≡◌, ℕ, [], ◌∷◌, ◌++◌, map, replicate, refl}
+use Rattle.std.proofs.Common.{◌≡◌, ℕ, [], ◌∷◌, ◌++◌, Some, length, map, replicate, refl}
 use Rattle.std.specs.Prelude.{codes}
-use Rattle.redo_trim.specs.Trim.{after_end, limit_of, line_size, marker_text, no_limit, showing_of, with_bytes}
+use Rattle.redo_line.specs.declared.entry.Entry.TheVariants.{Text}
+use Rattle.redo_view.specs.Event.Event.{EntryShown}
+use Rattle.redo_trim.specs.Trim.{after_end, kept, limit_of, line_size, marker_text, no_limit, showing_of, with_bytes, with_opened}
 use Rattle.redo_trim.specs.declared.limit.Gauge.{Gauge}
 use Rattle.redo_trim.specs.declared.limit.Limit.{Limit}
 use Rattle.redo_trim.specs.declared.limit.Showing.TheVariants as showing
@@ -43,3 +45,11 @@ limits = refl
 -- The end of a log ends its gauge, also the last one's.
 ends : (after_end [] ≡ []) × (after_end (gauge 1 2 3 ∷ []) ≡ []) × (after_end (gauge 1 2 3 ∷ gauge 4 5 6 ∷ []) ≡ gauge 4 5 6 ∷ [])
 ends = (refl, refl, refl)
+
+-- A log may be in 150 others. Each has a gauge.
+deep : length (with_opened [] (Some 5) (replicate 150 (gauge 1 2 3))) ≡ 151
+deep = refl
+
+-- An empty line in the middle is left out too.
+empty_line : kept (long 5000 ∷ []) (EntryShown 1 (Text [])) ≡ []
+empty_line = refl

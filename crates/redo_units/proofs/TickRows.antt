@@ -197,6 +197,83 @@ these_steps = (
   ),
 )
 
+-- Each step, on the narrowest axis that it is for.
+abbrev narrowest : List StepRow
+narrowest =
+    steps 0 1 ∷
+    steps 11 2 ∷
+    steps 21 5 ∷
+    steps 51 10 ∷
+    steps 101 20 ∷
+    steps 201 50 ∷
+    steps 501 100 ∷
+    steps 1001 200 ∷
+    steps 2001 500 ∷
+    steps 5001 1000 ∷
+    steps 10001 2000 ∷
+    steps 20001 5000 ∷
+    steps 50001 10000 ∷
+    steps 100001 15000 ∷
+    steps 150001 30000 ∷
+    steps 300001 60000 ∷
+    steps 600001 120000 ∷
+    steps 1200001 300000 ∷
+    steps 3000001 600000 ∷
+    steps 6000001 900000 ∷
+    steps 9000001 1800000 ∷
+    steps 18000001 3600000 ∷
+    steps 36000001 7200000 ∷
+    steps 72000001 14400000 ∷
+    steps 144000001 43200000 ∷
+    steps 432000001 86400000 ∷
+    []
+
+narrow_steps : AllByRecursion (λ row. tick_step_of row.width ≡ row.step) narrowest
+unfolding tick_step_of
+narrow_steps = (
+  refl,
+  (
+    refl,
+    (
+      refl,
+      (
+        refl,
+        (
+          refl,
+          (
+            refl,
+            (
+              refl,
+              (
+                refl,
+                (
+                  refl,
+                  (
+                    refl,
+                    (
+                      refl,
+                      (
+                        refl,
+                        (
+                          refl,
+                          (
+                            refl,
+                            (refl, (refl, (refl, (refl, (refl, (refl, (refl, (refl, (refl, (refl, (refl, (refl, tt)))))))))))),
+                          ),
+                        ),
+                      ),
+                    ),
+                  ),
+                ),
+              ),
+            ),
+          ),
+        ),
+      ),
+    ),
+  ),
+)
+
 abbrev other_widths : List StepRow
 other_widths =
     steps 0 1 ∷
