@@ -47,7 +47,9 @@ def libraries_of(program):
 
 
 def libraries():
-    return list(dict.fromkeys(libraries_of("redo_log") + libraries_of("redo_log_html")))
+    """Returns the libraries of both programs, and those that no program uses yet, each after its own dependencies."""
+    unused = libraries_of("redo_facts") + ["redo_facts"]
+    return list(dict.fromkeys(libraries_of("redo_log") + libraries_of("redo_log_html") + unused))
 
 
 def title_of(line):
