@@ -7,7 +7,8 @@ UNSEEN = [(0x80, 0x9F), (0xAD, 0xAD), (0x34F, 0x34F), (0x61C, 0x61C), (0x115F, 0
           (0xFEFF, 0xFEFF), (0xFFA0, 0xFFA0), (0xFFF0, 0xFFFB), (0x1BCA0, 0x1BCA3), (0x1D173, 0x1D17A), (0xE0000, 0xE0FFF),
           *((plane + 0xFFFE, plane + 0xFFFF) for plane in range(0, 0x110000, 0x10000))]
 HUES = "-rgybmc"
-SEQUENCE = re.compile(r"\x1b\[([0-9;]*)([mK])")
+# What sets a style or erases a line, and a link.
+SEQUENCE = re.compile(r"\x1b\[([0-9;]*)([mK])|\x1b\]8;[!-:<-~]*;[!-~]*(?:\x07|\x1b\\)")
 PLAIN = (False, "-")
 
 

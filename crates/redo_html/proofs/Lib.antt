@@ -8,6 +8,8 @@ mod LawRows
 mod CodePointRows
 mod LineLemmas
 mod LineRows
+mod LinkLemmas
+mod LinkRows
 mod LineWriting
 mod HighlightReading
 mod PageRows

@@ -1,8 +1,8 @@
 -- Lemmas about lines: no symbol crosses a line feed, so texts may be split there.
 use Rattle.std.proofs.Common.{◌≡◌, ℕ, zero, suc, ◌+◌, ◌-◌, ◌<◌, ◌≤◌, Bool, true, false, List, [], ◌∷◌, ◌++◌, length, take, drop, slice_index, refl, sym, ◌∙◌, ap, arith, ⊎_elim}
 use Rattle.std.specs.Prelude.{◌==◌, ◌||◌, ◌&&◌, nat_lt, encode_utf8, fold, if◌then◌else◌}
-use Rattle.std.specs.List.{flat_map, prefix_len}
-use Rattle.std.proofs.lemmas.Bool.{and_right, cases_lt, cond-false, eqb-true}
+use Rattle.std.specs.List.{flat_map, list_any, prefix_len}
+use Rattle.std.proofs.lemmas.Bool.{and_left, and_right, cases_lt, cond-false, eqb-true}
 use Rattle.std.proofs.lemmas.List.{append_assoc, append-nil, get_or_append_left, get_or-append-add, get_or_past, take-append-le}
 use Rattle.std.proofs.lemmas.List.Sums.{fold-append}
 use Rattle.std.proofs.lemmas.List.Concat.{flat_map-append}
@@ -22,11 +22,11 @@ use Rattle.redo_html.specs.Passage.Inline.{Text}
 use Rattle.redo_html.specs.Shown.{Run, is_unprintable, unprintable_text, run_text, shown_text, code_points_text, with_code_point, with_symbol, runs_of}
 use Rattle.redo_html.specs.Shown.Run.{CodePoints, Restyle}
 use Rattle.redo_html.specs.Style.{plain_style, restyled}
-use Rattle.redo_html.specs.Symbols.{Symbol, code_point_of, size_of, first_code_point, code_point_len, is_parameter, final_byte, begins_sequence, sequence_len, numbers_from, sequence_numbers, has_colours, is_sequence, first_symbol, symbol_len, symbols_after, symbols}
+use Rattle.redo_html.specs.Symbols.{Symbol, code_point_of, size_of, first_code_point, code_point_len, is_parameter, final_byte, begins_sequence, is_link_byte, end_len, link_len, sequence_len, numbers_from, sequence_numbers, has_colours, is_sequence, first_symbol, symbol_len, symbols_after, symbols}
 use Rattle.redo_html.specs.Symbols.Symbol.{CodePoint, Sequence}
 use Rattle.redo_html.specs.Private.Writing.{style_in}
 use Rattle.redo_html.proofs.PassageLemmas.{html_of}
-use Rattle.redo_html.proofs.SymbolLemmas.{symbols-nil, symbols-step, symbol_bounds, plain_symbol, plain_visible, plain_encoded, visible_run}
+use Rattle.redo_html.proofs.SymbolLemmas.{no_link_start, symbols-nil, symbols-step, symbol_bounds, plain_symbol, plain_visible, plain_encoded, visible_run}
 
 -- ---- what follows a line feed is not in the symbol before it
 
@@ -69,12 +69,65 @@ begins_same x y bytes more =
     (final_test x y bytes more 109 refl refl)
     ∙ ap (λ (k : Bool). (x == 27 && y == 91) && ((final_byte (x ∷ y ∷ bytes) == 109) || k)) (final_test x y bytes more 75 refl refl)
 
+link_bytes_before : (bytes more : List ℕ) → prefix_len is_link_byte (bytes ++ 10 ∷ more) ≡ prefix_len is_link_byte bytes
+link_bytes_before [] more = refl
+link_bytes_before (byte ∷ bytes) more = ap (λ (n : ℕ). if is_link_byte byte then 1 + n else 0) (link_bytes_before bytes more)
+
+-- A line feed ends no link.
+end_same : (bytes more : List ℕ) (i next : ℕ) → i ≤ length bytes → next ≡ 1 + i
+    → end_len (slice_index (bytes ++ 10 ∷ more) i) (slice_index (bytes ++ 10 ∷ more) next)
+    ≡ end_len (slice_index bytes i) (slice_index bytes next)
+end_same bytes more i next within is = ⊎_elim inside past (cases_lt i (length bytes))
+  where
+    inside : i < length bytes → end_len (slice_index (bytes ++ 10 ∷ more) i) (slice_index (bytes ++ 10 ∷ more) next)
+        ≡ end_len (slice_index bytes i) (slice_index bytes next)
+    inside below =
+        ap (λ (b : ℕ). end_len b (slice_index (bytes ++ 10 ∷ more) next)) (get_or_append_left bytes (10 ∷ more) 0 i below)
+        ∙ ap (λ (t : Bool). if slice_index bytes i == 7 then 1 else if slice_index bytes i == 27 && t then 2 else 0)
+        (byte_test bytes more next 92 (omega (arith, below, is)) refl refl)
+
+    past : length bytes ≤ i → end_len (slice_index (bytes ++ 10 ∷ more) i) (slice_index (bytes ++ 10 ∷ more) next)
+        ≡ end_len (slice_index bytes i) (slice_index bytes next)
+    past above =
+        let at : i ≡ length bytes + 0 = omega (arith, above, within) in
+        let feed : slice_index (bytes ++ 10 ∷ more) i ≡ 10 =
+        ap (slice_index (bytes ++ 10 ∷ more)) at ∙ get_or-append-add bytes (10 ∷ more) 0 0 in
+        ap (λ (b : ℕ). end_len b (slice_index (bytes ++ 10 ∷ more) next)) feed
+        ∙ sym (ap (λ (b : ℕ). end_len b (slice_index bytes next)) (get_or_past bytes i 0 above))
+
+link_same : (bytes more : List ℕ) → link_len (bytes ++ 10 ∷ more) ≡ link_len bytes
+link_same [] more = refl
+link_same (a ∷ []) more =
+    sym (no_link_start (a ∷ 10 ∷ more) (and_left _ _ (and_left _ _ (and_right (a == 27) false refl))))
+    ∙ no_link_start (a ∷ []) (and_left _ _ (and_left _ _ (and_right (a == 27) false refl)))
+link_same (a ∷ b ∷ []) more =
+    sym (no_link_start (a ∷ b ∷ 10 ∷ more) (and_left _ _ (and_right (a == 27 && b == 93) false refl)))
+    ∙ no_link_start (a ∷ b ∷ []) (and_left _ _ (and_right (a == 27 && b == 93) false refl))
+link_same (a ∷ b ∷ c ∷ []) more =
+    sym (no_link_start (a ∷ b ∷ c ∷ 10 ∷ more) (and_right (a == 27 && b == 93 && c == 56) false refl))
+    ∙ no_link_start (a ∷ b ∷ c ∷ []) (and_right (a == 27 && b == 93 && c == 56) false refl)
+link_same (a ∷ b ∷ c ∷ d ∷ bytes) more =
+    let line = a ∷ b ∷ c ∷ d ∷ bytes in
+    let all = line ++ 10 ∷ more in
+    let start = a == 27 && b == 93 && c == 56 && d == 59 in
+    let n = prefix_len is_link_byte bytes in
+    let len : List ℕ → ℕ → ℕ → ℕ = λ text n end.
+    if start && list_any (λ byte. byte == 59) text && nat_lt 0 end then 4 + n + end else 0 in
+    let within = prefix_len-le-length is_link_byte bytes in
+    ap (λ (k : ℕ). len (take k (bytes ++ 10 ∷ more)) k (end_len (slice_index all (4 + k)) (slice_index all (5 + k))))
+    (link_bytes_before bytes more)
+    ∙ ap (λ (t : List ℕ). len t n (end_len (slice_index all (4 + n)) (slice_index all (5 + n)))) (take-append-le n bytes (10 ∷ more) within)
+    ∙ ap (len (take n bytes) n) (end_same line more (4 + n) (5 + n) (omega (arith, within)) (omega arith))
+
 sequence_same : (x : ℕ) (bytes more : List ℕ) → sequence_len ((x ∷ bytes) ++ 10 ∷ more) ≡ sequence_len (x ∷ bytes)
 unfolding sequence_len
-sequence_same x [] more = cond-false _ _ _ (one_byte_more x more (x == 27) refl) ∙ sym (cond-false _ _ _ (one_byte x (x == 27) refl))
+sequence_same x [] more = cond-false _ _ _ (one_byte_more x more (x == 27) refl) ∙ link_same (x ∷ []) more
+    ∙ sym (cond-false _ _ _ (one_byte x (x == 27) refl))
 sequence_same x (y ∷ bytes) more =
-    ap (λ (b : Bool). if b then 3 + prefix_len is_parameter (bytes ++ 10 ∷ more) else 0) (begins_same x y bytes more)
-    ∙ ap (λ (n : ℕ). if begins_sequence (x ∷ y ∷ bytes) then 3 + n else 0) (parameters_before bytes more)
+    let all = (x ∷ y ∷ bytes) ++ 10 ∷ more in
+    ap (λ (b : Bool). if b then 3 + prefix_len is_parameter (bytes ++ 10 ∷ more) else link_len all) (begins_same x y bytes more)
+    ∙ ap (λ (n : ℕ). if begins_sequence (x ∷ y ∷ bytes) then 3 + n else link_len all) (parameters_before bytes more)
+    ∙ ap (λ (n : ℕ). if begins_sequence (x ∷ y ∷ bytes) then 3 + prefix_len is_parameter bytes else n) (link_same (x ∷ y ∷ bytes) more)
 
 is_sequence_same : (kind : TextKind) (x : ℕ) (bytes more : List ℕ)
     → is_sequence kind ((x ∷ bytes) ++ 10 ∷ more) ≡ is_sequence kind (x ∷ bytes)
@@ -85,11 +138,12 @@ numbers_same : (x y : ℕ) (bytes more : List ℕ) → sequence_numbers ((x ∷ 
 unfolding sequence_numbers
 numbers_same x y bytes more =
     let n = prefix_len is_parameter bytes in
-    ap (λ (b : Bool). if b then numbers_from 0 (take (prefix_len is_parameter (bytes ++ 10 ∷ more)) (bytes ++ 10 ∷ more)) else [])
+    let all = bytes ++ 10 ∷ more in
+    ap (λ (b : Bool). if y == 91 && b then numbers_from 0 (take (prefix_len is_parameter all) all) else [])
     (final_test x y bytes more 109 refl refl)
-    ∙ ap (λ (k : ℕ). if final_byte (x ∷ y ∷ bytes) == 109 then numbers_from 0 (take k (bytes ++ 10 ∷ more)) else [])
+    ∙ ap (λ (k : ℕ). if y == 91 && final_byte (x ∷ y ∷ bytes) == 109 then numbers_from 0 (take k (bytes ++ 10 ∷ more)) else [])
     (parameters_before bytes more)
-    ∙ ap (λ (b : List ℕ). if final_byte (x ∷ y ∷ bytes) == 109 then numbers_from 0 b else [])
+    ∙ ap (λ (b : List ℕ). if y == 91 && final_byte (x ∷ y ∷ bytes) == 109 then numbers_from 0 b else [])
     (take-append-le n bytes (10 ∷ more) (prefix_len-le-length is_parameter bytes))
 
 decoded_same : (x : ℕ) (bytes more : List ℕ) → decoded ((x ∷ bytes) ++ 10 ∷ more) ≡ decoded (x ∷ bytes)
@@ -106,7 +160,8 @@ decoded_same x bytes more =
 one_byte_symbol : (kind : TextKind) (x : ℕ) → is_sequence kind (x ∷ []) ≡ false
 unfolding is_sequence sequence_len
 one_byte_symbol kind x = and_right (has_colours kind) (nat_lt 0 (sequence_len (x ∷ [])))
-    (ap (nat_lt 0) (cond-false _ _ _ (one_byte x (x == 27) refl)))
+    (ap (nat_lt 0) (cond-false _ _ _ (one_byte x (x == 27) refl) ∙ sym (no_link_start (x ∷ [])
+    (and_left _ _ (and_left _ _ (and_right (x == 27) false refl))))))
 
 first_same : (kind : TextKind) (x : ℕ) (bytes more : List ℕ) → first_symbol kind ((x ∷ bytes) ++ 10 ∷ more) ≡ first_symbol kind (x ∷ bytes)
 unfolding first_symbol first_code_point

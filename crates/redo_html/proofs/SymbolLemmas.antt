@@ -1,11 +1,11 @@
 -- Lemmas about the symbols of a text.
 use Rattle.std.proofs.Common.{◌≡◌, ℕ, zero, suc, ◌+◌, ◌-◌, ◌<◌, ◌≤◌, Bool, true, false, List, [], ◌∷◌, ◌++◌, Option, None, Some, length, take, drop, slice_index, get_or, replicate, refl, sym, ◌∙◌, ap, subst, arith, ⊎_elim, inl, inr, ◌⊎◌}
 use Rattle.std.specs.Char.{encode_utf8}
-use Rattle.std.specs.Prelude.{◌==◌, ◌||◌, ◌&&◌, not, nat_lt, nat_le}
+use Rattle.std.specs.Prelude.{◌==◌, ◌||◌, ◌&&◌, not, nat_lt, nat_le, if◌then◌else◌}
 use Rattle.std.specs.List.{list_all, list_any}
 use Rattle.std.proofs.lemmas.Bool.{agree_below_at, cases_lt, and_parts, and_left, and_right, and_from, cond-true, cond-false, eqb-true, eq-eqb, ne_eqb, ltb-true, lt-ltb, le-ltb, le-leb, lt-leb, or_from, or_cases, not-true}
 use Rattle.std.proofs.lemmas.Bool.Decides.{nat_tests}
-use Rattle.std.proofs.lemmas.List.{get_or_past, take_at, take_rest, take-append-drop, drop_more}
+use Rattle.std.proofs.lemmas.List.{get_or_past, take_at, take-append-drop, drop_more}
 use Rattle.std.proofs.lemmas.List.Folds.{list_any-append, list_any_more}
 use Rattle.bstr.specs.Utf8.{decoded, good}
 use Rattle.bstr.proofs.lemmas.PieceLemmas.{value-1, piece-bounds}
@@ -15,7 +15,7 @@ use Rattle.redo_html.specs.Passage.{escaped_byte}
 use Rattle.redo_html.specs.Laws.{is_plain}
 use Rattle.redo_html.specs.Shown.{is_unprintable, is_between, unseen_ranges, Run, with_code_point, runs_of}
 use Rattle.redo_html.specs.Shown.Run.{CodePoints, Restyle}
-use Rattle.redo_html.specs.Symbols.{Symbol, code_point_of, size_of, first_code_point, code_point_len, begins_sequence, final_byte, parameter_count, sequence_len, numbers_from, sequence_numbers, has_colours, is_sequence, first_symbol, symbol_len, symbols_after, symbols}
+use Rattle.redo_html.specs.Symbols.{Symbol, code_point_of, size_of, first_code_point, code_point_len, begins_sequence, final_byte, parameter_count, link_text_len, link_text, begins_link_text, end_len, link_end_len, begins_link, link_len, sequence_len, numbers_from, sequence_numbers, has_colours, is_sequence, first_symbol, symbol_len, symbols_after, symbols}
 use Rattle.redo_html.specs.Symbols.Symbol.{CodePoint, Sequence}
 use Rattle.redo_html.specs.Private.Writing.{IsSequence, BeginsOther, symbol_code_point}
 
@@ -52,13 +52,90 @@ index_within : (bytes : List ℕ) (i byte : ℕ) → slice_index bytes i ≡ byt
 index_within bytes i byte is some = ⊎_elim (λ inside. inside)
     (λ past. let none = get_or_past bytes i 0 past in absurd (omega (arith, none, is))) (cases_lt i (length bytes))
 
+-- How a link may end.
+end_cases : (byte next : ℕ) → 0 < end_len byte next
+    → ((byte ≡ 7) × (end_len byte next ≡ 1)) ⊎ ((next ≡ 92) × (end_len byte next ≡ 2))
+end_cases byte next some = by (byte == 7) refl
+  where
+    last : (escape : Bool) → (byte == 7) ≡ false → (byte == 27 && next == 92) ≡ escape
+        → ((byte ≡ 7) × (end_len byte next ≡ 1)) ⊎ ((next ≡ 92) × (end_len byte next ≡ 2))
+    last true bell is = inr (
+      eqb-true next 92 (and_parts (byte == 27) (next == 92) is).1,
+      cond-false (byte == 7) 1 (if byte == 27 && next == 92 then 2 else 0) bell ∙ cond-true (byte == 27 && next == 92) 2 0 is,
+    )
+    last false bell is =
+        let none : end_len byte next ≡ 0 =
+        cond-false (byte == 7) 1 (if byte == 27 && next == 92 then 2 else 0) bell ∙ cond-false (byte == 27 && next == 92) 2 0 is in
+        absurd (omega (arith, some, none))
+
+    by : (bell : Bool) → (byte == 7) ≡ bell → ((byte ≡ 7) × (end_len byte next ≡ 1)) ⊎ ((next ≡ 92) × (end_len byte next ≡ 2))
+    by true is = inl (eqb-true byte 7 is, cond-true (byte == 7) 1 (if byte == 27 && next == 92 then 2 else 0) is)
+    by false is = last (byte == 27 && next == 92) is refl
+
+abbrev has_url : List ℕ → Bool
+has_url bytes = list_any (λ byte. byte == 59) (link_text bytes)
+
+abbrev has_end : List ℕ → Bool
+has_end bytes = nat_lt 0 (link_end_len bytes)
+
+abbrev begins_command : List ℕ → Bool
+begins_command bytes = slice_index bytes 0 == 27 && slice_index bytes 1 == 93
+
+abbrev begins_8 : List ℕ → Bool
+begins_8 bytes = begins_command bytes && slice_index bytes 2 == 56
+
+link_within : (bytes : List ℕ) → 0 < link_end_len bytes → 4 + link_text_len bytes + link_end_len bytes ≤ length bytes
+link_within bytes some = ⊎_elim
+    (λ bell. let inside = index_within bytes (4 + link_text_len bytes) 7 bell.0 (omega arith) in omega (arith, inside, bell.1))
+    (λ escape. let inside = index_within bytes (5 + link_text_len bytes) 92 escape.0 (omega arith) in omega (arith, inside, escape.1))
+    (end_cases (slice_index bytes (4 + link_text_len bytes)) (slice_index bytes (5 + link_text_len bytes)) some)
+
+-- The numbers of a sequence, by its last byte and its parameters.
+abbrev numbers_by : List ℕ → ℕ → ℕ → List ℕ
+numbers_by bytes last count =
+    if slice_index bytes 1 == 91 && slice_index bytes last == 109 then numbers_from 0 (take count (drop 2 bytes)) else []
+
+numbers_found : (bytes : List ℕ) (len : ℕ) → len ≡ 3 + parameter_count bytes
+    → sequence_numbers bytes ≡ numbers_by bytes (len - 1) (len - 3)
+unfolding sequence_numbers
+numbers_found bytes len is =
+    ap (λ (last : ℕ). numbers_by bytes last (parameter_count bytes)) (omega (arith, is))
+    ∙ ap (numbers_by bytes (len - 1)) (omega (arith, is))
+
+no_numbers : (bytes : List ℕ) (len : ℕ) → (slice_index bytes 1 == 91) ≡ false
+    → sequence_numbers bytes ≡ numbers_by bytes (len - 1) (len - 3)
+unfolding sequence_numbers
+no_numbers bytes len other =
+    cond-false _ _ _ (and_left (slice_index bytes 1 == 91) (final_byte bytes == 109) other)
+    ∙ sym (cond-false _ _ _ (and_left (slice_index bytes 1 == 91) (slice_index bytes (len - 1) == 109) other))
+
 pub sequence_parts : (bytes : List ℕ) → 0 < sequence_len bytes → IsSequence bytes (sequence_len bytes)
 unfolding sequence_len
 sequence_parts bytes some = by (begins_sequence bytes) refl
   where
+    link : (begins : Bool) → begins_sequence bytes ≡ false → begins_link bytes ≡ begins → IsSequence bytes (sequence_len bytes)
+    link false other is =
+        let none : sequence_len bytes ≡ 0 = cond-false (begins_sequence bytes) (3 + parameter_count bytes) (link_len bytes) other
+        ∙ cond-false (begins_link bytes) (4 + link_text_len bytes + link_end_len bytes) 0 is in
+        absurd (omega (arith, some, none))
+    link true other is =
+        let parts = and_parts (begins_link_text bytes && has_url bytes) (has_end bytes) is in
+        let start = and_parts (begins_8 bytes) (slice_index bytes 3 == 59) (and_parts (begins_link_text bytes) (has_url bytes) parts.0).0 in
+        let two = and_parts (begins_command bytes) (slice_index bytes 2 == 56) start.0 in
+        let bracket = eqb-true (slice_index bytes 1) 93 (and_parts (slice_index bytes 0 == 27) (slice_index bytes 1 == 93) two.0).1 in
+        let end = ltb-true 0 (link_end_len bytes) parts.1 in
+        let within = link_within bytes end in
+        let len : sequence_len bytes ≡ 4 + link_text_len bytes + link_end_len bytes =
+        cond-false (begins_sequence bytes) (3 + parameter_count bytes) (link_len bytes) other
+        ∙ cond-true (begins_link bytes) (4 + link_text_len bytes + link_end_len bytes) 0 is in
+        record {
+          some = omega (arith, len);
+          within = omega (arith, within, len);
+          numbers = no_numbers bytes (sequence_len bytes) (ne_eqb (slice_index bytes 1) 91 (λ same. omega (arith, same, bracket)));
+        }
+
     by : (begins : Bool) → begins_sequence bytes ≡ begins → IsSequence bytes (sequence_len bytes)
-    by false is = let none : sequence_len bytes ≡ 0 = cond-false (begins_sequence bytes) (3 + parameter_count bytes) 0 is in
-        absurd (omega (arith, none))
+    by false is = link (begins_link bytes) is refl
     by true is =
         let parts = and_parts (slice_index bytes 0 == 27 && slice_index bytes 1 == 91)
         (final_byte bytes == 109 || final_byte bytes == 75) is in
@@ -68,8 +145,13 @@ sequence_parts bytes some = by (begins_sequence bytes) refl
         let inside : 2 + parameter_count bytes < length bytes =
         ⊎_elim (λ m. index_within bytes (2 + parameter_count bytes) 109 m (omega arith))
         (λ k. index_within bytes (2 + parameter_count bytes) 75 k (omega arith)) final in
-        let len : sequence_len bytes ≡ 3 + parameter_count bytes = cond-true (begins_sequence bytes) (3 + parameter_count bytes) 0 is in
-        record { size = len; within = omega (arith, inside, len) }
+        let len : sequence_len bytes ≡ 3 + parameter_count bytes =
+        cond-true (begins_sequence bytes) (3 + parameter_count bytes) (link_len bytes) is in
+        record {
+          some = omega (arith, len);
+          within = omega (arith, inside, len);
+          numbers = numbers_found bytes (sequence_len bytes) len;
+        }
 
 pub symbol_bounds : (kind : TextKind) (bytes : List ℕ) → 0 < length bytes
     → (0 < symbol_len kind bytes) × (symbol_len kind bytes ≤ length bytes)
@@ -217,51 +299,67 @@ unprintable_run code_point (suc count) symbols unprintable other =
     ap (with_code_point code_point) (unprintable_run code_point count symbols unprintable other)
     ∙ rw (unprintable, eq-eqb code_point code_point refl) refl
 
--- ---- the numbers of a sequence
-
-pub numbers_of_sgr : (bytes : List ℕ) (len : ℕ) → IsSequence bytes len → slice_index bytes (len - 1) ≡ 109
-    → sequence_numbers bytes ≡ numbers_from 0 (take (len - 3) (take (length bytes - 2) (drop 2 bytes)))
-unfolding sequence_numbers
-numbers_of_sgr bytes len sequence last =
-    let count : len - 3 ≡ parameter_count bytes = omega (arith, sequence.size) in
-    let at : len - 1 ≡ 2 + parameter_count bytes = omega (arith, sequence.size) in
-    cond-true (final_byte bytes == 109) (numbers_from 0 (take (parameter_count bytes) (drop 2 bytes))) []
-    (eq-eqb (final_byte bytes) 109 (ap (slice_index bytes) (sym at) ∙ last))
-    ∙ ap (λ (n : ℕ). numbers_from 0 (take n (drop 2 bytes))) (sym count)
-    ∙ ap (λ (b : List ℕ). numbers_from 0 (take (len - 3) b)) (sym (take_rest bytes 2))
-
-pub numbers_of_other : (bytes : List ℕ) (len : ℕ) → IsSequence bytes len → (slice_index bytes (len - 1) ≡ 109 → ⊥)
-    → sequence_numbers bytes ≡ []
-unfolding sequence_numbers
-numbers_of_other bytes len sequence last =
-    let at : len - 1 ≡ 2 + parameter_count bytes = omega (arith, sequence.size) in
-    cond-false (final_byte bytes == 109) (numbers_from 0 (take (parameter_count bytes) (drop 2 bytes))) []
-    (ne_eqb (final_byte bytes) 109 (λ is. last (ap (slice_index bytes) at ∙ is)))
-
 -- ---- the size of a sequence
 
 module _ (bytes : List ℕ) where
+  pub no_link_start : begins_link_text bytes ≡ false → 0 ≡ link_len bytes
+  no_link_start other = sym (cond-false (begins_link bytes) (4 + link_text_len bytes + link_end_len bytes) 0
+      (and_left (begins_link_text bytes && has_url bytes) (has_end bytes) (and_left (begins_link_text bytes) (has_url bytes) other)))
+
+  pub no_url : list_any (λ byte. byte == 59) (link_text bytes) ≡ false → 0 ≡ link_len bytes
+  no_url none = sym (cond-false (begins_link bytes) (4 + link_text_len bytes + link_end_len bytes) 0
+      (and_left (begins_link_text bytes && has_url bytes) (has_end bytes) (and_right (begins_link_text bytes) (has_url bytes) none)))
+
+  pub no_link_end : link_end_len bytes ≡ 0 → 0 ≡ link_len bytes
+  no_link_end none = sym (cond-false (begins_link bytes) (4 + link_text_len bytes + link_end_len bytes) 0
+      (and_right (begins_link_text bytes && has_url bytes) (has_end bytes) (le-ltb 0 (link_end_len bytes) (omega (arith, none)))))
+
+  pub link_parts : begins_link_text bytes ≡ true → list_any (λ byte. byte == 59) (link_text bytes) ≡ true → 0 < link_end_len bytes
+      → 4 + link_text_len bytes + link_end_len bytes ≡ link_len bytes
+  link_parts start url end = sym (cond-true (begins_link bytes) (4 + link_text_len bytes + link_end_len bytes) 0
+      (and_from (begins_link_text bytes && has_url bytes) (has_end bytes) (and_from (begins_link_text bytes) (has_url bytes) start url)
+      (lt-ltb 0 (link_end_len bytes) end)))
+
+  pub start_within : begins_link_text bytes ≡ true → 4 ≤ length bytes
+  start_within start =
+      let last = (and_parts (begins_8 bytes) (slice_index bytes 3 == 59) start).1 in
+      let inside = index_within bytes 3 59 (eqb-true (slice_index bytes 3) 59 last) (omega arith) in omega (arith, inside)
+
+  no_command : begins_command bytes ≡ false → begins_link_text bytes ≡ false
+  no_command other = and_left (begins_8 bytes) (slice_index bytes 3 == 59)
+      (and_left (begins_command bytes) (slice_index bytes 2 == 56) other)
+
+  no_first_link : (slice_index bytes 0 == 27) ≡ false → begins_link_text bytes ≡ false
+  no_first_link other = no_command (and_left (slice_index bytes 0 == 27) (slice_index bytes 1 == 93) other)
+
+  no_second_link : (slice_index bytes 1 == 93) ≡ false → begins_link_text bytes ≡ false
+  no_second_link other = no_command (and_right (slice_index bytes 0 == 27) (slice_index bytes 1 == 93) other)
+
+  no_begin : begins_sequence bytes ≡ false → link_len bytes ≡ sequence_len bytes
+  unfolding sequence_len
+  no_begin other = sym (cond-false (begins_sequence bytes) (3 + parameter_count bytes) (link_len bytes) other)
+
   pub no_escape : (slice_index bytes 0 ≡ 27 → ⊥) → 0 ≡ sequence_len bytes
-  unfolding sequence_len
-  no_escape other = sym (cond-false (begins_sequence bytes) (3 + parameter_count bytes) 0
-      (and_left (slice_index bytes 0 == 27 && slice_index bytes 1 == 91) (final_byte bytes == 109 || final_byte bytes == 75)
-      (and_left (slice_index bytes 0 == 27) (slice_index bytes 1 == 91) (ne_eqb (slice_index bytes 0) 27 other))))
+  no_escape other = let first = ne_eqb (slice_index bytes 0) 27 other in
+      no_link_start (no_first_link first)
+      ∙ no_begin (and_left (slice_index bytes 0 == 27 && slice_index bytes 1 == 91) (final_byte bytes == 109 || final_byte bytes == 75)
+      (and_left (slice_index bytes 0 == 27) (slice_index bytes 1 == 91) first))
 
-  pub no_bracket : (slice_index bytes 1 ≡ 91 → ⊥) → 0 ≡ sequence_len bytes
-  unfolding sequence_len
-  no_bracket other = sym (cond-false (begins_sequence bytes) (3 + parameter_count bytes) 0
+  pub no_bracket : (slice_index bytes 1 ≡ 91 → ⊥) → link_len bytes ≡ sequence_len bytes
+  no_bracket other = no_begin
       (and_left (slice_index bytes 0 == 27 && slice_index bytes 1 == 91) (final_byte bytes == 109 || final_byte bytes == 75)
-      (and_right (slice_index bytes 0 == 27) (slice_index bytes 1 == 91) (ne_eqb (slice_index bytes 1) 91 other))))
+      (and_right (slice_index bytes 0 == 27) (slice_index bytes 1 == 91) (ne_eqb (slice_index bytes 1) 91 other)))
 
-  pub no_final : (final_byte bytes == 109 || final_byte bytes == 75) ≡ false → 0 ≡ sequence_len bytes
-  unfolding sequence_len
-  no_final other = sym (cond-false (begins_sequence bytes) (3 + parameter_count bytes) 0
-      (and_right (slice_index bytes 0 == 27 && slice_index bytes 1 == 91) (final_byte bytes == 109 || final_byte bytes == 75) other))
+  pub no_final : slice_index bytes 1 ≡ 91 → (final_byte bytes == 109 || final_byte bytes == 75) ≡ false → 0 ≡ sequence_len bytes
+  no_final bracket other =
+      no_link_start (no_second_link (ne_eqb (slice_index bytes 1) 93 (λ same. omega (arith, same, bracket))))
+      ∙ no_begin (and_right (slice_index bytes 0 == 27 && slice_index bytes 1 == 91)
+      (final_byte bytes == 109 || final_byte bytes == 75) other)
 
   pub all_parts : slice_index bytes 0 ≡ 27 → slice_index bytes 1 ≡ 91 → (final_byte bytes == 109 || final_byte bytes == 75) ≡ true
       → 3 + parameter_count bytes ≡ sequence_len bytes
   unfolding sequence_len
-  all_parts escape bracket final = sym (cond-true (begins_sequence bytes) (3 + parameter_count bytes) 0
+  all_parts escape bracket final = sym (cond-true (begins_sequence bytes) (3 + parameter_count bytes) (link_len bytes)
       (and_from (slice_index bytes 0 == 27 && slice_index bytes 1 == 91) (final_byte bytes == 109 || final_byte bytes == 75)
       (and_from (slice_index bytes 0 == 27) (slice_index bytes 1 == 91) (eq-eqb (slice_index bytes 0) 27 escape)
       (eq-eqb (slice_index bytes 1) 91 bracket)) final))

@@ -12,6 +12,7 @@ use Rattle.redo_html.specs.Parts.Part.{MarkupPart, LogPart, TextPart, NumberPart
 use Rattle.redo_html.specs.Tags.{markup_text}
 use Rattle.redo_html.specs.Html.{Token, DataState, Normal, read_from, text_of, tags_of, nests_in, is_one_of}
 use Rattle.redo_html.specs.Shown.{shown_text}
+use Rattle.redo_html.specs.Symbols.{is_link_byte}
 
 -- Bytes that are in text are read as these tokens, whatever follows them. What follows is read as text again.
 abbrev pub ReadsAs : List ℕ → List Token → Type 0
@@ -36,6 +37,15 @@ pub record IsReadAsShown (kind : TextKind) (style : Style) (bytes : List ℕ) : 
 -- Printable ASCII other than `&`, `<` and `>`; tabs; line feeds.
 abbrev pub is_plain : ℕ → Bool
 is_plain byte = (nat_le 32 byte && nat_lt byte 127 && not (byte == 38 || byte == 60 || byte == 62)) || byte == 9 || byte == 10
+
+-- A link: `ESC ] 8 ;`, parameters, `;`, a URL, and BEL or `ESC \`. Parameters and URL are printable ASCII without spaces.
+pub record IsLink (link : List ℕ) : Type 0 where
+  pub parameters : List ℕ
+  pub url : List ℕ
+  pub end : List ℕ
+  pub are_link_bytes : list_all is_link_byte (parameters ++ 59 ∷ url) ≡ true
+  pub ends : (end ≡ 7 ∷ []) ⊎ (end ≡ 27 ∷ 92 ∷ [])
+  pub whole : link ≡ 27 ∷ 93 ∷ 56 ∷ 59 ∷ (parameters ++ 59 ∷ url) ++ end
 
 -- Whether a number is a byte.
 abbrev pub is_byte : ℕ → Bool

@@ -9,7 +9,7 @@ ghost use Rattle.redo_html.specs.Style.{plain_style};
 ghost use Rattle.redo_html.specs.Passage.{passage_html, passage_tokens};
 ghost use Rattle.redo_html.specs.Chart.{Drawing};
 ghost use Rattle.redo_html.specs.Html.{nests_in, text_of, tags_of};
-ghost use Rattle.redo_html.specs.Laws.{ReadsAs, IsReadAsShown, has_bytes, is_byte, is_plain, markup_tag, reworded};
+ghost use Rattle.redo_html.specs.Laws.{IsLink, ReadsAs, IsReadAsShown, has_bytes, is_byte, is_plain, markup_tag, reworded};
 ghost use Rattle.redo_html.specs.Lines.{is_no_escape, line_parts, lines_html, style_after, style_after_lines};
 ghost use Rattle.redo_html.specs.Parts.{Part, part_html, part_tokens, part_text};
 ghost use Rattle.redo_html.specs.Parts.Part.{ChartPart};
@@ -30,6 +30,16 @@ pub fn titles_have_no_tags()
 pub fn plain_text_is_unchanged()
     ensures shown { (kind : TextKind) (bytes : List ℕ) → list_all is_plain bytes ≡ true → shown_text kind bytes ≡ bytes }
     ensures written { (kind : TextKind) (bytes : List ℕ) → list_all is_plain bytes ≡ true → passage_html kind plain_style bytes ≡ bytes }
+{}
+
+/// A link shows nothing and leaves the style as it is, whatever follows it.
+pub fn links_show_nothing()
+    ensures shown { (before link more : List ℕ) → list_all is_plain before ≡ true → IsLink link →
+        shown_text Log (before ++ (link ++ more)) ≡ before ++ shown_text Log more }
+    ensures written { (style : Style) (link more : List ℕ) → IsLink link →
+        passage_html Log style (link ++ more) ≡ passage_html Log style more }
+    ensures style { (style : Style) (link more : List ℕ) → IsLink link →
+        style_after style (link ++ more) ≡ style_after style more }
 {}
 
 /// The parts of a page are read as what they are: each tag as itself, and text as characters.

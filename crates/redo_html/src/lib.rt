@@ -8,7 +8,8 @@
 //! # Terms
 //!
 //! - *Code point*: a character of a text, or one byte that is no part of a character, which counts as U+DC00 plus the byte.
-//! - *Sequence*: `ESC [`, digits and semicolons, and `m` (SGR, which sets colours) or `K` (which erases a line).
+//! - *Sequence*: `ESC [`, digits and semicolons, and `m` (SGR, which sets colours) or `K` (which erases a line); or a *link*, which is
+//!   `ESC ] 8 ;`, printable ASCII without spaces in which there is a semicolon, and BEL or `ESC \`.
 //! - *Unprintable code point*: a code point that a browser would hide, change, reject or act on: a control character, an invalid byte,
 //!   a noncharacter, an invisible or bidirectional character. Its *notation* is shown instead: `^M`, `\xff`, `[U+202E]`.
 //! - *Passage*: a text that begins with a style, and of which all highlights end at its end. A *highlight* is an element around unprintable
@@ -19,7 +20,8 @@
 //! # Design
 //!
 //! **Text** (`Symbols`, `Shown`). From five equal unprintable code points in a row on, one notation and a count are shown. In
-//! logs, the sequences by which compilers set colours are consumed, and all other escape characters are unprintable.
+//! logs, the sequences by which compilers set colours and write links are consumed, and all other escape characters are unprintable. No
+//! byte of a link may be an escape character, so each byte is tested for one link at most, also if links don't end.
 //!
 //! **Highlights** (`Passage`, `Style`). Unprintable code points, bold text and six hues have elements. A `Look` has the style of the next
 //! code point and what is open. All elements that are begun in a passage end in it. The highlights between two code points are written
@@ -76,9 +78,10 @@ mod text_kind;
 
 pub use chart::{Anchor, Bar, Chart, ChartGroup, ChartItem, GroupKind, write_chart, write_meter};
 pub use laws::{
-    charts_have_no_text_in_tags, html_is_utf8, lines_show_their_text, only_markup_decides_nesting,
-    parts_are_read, parts_show_their_text, passages_are_read_as_shown, plain_lines_are_one_text,
-    plain_text_is_unchanged, style_sheet_is_harmless, titles_have_no_tags,
+    charts_have_no_text_in_tags, html_is_utf8, lines_show_their_text, links_show_nothing,
+    only_markup_decides_nesting, parts_are_read, parts_show_their_text, passages_are_read_as_shown,
+    plain_lines_are_one_text, plain_text_is_unchanged, style_sheet_is_harmless,
+    titles_have_no_tags,
 };
 pub use lines::write_log_lines;
 pub use markup::{Markup, write_markup, write_number};

@@ -72,7 +72,7 @@ pub fn after_sequence(style: Style, bytes: &[u8], len: usize) -> Style
     requires { IsSequence bytes.now len }
     ensures { result ≡ restyled style (sequence_numbers bytes.now) }
 {
-    if bytes[len - 1] == b'm' {
+    if bytes[1] == b'[' && bytes[len - 1] == b'm' {
         let rest = &bytes[2..];
         after_parameters(style, &rest[..len - 3])
     } else {

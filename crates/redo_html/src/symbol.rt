@@ -1,9 +1,9 @@
 //! The symbols of a text: code points, and sequences that set colours.
-ghost use Rattle.std.specs.Prelude.{◌≡◌, ◌≤◌, ◌<◌, ◌==◌, ◌||◌, true, length, take, slice_index};
+ghost use Rattle.std.specs.Prelude.{◌≡◌, ◌≤◌, ◌<◌, ◌==◌, ◌||◌, ◌&&◌, true, length, take, slice_index};
 ghost use Rattle.std.specs.List.{list_all, list_any, prefix_len};
 ghost use Rattle.redo_html.specs.Laws.{is_plain};
 ghost use Rattle.redo_html.specs.Shown.{is_unprintable, is_control, ends_plane, is_between, unseen_ranges};
-ghost use Rattle.redo_html.specs.Symbols.{first_code_point, code_point_len, is_parameter, sequence_len, has_colours, first_symbol, symbol_len};
+ghost use Rattle.redo_html.specs.Symbols.{first_code_point, code_point_len, is_parameter, is_link_byte, begins_link_text, end_len, link_len, sequence_len, has_colours, first_symbol, symbol_len};
 ghost use Rattle.redo_html.specs.Private.Writing.{IsVerbatim, unprintable_bit_if, symbol_code_point};
 
 use crate::text_kind::TextKind;
@@ -184,11 +184,74 @@ fn sequence_size(bytes: &[u8]) -> usize
         return 0;
     }
     if byte_at(bytes, 1) != b'[' {
-        return 0;
+        return link_size(bytes);
     }
     let end = 2 + parameters_len(&bytes[2..]);
     if is_final(byte_at(bytes, end)) {
         end + 1
+    } else {
+        0
+    }
+}
+
+// Returns the number of bytes of the link at the start, or 0 if there is none.
+fn link_size(bytes: &[u8]) -> usize
+    ensures { result ≡ link_len bytes.now }
+{
+    if !is_link_start(bytes) {
+        return 0;
+    }
+    let end = 4 + link_bytes_len(&bytes[4..]);
+    if !has_semicolon(&bytes[4..end]) {
+        return 0;
+    }
+    let end_size = link_end_size(byte_at(bytes, end), byte_at(bytes, end + 1));
+    if end_size == 0 { 0 } else { end + end_size }
+}
+
+// Returns whether bytes begin with `ESC ] 8 ;`.
+fn is_link_start(bytes: &[u8]) -> bool
+    ensures { result ≡ begins_link_text bytes.now }
+{
+    byte_at(bytes, 0) == 27
+        && byte_at(bytes, 1) == b']'
+        && byte_at(bytes, 2) == b'8'
+        && byte_at(bytes, 3) == b';'
+}
+
+// Returns the number of bytes at the start that the text of a link may have.
+fn link_bytes_len(bytes: &[u8]) -> usize
+    ensures value { result ≡ prefix_len is_link_byte bytes.now }
+    ensures within { result ≤ length bytes.now }
+{
+    for (at, byte) in bytes.iter().enumerate() {
+        if !is_in_link(*byte) {
+            return at;
+        }
+    }
+    bytes.len()
+}
+
+fn is_in_link(byte: u8) -> bool
+    ensures { result ≡ is_link_byte byte }
+{
+    32 < byte && byte < 127
+}
+
+fn has_semicolon(bytes: &[u8]) -> bool
+    ensures { result ≡ list_any (λ byte. byte == 59) bytes.now }
+{
+    bytes.contains(&b';')
+}
+
+// Returns the number of bytes that end a link, of which these are the first two after its text.
+fn link_end_size(byte: u8, next: u8) -> usize
+    ensures { result ≡ end_len byte next }
+{
+    if byte == 7 {
+        1
+    } else if byte == 27 && next == b'\\' {
+        2
     } else {
         0
     }

@@ -57,7 +57,7 @@ const BOLD_YELLOW: Style = Style {
 };
 
 /// The text of a log, and its HTML.
-pub static LOGS: [(&[u8], &[u8]); 28] = [
+pub static LOGS: [(&[u8], &[u8]); 51] = [
     (
         b"cc -c \"a.c\" <x>&y'\n\tok",
         b"cc -c \"a.c\" &lt;x&gt;&amp;y'\n\tok",
@@ -159,10 +159,57 @@ pub static LOGS: [(&[u8], &[u8]); 28] = [
         b"<script>alert(1)</script> </pre> --> ]]> &lt; &#x3c; &amp",
         b"&lt;script&gt;alert(1)&lt;/script&gt; &lt;/pre&gt; --&gt; ]]&gt; &amp;lt; &amp;#x3c; &amp;amp",
     ),
+    (
+        b"w [\x1b]8;;https://gcc.gnu.org/x.html#index-Wall\x07-Wall\x1b]8;;\x07]",
+        b"w [-Wall]",
+    ),
+    (
+        b"\x1b[01;35m\x1b[K\x1b]8;;http://x/?a&b;c\x1b\\-Wall\x1b]8;;\x1b\\\x1b[m\x1b[K]",
+        b"<b class=\"m\">-Wall</b>]",
+    ),
+    (
+        b"\x1b]8;id=1:k=v;http://x\x1b\\t\x1b]8;id=1;\x07\x1b]8;;\x07u",
+        b"tu",
+    ),
+    (
+        b"\x1b[31ma\x1b]8;;m\x07b\x1b]8;;1m\x1b\\c",
+        b"<span class=\"r\">abc</span>",
+    ),
+    (b"\x1b]8;;!~\x07a\x1b]8;;~!\x1b\\b", b"ab"),
+    (
+        b"\x07\x07\x07\x1b]8;;u\x07\x07\x07\x07",
+        b"<i>^G^G^G^G^G^G</i>",
+    ),
+    (b"\x1b]8;;a b\x07c", b"<i>^[</i>]8;;a b<i>^G</i>c"),
+    (b"\x1b]8;;a\x7f\x07c", b"<i>^[</i>]8;;a<i>^?^G</i>c"),
+    (b"\x1b]8;;\xc3\xa4\x07c", b"<i>^[</i>]8;;\xc3\xa4<i>^G</i>c"),
+    (b"\x1b]8;u\x07c", b"<i>^[</i>]8;u<i>^G</i>c"),
+    (b"\x1b]8;\x07c", b"<i>^[</i>]8;<i>^G</i>c"),
+    (b"\x1b]8\x07;;c", b"<i>^[</i>]8<i>^G</i>;;c"),
+    (b"\x1b]9;;u\x07c", b"<i>^[</i>]9;;u<i>^G</i>c"),
+    (b"\x1b]8:;u\x07c", b"<i>^[</i>]8:;u<i>^G</i>c"),
+    (
+        b"\x1b[8;;u\x07c\x1bX8;;u\x07",
+        b"<i>^[</i>[8;;u<i>^G</i>c<i>^[</i>X8;;u<i>^G</i>",
+    ),
+    (b"a]8;;u\x07c", b"a]8;;u<i>^G</i>c"),
+    (b"\x1b]8;;u", b"<i>^[</i>]8;;u"),
+    (b"\x1b]8;;u\x1b", b"<i>^[</i>]8;;u<i>^[</i>"),
+    (
+        b"\x1b]8;;u\x1b[31mc",
+        b"<i>^[</i>]8;;u<span class=\"r\">c</span>",
+    ),
+    (b"\x1b]8;;u\x1b]8;;u\x07c", b"<i>^[</i>]8;;uc"),
+    (b"\x1b]8;;u\x08\\c", b"<i>^[</i>]8;;u<i>^H</i>\\c"),
+    (b"\x1b]8;;u\n\x07c", b"<i>^[</i>]8;;u\n<i>^G</i>c"),
+    (
+        b"\x1b]8;;\x1b]8;;\x1b]8;;\x1b]8;;\x07y",
+        b"<i>^[</i>]8;;<i>^[</i>]8;;<i>^[</i>]8;;y",
+    ),
 ];
 
 /// A name, and its HTML.
-pub static NAMES: [(&[u8], &[u8]); 10] = [
+pub static NAMES: [(&[u8], &[u8]); 11] = [
     (
         b"\xef\xb7\x90\xef\xb7\xaf\xef\xbf\xbd\xef\xbf\xbe\xf0\x9b\xb2\xa0\xf0\x9d\x85\xba\xf0\x9f\xbf\xbf\xf4\x8f\xbf\xbe",
         b"<i>[U+FDD0][U+FDEF]</i>\xef\xbf\xbd<i>[U+FFFE][U+1BCA0][U+1D17A][U+1FFFF][U+10FFFE]</i>",
@@ -206,10 +253,14 @@ pub static NAMES: [(&[u8], &[u8]); 10] = [
             \\xf7\\xf8\\xf9\\xfa\\xfb\\xfc\\xfd\\xfe\\xff</i>",
     ),
     (b"out/<b>&\"x'.o", b"out/&lt;b&gt;&amp;\"x'.o"),
+    (
+        b"\x1b]8;;u\x07c\x1b]8;;\x1b\\",
+        b"<i>^[</i>]8;;u<i>^G</i>c<i>^[</i>]8;;<i>^[</i>\\",
+    ),
 ];
 
 /// A title, and its HTML.
-pub static TITLES: [(&[u8], &[u8]); 4] = [
+pub static TITLES: [(&[u8], &[u8]); 5] = [
     (b"<b>\x1b[1m&\xff", b"&lt;b&gt;^[[1m&amp;\\xff"),
     (b"", b""),
     (
@@ -234,10 +285,11 @@ pub static TITLES: [(&[u8], &[u8]); 4] = [
             f7\\xf8\\xf9\\xfa\\xfb\\xfc\\xfd\\xfe\\xff",
     ),
     (b"</title><script>", b"&lt;/title&gt;&lt;script&gt;"),
+    (b"\x1b]8;;u\x07c", b"^[]8;;u^Gc"),
 ];
 
 /// The style at the start of lines, the lines, their HTML, and the style at their end.
-pub static LINES: [(Style, &[u8], &[u8], Style); 15] = [
+pub static LINES: [(Style, &[u8], &[u8], Style); 16] = [
     (Style::PLAIN, b"", b"", Style::PLAIN),
     (BOLD_CYAN, b"", b"", BOLD_CYAN),
     (Style::PLAIN, b"\n", b"\n", Style::PLAIN),
@@ -312,6 +364,12 @@ pub static LINES: [(Style, &[u8], &[u8], Style); 15] = [
         b"a\x1b[38;5;196mb\x1b[48;2;1;31;1mc\n\x1b[22;94md\n",
         b"<span class=\"y\">abc\n</span><span class=\"b\">d\n</span>",
         BLUE,
+    ),
+    (
+        RED,
+        b"\x1b]8;;u\x07a\nb\x1b]8;;\x1b\\\n\x1b]8;;u\n\x07c\n",
+        b"<span class=\"r\">a\n</span><span class=\"r\">b\n</span><span class=\"r\"><i>^[</i>]8;;u\n</span><span class=\"r\"><i>^G</i>c\n</span>",
+        RED,
     ),
 ];
 

@@ -1,5 +1,5 @@
 -- What writers in parts ensure.
-use Rattle.std.specs.Prelude.{◌≡◌, ⊤, ℕ, ◌+◌, fold, ◌<◌, ◌≤◌, Bool, true, false, ◌==◌, ◌&&◌, not, encode_utf8, List, [], ◌∷◌, ◌++◌, map, Option, None, Some, length, take, drop, replicate, Result, Ok, Err, if◌then◌else◌}
+use Rattle.std.specs.Prelude.{◌≡◌, ⊤, ℕ, ◌-◌, fold, ◌<◌, ◌≤◌, Bool, true, false, ◌==◌, ◌&&◌, not, encode_utf8, List, [], ◌∷◌, ◌++◌, map, Option, None, Some, length, take, drop, replicate, slice_index, Result, Ok, Err, if◌then◌else◌}
 use Rattle.std.specs.List.{flat_map, list_all}
 use Rattle.redo_device.specs.declared.feed.Broken.{Broken}
 use Rattle.redo_device.specs.Sink.{Output, append_output, Writes}
@@ -13,7 +13,7 @@ use Rattle.redo_line.specs.Lines.{ended, rest}
 use Rattle.redo_html.specs.declared.style.Setting.{Setting}
 use Rattle.redo_html.specs.Shown.{is_unprintable}
 use Rattle.redo_html.specs.Style.{setting_after}
-use Rattle.redo_html.specs.Symbols.{Symbol, symbols, parameter_count, numbers_from}
+use Rattle.redo_html.specs.Symbols.{Symbol, symbols, sequence_numbers, numbers_from}
 use Rattle.redo_html.specs.Symbols.Symbol.{CodePoint, Sequence}
 
 -- Of a text, everything except `rest` was written, and no write failed.
@@ -86,10 +86,11 @@ pub record IsRepeated (kind : TextKind) (code_point : ℕ) (bytes : List ℕ) (c
 abbrev pub optional_highlight : TextKind → Bool → List ℕ → List ℕ
 optional_highlight kind wanted html = if wanted && has_highlights kind then html else []
 
--- A sequence is at the start of some bytes, and has `len` bytes.
+-- A sequence is at the start of some bytes, and has `len` bytes. It sets a style if it begins with `ESC [` and ends with `m`.
 pub record IsSequence (bytes : List ℕ) (len : ℕ) : Type 0 where
-  pub size : len ≡ 3 + parameter_count bytes
+  pub some : 3 ≤ len
   pub within : len ≤ length bytes
+  pub numbers : sequence_numbers bytes ≡ (if slice_index bytes 1 == 91 && slice_index bytes (len - 1) == 109 then numbers_from 0 (take (len - 3) (drop 2 bytes)) else [])
 
 -- Reading a byte of parameters in this state leads to the other state, whatever follows.
 pub record ReadsParameter (before after : Setting) (value byte next : ℕ) : Type 0 where

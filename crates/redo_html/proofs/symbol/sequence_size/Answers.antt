@@ -21,7 +21,7 @@ pub returns-then-byte_at-ne27 : goal.returns-then-byte_at-ne27
 returns-then-byte_at-ne27 c = no_escape c.args.bytes.now (λ is. c.if-byte_at-ne27.true (c.byte_at.ensures ∙ is))
 
 pub returns-then-byte_at-ne91 : goal.returns-then-byte_at-ne91
-returns-then-byte_at-ne91 c = no_bracket c.args.bytes.now (λ is. c.if-byte_at-ne91.true (c.byte_at-2.ensures ∙ is))
+returns-then-byte_at-ne91 c = c.link_size.ensures ∙ no_bracket c.args.bytes.now (λ is. c.if-byte_at-ne91.true (c.byte_at-2.ensures ∙ is))
 
 pub returns-then-is_final : goal.returns-then-is_final
 returns-then-is_final c =
@@ -35,5 +35,6 @@ returns-then-is_final c =
 
 pub returns-else-is_final : goal.returns-else-is_final
 returns-else-is_final c =
-    no_final c.args.bytes.now (final_is c.args.bytes.now c.parameters_len-end.result c.byte_at-3.result c.is_final.result
+    no_final c.args.bytes.now (sym c.byte_at-2.ensures ∙ c.if-byte_at-ne91.false)
+    (final_is c.args.bytes.now c.parameters_len-end.result c.byte_at-3.result c.is_final.result
     c.parameters_len-end.ensures.value c.byte_at-3.ensures c.is_final.ensures ∙ c.if-is_final.false)
