@@ -6,6 +6,7 @@ mod HtmlRows
 mod LargeRows
 mod LawRows
 mod CodePointRows
+mod LetterLemmas
 mod LineLemmas
 mod LineRows
 mod LinkLemmas

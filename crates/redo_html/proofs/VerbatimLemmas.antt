@@ -58,6 +58,10 @@ plain_code_points (suc count) (byte ∷ bytes) within plain =
           ∙ ap (λ (ss : List Symbol). CodePoint byte ∷ ss) (rest.symbols_are kind);
     }
 
+pub plain_code_point : (bytes : List ℕ) → 0 < length bytes → is_plain (slice_index bytes 0) ≡ true → IsVerbatim bytes 1
+plain_code_point [] some plain = absurd (omega arith)
+plain_code_point (byte ∷ bytes) some plain = plain_code_points 1 (byte ∷ bytes) some (and_from (is_plain byte) true plain refl)
+
 pub plain_more : (count more : ℕ) (bytes : List ℕ) → list_all is_plain (take count bytes) ≡ true
     → list_all is_plain (take more (drop count bytes)) ≡ true → list_all is_plain (take (count + more) bytes) ≡ true
 plain_more count more bytes first next =

@@ -199,8 +199,23 @@ fn write_code_point<W: Sink>(code_point: u32, bytes: &[u8], out: &mut W) -> Resu
     }
 }
 
-// Writes the highlights before a code point.
+// Writes the highlights before a code point. Mostly there are none.
 fn write_highlights<W: Sink>(
+    kind: TextKind,
+    look: Look,
+    unprintable: bool,
+    out: &mut W,
+) -> Result<(), Broken>
+    ensures { Writes (W.written out.old) (W.written out.new) (flat_map (inline_html kind) (highlights_between look unprintable)) result }
+{
+    if !unprintable && !look.unprintable && is_same(look.wanted, look.current) {
+        return Ok(());
+    }
+    write_changed_highlights(kind, look, unprintable, out)
+}
+
+// Writes the highlights before a code point, if there are any.
+fn write_changed_highlights<W: Sink>(
     kind: TextKind,
     look: Look,
     unprintable: bool,

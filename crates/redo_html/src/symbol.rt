@@ -4,7 +4,8 @@ ghost use Rattle.std.specs.List.{list_all, list_any, prefix_len};
 ghost use Rattle.redo_html.specs.Laws.{is_plain};
 ghost use Rattle.redo_html.specs.Shown.{is_unprintable, is_control, ends_plane, is_between, unseen_ranges};
 ghost use Rattle.redo_html.specs.Symbols.{first_code_point, code_point_len, is_parameter, is_link_byte, begins_link_text, end_len, link_len, sequence_len, has_colours, first_symbol, symbol_len};
-ghost use Rattle.redo_html.specs.Private.Writing.{IsVerbatim, unprintable_bit_if, symbol_code_point};
+ghost use Rattle.redo_html.specs.Private.Writing.{IsVerbatim, is_pair, is_triple, unprintable_bit_if, symbol_code_point};
+ghost use Rattle.bstr.specs.Utf8.{continues};
 
 use crate::text_kind::TextKind;
 use bstr::decode_utf8;
@@ -35,23 +36,114 @@ const UNSEEN: [(u32, u32); 21] = [
     (0xE0000, 0xE0FFF),
 ];
 
+// Whether a byte is plain.
+const PLAIN: [bool; 256] = [
+    N, N, N, N, N, N, N, N, N, Y, Y, N, N, N, N, N, N, N, N, N, N, N, N, N, N, N, N, N, N, N, N, N,
+    Y, Y, Y, Y, Y, Y, N, Y, Y, Y, Y, Y, Y, Y, Y, Y, Y, Y, Y, Y, Y, Y, Y, Y, Y, Y, Y, Y, N, Y, N, Y,
+    Y, Y, Y, Y, Y, Y, Y, Y, Y, Y, Y, Y, Y, Y, Y, Y, Y, Y, Y, Y, Y, Y, Y, Y, Y, Y, Y, Y, Y, Y, Y, Y,
+    Y, Y, Y, Y, Y, Y, Y, Y, Y, Y, Y, Y, Y, Y, Y, Y, Y, Y, Y, Y, Y, Y, Y, Y, Y, Y, Y, Y, Y, Y, Y, N,
+    N, N, N, N, N, N, N, N, N, N, N, N, N, N, N, N, N, N, N, N, N, N, N, N, N, N, N, N, N, N, N, N,
+    N, N, N, N, N, N, N, N, N, N, N, N, N, N, N, N, N, N, N, N, N, N, N, N, N, N, N, N, N, N, N, N,
+    N, N, N, N, N, N, N, N, N, N, N, N, N, N, N, N, N, N, N, N, N, N, N, N, N, N, N, N, N, N, N, N,
+    N, N, N, N, N, N, N, N, N, N, N, N, N, N, N, N, N, N, N, N, N, N, N, N, N, N, N, N, N, N, N, N,
+];
+
+const Y: bool = true;
+
+const N: bool = false;
+
 // The number of bytes that are tested at once.
 const STRIDE: usize = 32;
+
+// The number of bytes after which a search for letters looks for a stride of plain bytes again.
+const WINDOW: usize = 64;
 
 /// Returns the number of bytes at the start that are code points which are written as they are.
 pub fn verbatim_len(bytes: &[u8]) -> usize
     ensures { IsVerbatim bytes.now result }
 {
-    let mut len = plain_len(bytes);
+    let mut len = 0;
     while len < bytes.len() {
-        let more = visible_len(&bytes[len..]);
+        let more = next_verbatim_len(&bytes[len..]);
         if more == 0 {
             return len;
         }
         len += more;
-        len += plain_len(&bytes[len..]);
     }
     len
+}
+
+// Returns a number of bytes at the start that are code points which are written as they are: 0 only if the first one isn't.
+fn next_verbatim_len(bytes: &[u8]) -> usize
+    requires { 0 < length bytes.now }
+    ensures { IsVerbatim bytes.now result }
+{
+    if bytes[0] < 128 {
+        return plain_len(bytes);
+    }
+    let len = letters_len(bytes);
+    if len > 0 { len } else { visible_len(bytes) }
+}
+
+// Returns the number of bytes of some letters at the start that are easy to tell, and of plain bytes among them.
+fn letters_len(bytes: &[u8]) -> usize
+    ensures { IsVerbatim bytes.now result }
+{
+    let mut len = 0;
+    while len < WINDOW && bytes.len() - len >= 3 {
+        let more = letter_len(&bytes[len..]);
+        if more == 0 {
+            return len;
+        }
+        len += more;
+    }
+    len
+}
+
+// Returns the number of bytes of the first code point if it is a plain byte or easy to tell as a letter, or 0 otherwise.
+fn letter_len(bytes: &[u8]) -> usize
+    requires { 3 ≤ length bytes.now }
+    ensures { IsVerbatim bytes.now result }
+{
+    if is_plain_by_table(bytes[0]) {
+        1
+    } else if is_letter_of_2(bytes[0], bytes[1]) {
+        2
+    } else if is_letter_of_3(bytes[0], bytes[1], bytes[2]) {
+        3
+    } else {
+        0
+    }
+}
+
+// Returns whether two bytes are a letter of U+00C0 to U+07FF, except in the two blocks of 64 that have unprintable code points.
+fn is_letter_of_2(first: u8, second: u8) -> bool
+    ensures { result ≡ is_pair first second }
+{
+    is_continuation(second)
+        && ((0xC3 <= first && first <= 0xCC)
+            || (0xCE <= first && first <= 0xD7)
+            || (0xD9 <= first && first <= 0xDF))
+}
+
+// Returns whether three bytes are a letter of U+4000 to U+CFFF, or of some blocks before it: quotation marks, signs, kana, and the
+// scripts of India.
+fn is_letter_of_3(first: u8, second: u8, third: u8) -> bool
+    ensures { result ≡ is_triple first second third }
+{
+    is_continuation(second)
+        && is_continuation(third)
+        && ((0xE4 <= first && first <= 0xEC)
+            || (first == 0xE2 && second == 0x80 && 0x90 <= third && third <= 0xA7)
+            || (first == 0xE2 && 0x82 <= second)
+            || (first == 0xE3 && second != 0x85)
+            || (first == 0xE0 && 0xA0 <= second))
+}
+
+fn is_continuation(byte: u8) -> bool
+    ensures { result ≡ continues byte }
+{
+    0x7F < byte && byte < 0xC0
 }
 
 // Returns the number of bytes of the first code point if it is visible and not in ASCII, or 0 otherwise.
@@ -79,7 +171,11 @@ fn plain_len(bytes: &[u8]) -> usize
     ensures within { result ≤ length bytes.now }
     ensures plain { list_all is_plain (take result bytes.now) ≡ true }
 {
-    let len = plain_strides_len(bytes);
+    let near = plain_bytes_len(&bytes[..bytes.len().min(STRIDE)]);
+    if near < STRIDE {
+        return near;
+    }
+    let len = STRIDE + plain_strides_len(&bytes[STRIDE..]);
     len + plain_bytes_len(&bytes[len..])
 }
 
@@ -104,11 +200,17 @@ fn plain_bytes_len(bytes: &[u8]) -> usize
     ensures plain { list_all is_plain (take result bytes.now) ≡ true }
 {
     for (at, byte) in bytes.iter().enumerate() {
-        if !is_plain_byte(*byte) {
+        if !is_plain_by_table(*byte) {
             return at;
         }
     }
     bytes.len()
+}
+
+fn is_plain_by_table(byte: u8) -> bool
+    ensures { result ≡ is_plain byte }
+{
+    PLAIN[byte as usize]
 }
 
 // Returns whether all bytes are plain. The loop has no branch, so the compiler tests several bytes at once.

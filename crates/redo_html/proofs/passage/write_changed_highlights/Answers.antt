@@ -4,7 +4,7 @@ use Rattle.redo_html.specs.Passage.{inline_html, highlights_between}
 use Rattle.redo_html.specs.Private.Writing.{optional_highlight}
 use Rattle.redo_html.proofs.PassageLemmas.{highlights_written}
 use Rattle.redo_html.proofs.WritingLemmas.{first_failed, second_failed, third_failed, fourth_done}
-use Rattle.redo_html.proofs.passage.write_highlights.Goals as goal
+use Rattle.redo_html.proofs.passage.write_changed_highlights.Goals as goal
 
 pub returns-in_err-write_highlight : goal.returns-in_err-write_highlight
 returns-in_err-write_highlight g c =
