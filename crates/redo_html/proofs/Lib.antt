@@ -20,6 +20,7 @@ mod PassageWriting
 mod NotationLemmas
 mod Reading
 mod RepeatLemmas
+mod SequenceLemmas
 mod ShownRows
 mod StyleLemmas
 mod StyleRows

@@ -206,17 +206,44 @@ pub no_sequence : (kind : TextKind) (byte : ℕ) (bytes : List ℕ) → (byte ==
 unfolding is_sequence sequence_len
 no_sequence kind byte bytes other = and_right (has_colours kind) (nat_lt 0 (sequence_len (byte ∷ bytes))) (rw other refl)
 
-pub plain_symbol : (kind : TextKind) (byte : ℕ) (bytes : List ℕ) → is_plain byte ≡ true
+pub ascii_symbol : (kind : TextKind) (byte : ℕ) (bytes : List ℕ) → byte < 128 → (byte == 27) ≡ false
     → (first_symbol kind (byte ∷ bytes) ≡ CodePoint byte) × (symbol_len kind (byte ∷ bytes) ≡ 1)
 unfolding first_symbol symbol_len first_code_point code_point_len
-plain_symbol kind byte bytes plain =
-    let none = no_sequence kind byte bytes
-    (not-true (byte == 27) (and_parts (not (byte == 27)) (not (is_unprintable byte)) (plain_facts byte plain)).0) in
+ascii_symbol kind byte bytes below other =
+    let none = no_sequence kind byte bytes other in
     let all = byte ∷ bytes in
     let decodes : decoded all ≡ good byte 1 =
-    value-1 (length all) byte (slice_index all 1) (slice_index all 2) (slice_index all 3)
-    (omega arith, (let below = plain_below byte plain in omega arith)) in
+    value-1 (length all) byte (slice_index all 1) (slice_index all 2) (slice_index all 3) (omega arith, omega (arith, below)) in
     (rw (none, decodes) refl, rw (none, decodes) refl)
+
+pub plain_symbol : (kind : TextKind) (byte : ℕ) (bytes : List ℕ) → is_plain byte ≡ true
+    → (first_symbol kind (byte ∷ bytes) ≡ CodePoint byte) × (symbol_len kind (byte ∷ bytes) ≡ 1)
+plain_symbol kind byte bytes plain =
+    ascii_symbol kind byte bytes (let below = plain_below byte plain in omega arith)
+    (not-true (byte == 27) (and_parts (not (byte == 27)) (not (is_unprintable byte)) (plain_facts byte plain)).0)
+
+-- ---- bytes with references
+
+reference_below : (byte : ℕ) → (byte == 38 || byte == 60 || byte == 62) ≡ true → byte < 63
+reference_below byte is = grind (arith, nat_tests)
+
+reference_facts : (byte : ℕ) → (byte == 38 || byte == 60 || byte == 62) ≡ true → (not (byte == 27) && not (is_unprintable byte)) ≡ true
+unfolding is_unprintable
+reference_facts byte is = ⊎_elim
+    (λ other. absurd (let e : true ≡ false = sym is ∙ not-true (byte == 38 || byte == 60 || byte == 62) other in cc))
+    (λ facts. facts)
+    (or_cases (not (byte == 38 || byte == 60 || byte == 62)) (not (byte == 27) && not (is_unprintable byte))
+    (agree_below_at (λ b. not (b == 38 || b == 60 || b == 62) || (not (b == 27) && not (is_unprintable b))) (λ b. true) 128 byte refl
+    (let below = reference_below byte is in omega arith)))
+
+pub reference_symbol : (kind : TextKind) (bytes : List ℕ) → 0 < length bytes
+    → (slice_index bytes 0 == 38 || slice_index bytes 0 == 60 || slice_index bytes 0 == 62) ≡ true
+    → (first_symbol kind bytes ≡ CodePoint (slice_index bytes 0)) × (symbol_len kind bytes ≡ 1) × (is_unprintable (slice_index bytes 0) ≡ false)
+reference_symbol kind [] some is = absurd (omega arith)
+reference_symbol kind (byte ∷ bytes) some is =
+    let facts = and_parts (not (byte == 27)) (not (is_unprintable byte)) (reference_facts byte is) in
+    let symbol = ascii_symbol kind byte bytes (let below = reference_below byte is in omega arith) (not-true (byte == 27) facts.0) in
+    (symbol.0, symbol.1, not-true (is_unprintable byte) facts.1)
 
 pub plain_encoded : (byte : ℕ) → is_plain byte ≡ true → encode_utf8 byte ≡ byte ∷ []
 unfolding encode_utf8

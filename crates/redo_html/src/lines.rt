@@ -5,6 +5,7 @@ ghost use Rattle.redo_device.specs.Sink.{Writes};
 ghost use Rattle.redo_line.specs.Lines.{ended, rest};
 ghost use Rattle.redo_html.specs.Lines.{is_no_escape, lines_html, style_after_lines};
 ghost use Rattle.redo_html.specs.Private.Writing.{BeginsPassage};
+ghost use Rattle.redo_html.specs.declared.style.Style.{Style};
 
 use crate::passage::write_passage;
 use crate::style::{Style, has_own_element};
@@ -41,16 +42,29 @@ fn passage_len(style: Style, lines: &[u8]) -> usize
     requires complete { rest lines.now ≡ [] }
     ensures { BeginsPassage style lines.now result }
 {
-    if !has_own_element(style) {
-        let len = plain_lines_len(lines);
-        if len > 0 {
-            return len;
-        }
+    let first = first_line_len(lines);
+    if has_own_element(style) || has_escape(&lines[..first]) {
+        return first;
     }
+    let len = plain_lines_len(lines);
+    if len > 0 { len } else { first }
+}
+
+// Returns the number of bytes of the first line.
+fn first_line_len(lines: &[u8]) -> usize
+    requires some { 0 < length lines.now }
+    requires complete { rest lines.now ≡ [] }
+    ensures within { result ≤ length lines.now }
+    ensures first { (style : Style) → BeginsPassage style lines.now result }
+{
     match memchr(b'\n', lines) {
         Some(at) => at + 1,
         None => lines.len(),
     }
+}
+
+fn has_escape(bytes: &[u8]) -> bool {
+    memchr(ESCAPE, bytes).is_some()
 }
 
 // Returns the number of bytes of the lines before the first line with an escape character.

@@ -1,5 +1,5 @@
 //! Passages of text: writes what they show, with highlights for unprintable code points and for styles.
-ghost use Rattle.std.specs.Prelude.{◌≡◌, ◌≤◌, ◌<◌, ◌↔◌, ◌∷◌, ◌++◌, ◌&&◌, not, [], true, false, IsTrue, Some, length, take, encode_utf8};
+ghost use Rattle.std.specs.Prelude.{◌≡◌, ◌≤◌, ◌<◌, ◌==◌, ◌||◌, ◌↔◌, ◌∷◌, ◌++◌, ◌&&◌, not, [], true, false, IsTrue, Some, length, take, encode_utf8};
 ghost use Rattle.std.specs.List.{flat_map, list_all};
 ghost use Rattle.redo_device.specs.Sink.{Writes};
 ghost use Rattle.redo_html.specs.declared.text_kind.TextKind.TheVariants as text_kind;
@@ -14,8 +14,8 @@ ghost use Rattle.redo_html.specs.Private.Writing.{WrotePassage, WroteSomeOrFaile
 
 use crate::look::{Look, at_start, with_code_point, with_style};
 use crate::notation::write_unprintable;
-use crate::style::{Hue, Style, after_sequence, has_own_element, is_same};
-use crate::symbol::{is_unprintable_code_point, symbol_at, verbatim_len};
+use crate::style::{Hue, Style, after_sequence, after_sequences, has_own_element, is_same};
+use crate::symbol::{is_log, is_unprintable_code_point, symbol_at, verbatim_len};
 use crate::text_kind::TextKind;
 use redo_device::{Broken, Sink, push_all};
 
@@ -83,6 +83,15 @@ fn write_some<W: Sink>(
     if verbatim > 0 {
         return write_verbatim(kind, look, bytes, verbatim, out);
     }
+    if is_log(kind) {
+        let (style, len) = after_sequences(look.wanted, bytes);
+        if len > 0 {
+            return Ok((with_style(look, style), len));
+        }
+    }
+    if has_reference(bytes[0]) {
+        return write_visible(kind, look, u32::from(bytes[0]), bytes, 1, out);
+    }
     let (symbol, len) = symbol_at(kind, bytes);
     match symbol {
         None => Ok((
@@ -97,6 +106,13 @@ fn write_some<W: Sink>(
             }
         }
     }
+}
+
+// Returns whether a byte is one of the three that are written as references.
+fn has_reference(byte: u8) -> bool
+    ensures { result ≡ (byte == 38 || byte == 60 || byte == 62) }
+{
+    byte == b'&' || byte == b'<' || byte == b'>'
 }
 
 // Writes code points that are written as they are.
@@ -200,6 +216,7 @@ fn write_code_point<W: Sink>(code_point: u32, bytes: &[u8], out: &mut W) -> Resu
 }
 
 // Writes the highlights before a code point. Mostly there are none.
+#[inline(always)]
 fn write_highlights<W: Sink>(
     kind: TextKind,
     look: Look,

@@ -3,7 +3,9 @@ ghost use Rattle.std.specs.Prelude.{◌≡◌, ◌≤◌};
 ghost use Rattle.redo_html.specs.Passage.{hue_number, is_same_style, has_element};
 ghost use Rattle.redo_html.specs.Style.{digit_hue, attribute_added, setting_after, restyled};
 ghost use Rattle.redo_html.specs.Symbols.{sequence_numbers, numbers_from};
-ghost use Rattle.redo_html.specs.Private.Writing.{IsSequence, ReadsParameter};
+ghost use Rattle.redo_html.specs.Private.Writing.{IsSequence, ReadsParameter, ReadsSequence, SkipsSequences};
+
+use crate::symbol::sequence_size;
 
 /// A hue. `Plain` is the colour of the page's text.
 #[derive(Clone, Copy, Debug, PartialEq, Eq)]
@@ -64,6 +66,43 @@ fn number(hue: Hue) -> u8
         Hue::Blue => 4,
         Hue::Magenta => 5,
         Hue::Cyan => 6,
+    }
+}
+
+/// Returns the style after the sequences at the start of a log's text, and the number of their bytes.
+pub fn after_sequences(style: Style, bytes: &[u8]) -> (Style, usize)
+    ensures { SkipsSequences style bytes.now result.0 result.1 }
+{
+    let mut current = style;
+    let mut done = 0;
+    while done < bytes.len() && bytes[done] == 27 {
+        let (next, len) = read_sequence(current, &bytes[done..]);
+        if len == 0 {
+            return (current, done);
+        }
+        current = next;
+        done += len;
+    }
+    (current, done)
+}
+
+// Returns the style after the sequence at the start, and the number of its bytes, or 0 if there is none. Most sequences have no number.
+fn read_sequence(style: Style, bytes: &[u8]) -> (Style, usize)
+    ensures { ReadsSequence style bytes.now result.0 result.1 }
+{
+    if bytes.len() >= 3 && bytes[0] == 27 && bytes[1] == b'[' {
+        if bytes[2] == b'K' {
+            return (style, 3);
+        }
+        if bytes[2] == b'm' {
+            return (Style::PLAIN, 3);
+        }
+    }
+    let len = sequence_size(bytes);
+    if len == 0 {
+        (style, 0)
+    } else {
+        (after_sequence(style, bytes, len), len)
     }
 }
 

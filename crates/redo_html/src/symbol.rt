@@ -62,25 +62,23 @@ const WINDOW: usize = 64;
 pub fn verbatim_len(bytes: &[u8]) -> usize
     ensures { IsVerbatim bytes.now result }
 {
-    let mut len = 0;
-    while len < bytes.len() {
-        let more = next_verbatim_len(&bytes[len..]);
+    let mut len = plain_len(bytes);
+    while len < bytes.len() && bytes[len] >= 128 {
+        let more = high_len(&bytes[len..]);
         if more == 0 {
             return len;
         }
         len += more;
+        len += plain_len(&bytes[len..]);
     }
     len
 }
 
-// Returns a number of bytes at the start that are code points which are written as they are: 0 only if the first one isn't.
-fn next_verbatim_len(bytes: &[u8]) -> usize
+// Returns a number of bytes at the start that are code points which are written as they are. The first one isn't in ASCII.
+fn high_len(bytes: &[u8]) -> usize
     requires { 0 < length bytes.now }
     ensures { IsVerbatim bytes.now result }
 {
-    if bytes[0] < 128 {
-        return plain_len(bytes);
-    }
     let len = letters_len(bytes);
     if len > 0 { len } else { visible_len(bytes) }
 }
@@ -257,7 +255,8 @@ pub fn symbol_at(kind: TextKind, bytes: &[u8]) -> (Option<u32>, usize)
     (Some(code_point), len)
 }
 
-fn is_log(kind: TextKind) -> bool
+/// Returns whether a text has sequences.
+pub fn is_log(kind: TextKind) -> bool
     ensures { result ≡ has_colours kind }
 {
     match kind {
@@ -278,8 +277,8 @@ fn code_point_at(bytes: &[u8]) -> (u32, usize)
     }
 }
 
-// Returns the number of bytes of the sequence at the start, or 0 if there is none.
-fn sequence_size(bytes: &[u8]) -> usize
+/// Returns the number of bytes of the sequence at the start, or 0 if there is none.
+pub fn sequence_size(bytes: &[u8]) -> usize
     ensures { result ≡ sequence_len bytes.now }
 {
     if byte_at(bytes, 0) != 27 {

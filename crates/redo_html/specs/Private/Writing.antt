@@ -9,12 +9,12 @@ use Rattle.redo_html.specs.declared.look.Look.{Look}
 use Rattle.redo_html.specs.declared.text_kind.TextKind.TheVariants.{Log}
 use Rattle.redo_html.specs.declared.style.Style.{Style}
 use Rattle.redo_html.specs.Lines.{style_after_symbol, style_after, style_after_lines, lines_html}
-use Rattle.redo_html.specs.Passage.{has_highlights, html_from, passage_html}
+use Rattle.redo_html.specs.Passage.{has_highlights, html_from, passage_html, with_wanted}
 use Rattle.redo_line.specs.Lines.{ended, rest}
 use Rattle.redo_html.specs.declared.style.Setting.{Setting}
 use Rattle.redo_html.specs.Shown.{is_unprintable}
-use Rattle.redo_html.specs.Style.{setting_after}
-use Rattle.redo_html.specs.Symbols.{Symbol, symbols, sequence_numbers, numbers_from}
+use Rattle.redo_html.specs.Style.{setting_after, restyled}
+use Rattle.redo_html.specs.Symbols.{Symbol, symbols, sequence_len, sequence_numbers, numbers_from}
 use Rattle.redo_html.specs.Symbols.Symbol.{CodePoint, Sequence}
 
 -- Of a text, everything except `rest` was written, and no write failed.
@@ -103,6 +103,16 @@ pub record IsSequence (bytes : List ℕ) (len : ℕ) : Type 0 where
   pub some : 3 ≤ len
   pub within : len ≤ length bytes
   pub numbers : sequence_numbers bytes ≡ (if slice_index bytes 1 == 91 && slice_index bytes (len - 1) == 109 then numbers_from 0 (take (len - 3) (drop 2 bytes)) else [])
+
+-- A sequence of `len` bytes is at the start of some bytes, and the style after it is `next`; or `len` is 0.
+abbrev pub ReadsSequence : Style → List ℕ → Style → ℕ → Type 0
+ReadsSequence style bytes next len = 0 < len → (len ≡ sequence_len bytes) × (next ≡ restyled style (sequence_numbers bytes))
+
+-- The first `len` bytes of a log's text are sequences, after which the style is `next`.
+pub record SkipsSequences (style : Style) (bytes : List ℕ) (next : Style) (len : ℕ) : Type 0 where
+  pub within : len ≤ length bytes
+  pub html : (look : Look) → look.wanted ≡ style → html_from Log (with_wanted look next) (drop len bytes) ≡ html_from Log look bytes
+  pub style_left : style_in Log next (drop len bytes) ≡ style_in Log style bytes
 
 -- Reading a byte of parameters in this state leads to the other state, whatever follows.
 pub record ReadsParameter (before after : Setting) (value byte next : ℕ) : Type 0 where

@@ -3,11 +3,13 @@ use Rattle.redo_html.specs.declared.look.Look.{Look}
 use Rattle.redo_html.specs.declared.style.Style.{Style}
 use Rattle.redo_html.specs.Passage.{with_wanted, html_from}
 use Rattle.redo_html.specs.Style.{restyled}
+use Rattle.redo_html.specs.Shown.{is_unprintable}
 use Rattle.redo_html.specs.Symbols.{sequence_numbers}
+use Rattle.redo_html.specs.Symbols.Symbol.{CodePoint}
 use Rattle.redo_html.specs.Private.Writing.{IsSequence, style_in}
 use Rattle.redo_html.proofs.PassageLemmas.{sequence_step}
 use Rattle.redo_html.proofs.StyleLemmas.{sequence_style}
-use Rattle.redo_html.proofs.SymbolLemmas.{sequence_found, symbol_bounds}
+use Rattle.redo_html.proofs.SymbolLemmas.{reference_symbol, sequence_found, symbol_bounds}
 use Rattle.redo_html.proofs.WritingLemmas.{begin_parts}
 use Rattle.redo_html.proofs.passage.write_some.Goals as goal
 
@@ -27,14 +29,29 @@ returns-in-None g c =
     record {
       some = subst (λ (n : ℕ). 0 < n) len_is bounds.0;
       within = subst (λ (n : ℕ). n ≤ length bytes) len_is bounds.1;
-      wrote = begin_parts _ (html_from kind look bytes) (html_from kind c.with_style.result (drop c.symbol_at-symbol.result.1 bytes))
+      wrote = begin_parts _ (html_from kind look bytes) (html_from kind c.with_style-in-None.result (drop c.symbol_at-symbol.result.1 bytes))
           (ap (λ (l : Look). html_from kind l (drop c.symbol_at-symbol.result.1 bytes))
-          (c.with_style.ensures ∙ ap (λ (s : Style). with_wanted look s) c.after_sequence.ensures)
+          (c.with_style-in-None.ensures ∙ ap (λ (s : Style). with_wanted look s) c.after_sequence.ensures)
           ∙ ap (λ (n : ℕ). html_from kind (with_wanted look (restyled look.wanted (sequence_numbers bytes))) (drop n bytes))
           c.symbol_at-symbol.ensures.len
           ∙ sequence_step kind look bytes (sequence_numbers bytes) c.requires found.0);
       style = ap (λ (l : Look). style_in kind l.wanted (drop c.symbol_at-symbol.result.1 bytes))
-          (c.with_style.ensures ∙ ap (λ (s : Style). with_wanted look s) c.after_sequence.ensures)
+          (c.with_style-in-None.ensures ∙ ap (λ (s : Style). with_wanted look s) c.after_sequence.ensures)
           ∙ ap (λ (n : ℕ). style_in kind (restyled look.wanted (sequence_numbers bytes)) (drop n bytes)) c.symbol_at-symbol.ensures.len
           ∙ sequence_style kind look.wanted bytes c.requires (sequence_numbers bytes) found.0;
     }
+
+-- One of the three bytes with references.
+pub write_visible-requires-clause-code_point : goal.write_visible-requires-clause-code_point
+write_visible-requires-clause-code_point g c =
+    (reference_symbol c.args.kind c.args.bytes.now c.requires (sym c.has_reference.ensures ∙ c.if-has_reference.true)).0
+    ∙ ap CodePoint (sym c.from.ensures)
+
+pub write_visible-requires-clause-visible : goal.write_visible-requires-clause-visible
+write_visible-requires-clause-visible g c =
+    ap is_unprintable c.from.ensures
+    ∙ (reference_symbol c.args.kind c.args.bytes.now c.requires (sym c.has_reference.ensures ∙ c.if-has_reference.true)).2
+
+pub write_visible-requires-clause-len : goal.write_visible-requires-clause-len
+write_visible-requires-clause-len g c =
+    sym (reference_symbol c.args.kind c.args.bytes.now c.requires (sym c.has_reference.ensures ∙ c.if-has_reference.true)).1
