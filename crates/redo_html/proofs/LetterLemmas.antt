@@ -30,7 +30,8 @@ unfolding is_unprintable
 visible_between low high n letter ends apart above below =
     or_from (is_control n) (ends_plane n || list_any (is_between n) unseen_ranges)
     (or_from (nat_lt n 32 && not (n == 9) && not (n == 10)) (n == 127)
-    (and_left (nat_lt n 32 && not (n == 9)) (not (n == 10)) (and_left (nat_lt n 32) (not (n == 9)) (le-ltb n 32 (omega (arith, letter, above)))))
+    (and_left (nat_lt n 32 && not (n == 9)) (not (n == 10))
+    (and_left (nat_lt n 32) (not (n == 9)) (le-ltb n 32 (omega (arith, letter, above)))))
     (ne_eqb n 127 (λ is. omega (arith, is, letter, above))))
     (or_from (ends_plane n) (list_any (is_between n) unseen_ranges)
     (lt-leb 0xFFFE (n % 0x10000) (omega (arith, ends, below)))
@@ -69,7 +70,8 @@ module _ (bytes : List ℕ) (some : 2 ≤ length bytes) where
 
   pub pair_verbatim : is_pair b c ≡ true → IsVerbatim bytes 2
   pair_verbatim is =
-      let parts = and_parts (continues c) ((nat_le 0xC3 b && nat_le b 0xCC) || ((nat_le 0xCE b && nat_le b 0xD7) || (nat_le 0xD9 b && nat_le b 0xDF))) is in
+      let parts = and_parts (continues c)
+      ((nat_le 0xC3 b && nat_le b 0xCC) || ((nat_le 0xCE b && nat_le b 0xD7) || (nat_le 0xD9 b && nat_le b 0xDF))) is in
       let next = continues_bounds c parts.0 in
       ⊎_elim (λ latin. let ends = and_parts (nat_le 0xC3 b) (nat_le b 0xCC) latin in
       let low = leb-true 0xC3 b ends.0 in
@@ -110,7 +112,8 @@ module _ (bytes : List ℕ) (some : 3 ≤ length bytes) where
       let three : decoded bytes ≡ good (code_of_3 first next last) 3 =
       value-9 (length bytes) first next last (slice_index bytes 3) (some, low, high, second_fits, last_fits) in
       subst (IsVerbatim bytes) (ap (λ (d : Decoded). d.size) three)
-      (high_code_points bytes (code_of_3 first next last) (omega (arith, some)) (omega (arith, low)) (ap (λ (d : Decoded). d.char) three) visible)
+      (high_code_points bytes (code_of_3 first next last) (omega (arith, some)) (omega (arith, low))
+      (ap (λ (d : Decoded). d.char) three) visible)
 
   -- The first byte is none of the four with fewer letters.
   by_first : 0xE1 ≤ first → first < 0xED → continues next ≡ true → continues last ≡ true

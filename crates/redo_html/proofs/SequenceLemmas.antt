@@ -26,7 +26,8 @@ short_sequence bytes final within escape bracket at other ends =
     let final_is : final_byte bytes ≡ final = ap (slice_index bytes) index ∙ at in
     let size : 3 ≡ 3 + parameter_count bytes = omega (arith, none) in (
       size ∙ all_parts bytes escape bracket (ap (λ (b : ℕ). b == 109 || b == 75) final_is ∙ ends),
-      ap (λ (b : ℕ). if b == 91 && final_byte bytes == 109 then numbers_from 0 (take (parameter_count bytes) (drop 2 bytes)) else []) bracket
+      ap (λ (b : ℕ). if b == 91 && final_byte bytes == 109 then numbers_from 0 (take (parameter_count bytes) (drop 2 bytes)) else [])
+          bracket
           ∙ ap (λ (f : ℕ). if f == 109 then numbers_from 0 (take (parameter_count bytes) (drop 2 bytes)) else []) final_is
           ∙ ap (λ (n : ℕ). if final == 109 then numbers_from 0 (take n (drop 2 bytes)) else []) none,
     )

@@ -238,7 +238,8 @@ reference_facts byte is = ⊎_elim
 
 pub reference_symbol : (kind : TextKind) (bytes : List ℕ) → 0 < length bytes
     → (slice_index bytes 0 == 38 || slice_index bytes 0 == 60 || slice_index bytes 0 == 62) ≡ true
-    → (first_symbol kind bytes ≡ CodePoint (slice_index bytes 0)) × (symbol_len kind bytes ≡ 1) × (is_unprintable (slice_index bytes 0) ≡ false)
+    → (first_symbol kind bytes ≡ CodePoint (slice_index bytes 0)) × (symbol_len kind bytes ≡ 1)
+    × (is_unprintable (slice_index bytes 0) ≡ false)
 reference_symbol kind [] some is = absurd (omega arith)
 reference_symbol kind (byte ∷ bytes) some is =
     let facts = and_parts (not (byte == 27)) (not (is_unprintable byte)) (reference_facts byte is) in

@@ -13,7 +13,8 @@ all_near bytes near limit is within many plain =
     let size = length-take limit bytes in
     let all : limit ≡ 32 = omega (arith, is, within, many, size) in
     let past : length (take limit bytes) ≤ near = omega (arith, within, many, size, is) in
-    ap (λ (n : ℕ). list_all is_plain (take n bytes)) (sym all) ∙ ap (list_all is_plain) (sym (take_all near (take limit bytes) past)) ∙ plain
+    ap (λ (n : ℕ). list_all is_plain (take n bytes)) (sym all) ∙ ap (list_all is_plain) (sym (take_all near (take limit bytes) past))
+    ∙ plain
 
 pub returns-clause-plain : goal.returns-clause-plain
 returns-clause-plain c =
