@@ -8,9 +8,9 @@ ghost use Rattle.redo_html.specs.Passage.Inline.{StyleStart, StyleEnd};
 ghost use Rattle.redo_html.specs.Laws.{is_plain};
 ghost use Rattle.redo_html.specs.Style.{plain_style};
 ghost use Rattle.redo_html.specs.Shown.{is_unprintable};
-ghost use Rattle.redo_html.specs.Symbols.{first_symbol, symbol_len};
+ghost use Rattle.redo_html.specs.Symbols.{first_symbol, has_colours, symbol_len};
 ghost use Rattle.redo_html.specs.Symbols.Symbol.{CodePoint};
-ghost use Rattle.redo_html.specs.Private.Writing.{WrotePassage, WroteSomeOrFailed, IsRepeated, IsVerbatim, optional_highlight};
+ghost use Rattle.redo_html.specs.Private.Writing.{WrotePassage, WroteSomeOrFailed, IsRepeated, IsVerbatim, SkipsSequences, optional_highlight};
 
 use crate::look::{Look, at_start, with_code_point, with_style};
 use crate::notation::write_unprintable;
@@ -79,15 +79,15 @@ fn write_some<W: Sink>(
     requires { 0 < length bytes.now }
     ensures { WroteSomeOrFailed (W.written out.old) (W.written out.new) kind look bytes.now result }
 {
-    let verbatim = verbatim_len(bytes);
-    if verbatim > 0 {
-        return write_verbatim(kind, look, bytes, verbatim, out);
-    }
     if is_log(kind) {
         let (style, len) = after_sequences(look.wanted, bytes);
         if len > 0 {
-            return Ok((with_style(look, style), len));
+            return write_after_sequences(kind, look, style, bytes, len, out);
         }
+    }
+    let verbatim = verbatim_len(bytes);
+    if verbatim > 0 {
+        return write_verbatim(kind, look, bytes, verbatim, out);
     }
     if has_reference(bytes[0]) {
         return write_visible(kind, look, u32::from(bytes[0]), bytes, 1, out);
@@ -106,6 +106,31 @@ fn write_some<W: Sink>(
             }
         }
     }
+}
+
+// Writes code points that are written as they are, if the `len` bytes of sequences at the start are before some. `style` is the style
+// after the sequences.
+fn write_after_sequences<W: Sink>(
+    kind: TextKind,
+    look: Look,
+    style: Style,
+    bytes: &[u8],
+    len: usize,
+    out: &mut W,
+) -> Result<(Look, usize), Broken>
+    requires some { 0 < len }
+    requires log { has_colours kind ≡ true }
+    requires skipped { SkipsSequences look.wanted bytes.now style len }
+    ensures { WroteSomeOrFailed (W.written out.old) (W.written out.new) kind look bytes.now result }
+{
+    let next = with_style(look, style);
+    let rest = &bytes[len..];
+    let verbatim = verbatim_len(rest);
+    if verbatim == 0 {
+        return Ok((next, len));
+    }
+    let (last, more) = write_verbatim(kind, next, rest, verbatim, out)?;
+    Ok((last, len + more))
 }
 
 // Returns whether a byte is one of the three that are written as references.

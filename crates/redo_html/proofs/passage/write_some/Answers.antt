@@ -29,15 +29,15 @@ returns-in-None g c =
     record {
       some = subst (λ (n : ℕ). 0 < n) len_is bounds.0;
       within = subst (λ (n : ℕ). n ≤ length bytes) len_is bounds.1;
-      wrote = begin_parts _ (html_from kind look bytes) (html_from kind c.with_style-in-None.result
+      wrote = begin_parts _ (html_from kind look bytes) (html_from kind c.with_style.result
           (drop c.symbol_at-symbol.result.1 bytes))
           (ap (λ (l : Look). html_from kind l (drop c.symbol_at-symbol.result.1 bytes))
-          (c.with_style-in-None.ensures ∙ ap (λ (s : Style). with_wanted look s) c.after_sequence.ensures)
+          (c.with_style.ensures ∙ ap (λ (s : Style). with_wanted look s) c.after_sequence.ensures)
           ∙ ap (λ (n : ℕ). html_from kind (with_wanted look (restyled look.wanted (sequence_numbers bytes))) (drop n bytes))
           c.symbol_at-symbol.ensures.len
           ∙ sequence_step kind look bytes (sequence_numbers bytes) c.requires found.0);
       style = ap (λ (l : Look). style_in kind l.wanted (drop c.symbol_at-symbol.result.1 bytes))
-          (c.with_style-in-None.ensures ∙ ap (λ (s : Style). with_wanted look s) c.after_sequence.ensures)
+          (c.with_style.ensures ∙ ap (λ (s : Style). with_wanted look s) c.after_sequence.ensures)
           ∙ ap (λ (n : ℕ). style_in kind (restyled look.wanted (sequence_numbers bytes)) (drop n bytes)) c.symbol_at-symbol.ensures.len
           ∙ sequence_style kind look.wanted bytes c.requires (sequence_numbers bytes) found.0;
     }
