@@ -250,10 +250,27 @@ fn write_highlights<W: Sink>(
 ) -> Result<(), Broken>
     ensures { Writes (W.written out.old) (W.written out.new) (flat_map (inline_html kind) (highlights_between look unprintable)) result }
 {
-    if !unprintable && !look.unprintable && is_same(look.wanted, look.current) {
-        return Ok(());
+    if !unprintable && !look.unprintable {
+        if is_same(look.wanted, look.current) {
+            return Ok(());
+        }
+        return write_style_change(kind, look, out);
     }
     write_changed_highlights(kind, look, unprintable, out)
+}
+
+// Writes the highlights between two visible code points with different styles.
+fn write_style_change<W: Sink>(kind: TextKind, look: Look, out: &mut W) -> Result<(), Broken>
+    requires visible { look.unprintable ≡ false }
+    requires changes { is_same_style look.wanted look.current ≡ false }
+    ensures { Writes (W.written out.old) (W.written out.new) (flat_map (inline_html kind) (highlights_between look false)) result }
+{
+    let ends = has_own_element(look.current);
+    let starts = has_own_element(look.wanted);
+    let end_tag = style_end_tag(look.current);
+    let start_tag = style_start_tag(look.wanted);
+    write_highlight(kind, ends, end_tag, out)?;
+    write_highlight(kind, starts, start_tag, out)
 }
 
 // Writes the highlights before a code point, if there are any.
