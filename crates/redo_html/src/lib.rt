@@ -58,9 +58,10 @@
 //! computes, from the context before an element, the context after it (`next_context`). The laws also state that the tags of a
 //! chart stay the same with other texts, and that only the markup of a page decides whether its tags nest.
 //!
-//! **Speed.** A stretch of code points that are written as they are (`verbatim_len`) is one write. Bytes of ASCII are tested in
-//! strides, without a branch for each byte, so that the compiler can test several at once. Every other code point is a write of
-//! its own, and so is each number and each fixed text of a chart.
+//! **Speed.** A stretch of code points that are written as they are (`verbatim_len`) is one write. A table tells the first plain bytes
+//! of a stretch. Further ones are tested in strides, without a branch for each byte, so that the compiler can test several at once.
+//! Ranges of bytes tell the letters of most scripts, and only other characters are decoded. The sequences before a stretch are read
+//! in a row. Every other code point is a write of its own, and so is each number and each fixed text of a chart.
 #![tactic(auto)]
 
 mod chart;
