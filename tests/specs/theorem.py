@@ -6,12 +6,14 @@ it."""
 import os
 import re
 
-from contracts import TOP, Names, closing, read
+from contracts import TOP, Names, closing, contracts, read
 
 PAGE = "docs/theorem.md"
 CLAUSE_OF = "redo_run/src/running.rt"
 # The maximum number of quoted lines.
 MOST_LINES = 400
+# The maximum number of other lines that the laws of a page depend on. docs/page.md says it.
+MOST_PAGE_LINES = 2500
 PART = r"\w+ \w+(?:: (?:[^\s;]+ to )?[^\s;]+)?"
 MARK = re.compile(rf"^(<!-- ({PART}(?:; {PART})*) -->\n)(?:```\n.*?\n```\n)?", re.M | re.S)
 
@@ -32,6 +34,29 @@ def reached(specs, places):
         found |= left
         left = {place for one in left for place in specs.texts[one][0].cited(specs.texts[one][1]) if place in specs.texts} - found
     return found
+
+
+def lines_of_page(specs):
+    """Returns the numbers of lines that the laws of a page depend on, beyond those of a run, by the modules with them."""
+    laws = {place for where, _, cites in contracts("redo_page") if where.endswith("/laws.rt") for place in cites}
+    counts = {}
+    for place in sorted(reached(specs, laws) - reached(specs, clause()[1])):
+        counts[place[0]] = counts.get(place[0], 0) + sum(bool(line.strip()) for line in specs.texts[place][1].split("\n"))
+    return counts
+
+
+def faults_of_page(specs):
+    lines = sum(lines_of_page(specs).values())
+    found = [f"the laws depend on {lines} lines, more than {MOST_PAGE_LINES}"] * (lines > MOST_PAGE_LINES)
+    if f"at most {MOST_PAGE_LINES:,} lines" not in read("docs/page.md"):
+        found.append(f"docs/page.md doesn't say that the laws depend on at most {MOST_PAGE_LINES:,} lines")
+    return found
+
+
+def rows_of_page(specs):
+    counts = lines_of_page(specs)
+    rows = sorted(((lines, module) for module, lines in counts.items()), reverse=True)
+    return [f"{lines} {module}" for lines, module in rows] + [f"lines that the laws of a page depend on: {sum(counts.values())}"]
 
 
 def quoted(specs, crate, file, name):
