@@ -1,9 +1,10 @@
 -- What the laws state.
-use Rattle.std.proofs.Common.{◌≡◌, ℕ, zero, suc, ◌+◌, ◌<◌, ◌≤◌, Bool, true, false, cond, ltb, List, [], ◌∷◌, Option, None, Some, filter, filter_map, length, map, not, option_map, take, refl, arith}
-use Rattle.std.specs.Prelude.{IfSome}
+use Rattle.std.proofs.Common.{◌≡◌, ℕ, zero, suc, ◌+◌, ◌<◌, ◌≤◌, Bool, true, false, cond, ltb, List, [], ◌∷◌, ◌++◌, Option, None, Some, filter, filter_map, length, map, not, option_map, take, refl, ◌∙◌, ap, subst, arith}
+use Rattle.std.specs.Prelude.{◌-◌, IfSome, slice_get}
 use Rattle.std.specs.declared.cmp.Ordering.{Ordering}
 use Rattle.std.specs.List.{AllByRecursion, cons_option}
 use Rattle.std.specs.Ordering.{is_gt}
+use Rattle.std.proofs.lemmas.List.{append_assoc, length-append}
 use Rattle.std.proofs.lemmas.List.Sorted.{IsPermutation-filter_both}
 use Rattle.redo_timeline.specs.declared.span.Span.{Span}
 use Rattle.redo_timeline.specs.Order.{insert_sorted, sort}
@@ -11,11 +12,11 @@ use Rattle.redo_times.specs.declared.times.Times.{Times}
 use Rattle.redo_outline.specs.declared.node.Node.{Node}
 use Rattle.redo_summary.specs.declared.rank.Rank.{Rank}
 use Rattle.redo_summary.specs.declared.target.Target.{Target}
-use Rattle.redo_summary.specs.Laws.{AreInOrderOfPosition, AreOfNodes, AreRisingFrom, AreSplit}
-use Rattle.redo_summary.specs.Callers.{ran_others, spans_of}
+use Rattle.redo_summary.specs.Laws.{AreInOrderOfPosition, AreOfNodes, AreRisingFrom, AreSplit, HasDuration, HasWarnings}
+use Rattle.redo_summary.specs.Callers.{ran_others, recipes_of, spans_of}
 use Rattle.redo_summary.specs.Ranks.{first_ranks, rank_cmp, rank_of, warnings_from}
 use Rattle.redo_summary.specs.Summary.{summary_of}
-use Rattle.redo_summary.specs.Targets.{mark_of, only_time, span_between, span_if, span_of, target_of, targets_from, targets_of}
+use Rattle.redo_summary.specs.Targets.{duration_of, mark_of, only_time, span_between, span_if, span_of, target_of, targets_from, targets_of, time_between, times_of}
 
 -- ---- what holds of each item still holds
 
@@ -182,3 +183,78 @@ pub are_split : (nodes : List Node) (times : List Times) → AreSplit nodes time
 are_split nodes times =
     let targets = targets_of nodes times in
     IsPermutation-filter_both (ran_others targets) (λ (span : Span). not (ran_others targets span)) (λ span. refl) (spans_of targets)
+
+-- ---- values
+
+found_at : (before : List Node) (node : Node) (rest : List Node) → slice_get (before ++ (node ∷ rest)) (length before) ≡ Some node
+found_at [] node rest = refl
+found_at (other ∷ before) node rest = found_at before node rest
+
+module _ (nodes : List Node) where
+  found_in : (before : List Node) (node : Node) (rest : List Node) (position : ℕ) → before ++ (node ∷ rest) ≡ nodes
+      → length before ≡ position → slice_get nodes position ≡ Some node
+  found_in before node rest position split place =
+      subst (λ (p : ℕ). slice_get nodes p ≡ Some node) place
+      (subst (λ (all : List Node). slice_get all (length before) ≡ Some node) split (found_at before node rest))
+
+  next_place : (before : List Node) (node : Node) (position : ℕ) → length before ≡ position
+      → length (before ++ (node ∷ [])) ≡ position + 1
+  next_place before node position place = length-append before (node ∷ []) ∙ ap (λ (n : ℕ). n + 1) place
+
+  warnings_are : (before rest : List Node) (position : ℕ) → before ++ rest ≡ nodes → length before ≡ position
+      → AllByRecursion (HasWarnings nodes) (warnings_from position rest)
+  warnings_are before [] position split place = tt
+  warnings_are before (node ∷ rest) position split place = (
+    (node, found_in before node rest position split place, refl),
+    warnings_are (before ++ (node ∷ [])) rest (position + 1) (append_assoc before (node ∷ []) rest ∙ split)
+        (next_place before node position place),
+  )
+
+  module _ (times : List Times) where
+    abbrev IsTarget : Target → Type 0
+    IsTarget target = (node : Node) × (slice_get nodes target.position ≡ Some node) × (times_of times node.number ≡ target.times)
+
+    abbrev IsSpan : Span → Type 0
+    IsSpan span =
+        (node : Node) × (slice_get nodes span.position ≡ Some node) × (duration_of times node.number ≡ Some (span.ended - span.began))
+
+    targets_are : (before rest : List Node) (position : ℕ) → before ++ rest ≡ nodes → length before ≡ position
+        → AllByRecursion IsTarget (targets_from times position rest)
+    targets_are before [] position split place = tt
+    targets_are before (node ∷ rest) position split place = (
+      (node, found_in before node rest position split place, refl),
+      targets_are (before ++ (node ∷ [])) rest (position + 1) (append_assoc before (node ∷ []) rest ∙ split)
+          (next_place before node position place),
+    )
+
+    span_is : (target : Target) → IsTarget target → IfSome (span_of target) IsSpan
+    span_is target (node, at, same) =
+        by target.times.began target.times.ended (ap (λ (known : Times). time_between known.began known.ended) same)
+      where
+        by : (began ended : Option ℕ) → duration_of times node.number ≡ time_between began ended
+            → IfSome (span_if target began ended) IsSpan
+        by None None took = tt
+        by None (Some ended) took = tt
+        by (Some began) None took = tt
+        by (Some began) (Some ended) took = (node, at, took)
+
+    ranks_are : (spans : List Span) → AllByRecursion IsSpan spans → AllByRecursion (HasDuration nodes times) (map rank_of spans)
+    ranks_are [] all = tt
+    ranks_are (span ∷ spans) all = ((all.0.0, all.0.1, span.ended - span.began, all.0.2, refl), ranks_are spans all.1)
+
+pub longest_are : (nodes : List Node) (times : List Times) → AllByRecursion (HasDuration nodes times) (summary_of nodes times).longest
+longest_are nodes times =
+    let targets = targets_of nodes times in
+    let spans = all_chosen (IsTarget nodes times) (IsSpan nodes times) span_of (span_is nodes times) targets
+    (targets_are nodes times [] nodes 0 refl refl) in
+    let recipes = all_passed (IsSpan nodes times) (λ (span : Span). not (ran_others targets span)) (spans_of targets) spans in
+    let ranks = map rank_of (recipes_of targets) in
+    all_taken (HasDuration nodes times) 10 (sort rank_cmp ranks)
+    (all_sorted (HasDuration nodes times) rank_cmp ranks (ranks_are nodes times (recipes_of targets) recipes))
+
+pub warned_are : (nodes : List Node) (times : List Times) → AllByRecursion (HasWarnings nodes) (summary_of nodes times).warned
+warned_are nodes times =
+    let ranks = filter (λ (rank : Rank). ltb 0 rank.value) (warnings_from 0 nodes) in
+    all_taken (HasWarnings nodes) 10 (sort rank_cmp ranks)
+    (all_sorted (HasWarnings nodes) rank_cmp ranks
+    (all_passed (HasWarnings nodes) (λ (rank : Rank). ltb 0 rank.value) (warnings_from 0 nodes) (warnings_are nodes [] nodes 0 refl refl)))

@@ -1,5 +1,5 @@
 -- What the laws state.
-use Rattle.std.specs.Prelude.{◌≡◌, ℕ, ◌+◌, ◌-◌, ◌<◌, ◌≤◌, ◌⊎◌, max, min, ltb, List, [], ◌∷◌, ◌++◌, length, filter, Option, Some}
+use Rattle.std.specs.Prelude.{◌≡◌, ℕ, ◌+◌, ◌-◌, ◌<◌, ◌≤◌, ◌⊎◌, max, min, ltb, List, [], ◌∷◌, ◌++◌, length, filter, Option, Some, slice_get}
 use Rattle.std.specs.List.{AllByRecursion, Contains}
 use Rattle.std.specs.List.Sorted.{IsPermutation}
 use Rattle.redo_timeline.specs.declared.span.Span.{Span}
@@ -11,7 +11,7 @@ use Rattle.redo_summary.specs.declared.rank.Rank.{Rank}
 use Rattle.redo_summary.specs.Callers.{spans_of}
 use Rattle.redo_summary.specs.Ranks.{warnings_from}
 use Rattle.redo_summary.specs.Summary.{Facts}
-use Rattle.redo_summary.specs.Targets.{targets_of, times_of}
+use Rattle.redo_summary.specs.Targets.{duration_of, targets_of, times_of}
 use Rattle.redo_summary.specs.Window.{cut}
 
 -- The positions of spans, or of ranks, are below a number.
@@ -109,3 +109,12 @@ pub record HasFirstTen (ranks table : List Rank) : Type 0 where
   pub once : IsPermutation ranks (table ++ others)
   pub count : length table ≡ min 10 (length ranks)
   pub first : AllByRecursion (λ (rank : Rank). AllByRecursion (IsBefore rank) others) table
+
+-- The value of a rank is how long the target at its position took.
+abbrev pub HasDuration : List Node → List Times → Rank → Type 0
+HasDuration nodes times rank =
+    (node : Node) × (slice_get nodes rank.position ≡ Some node) × (took : ℕ) × (duration_of times node.number ≡ Some took) × (rank.value ≡ cut took)
+
+-- The value of a rank is the number of warnings of the target at its position.
+abbrev pub HasWarnings : List Node → Rank → Type 0
+HasWarnings nodes rank = (node : Node) × (slice_get nodes rank.position ≡ Some node) × (rank.value ≡ node.warnings)

@@ -1,8 +1,9 @@
 //! Laws about the definitions alone: their contracts are theorems, and their bodies are empty.
 ghost use Rattle.std.specs.Prelude.{◌≡◌, ℕ, List, map, None, Some};
+ghost use Rattle.std.specs.List.{AllByRecursion};
 ghost use Rattle.redo_outline.specs.declared.node.Node.{Node};
 ghost use Rattle.redo_times.specs.declared.times.Times.{Times};
-ghost use Rattle.redo_summary.specs.Laws.{AllRanOthers, AreInOrderOfPosition, AreOfNodes, AreSplit, HasFirstTen, IsKnown, IsOverTimes, IsTable, NoneRanOthers, warning_ranks};
+ghost use Rattle.redo_summary.specs.Laws.{AllRanOthers, AreInOrderOfPosition, AreOfNodes, AreSplit, HasDuration, HasFirstTen, HasWarnings, IsKnown, IsOverTimes, IsTable, NoneRanOthers, warning_ranks};
 ghost use Rattle.redo_summary.specs.Ranks.{rank_of};
 ghost use Rattle.redo_summary.specs.Summary.{summary_of};
 ghost use Rattle.redo_timeline.specs.declared.span.Window.{Window};
@@ -49,4 +50,11 @@ pub fn tables_have_first_ranks()
     ensures longest { (nodes : List Node) (times : List Times) →
         HasFirstTen (map rank_of (summary_of nodes times).recipes) (summary_of nodes times).longest }
     ensures warned { (nodes : List Node) (times : List Times) → HasFirstTen (warning_ranks nodes) (summary_of nodes times).warned }
+{}
+
+/// The value of each rank is that of the target at its position: how long it took, or its number of warnings.
+pub fn ranks_have_values_of_targets()
+    ensures longest { (nodes : List Node) (times : List Times) →
+        AllByRecursion (HasDuration nodes times) (summary_of nodes times).longest }
+    ensures warned { (nodes : List Node) (times : List Times) → AllByRecursion (HasWarnings nodes) (summary_of nodes times).warned }
 {}

@@ -22,8 +22,9 @@ mod totals;
 mod window;
 
 pub use laws::{
-    callers_ran_others, positions_are_of_nodes, ranks_are_in_order, spans_are_callers_or_recipes,
-    spans_are_in_order_of_position, tables_have_first_ranks, window_is_over_known_times,
+    callers_ran_others, positions_are_of_nodes, ranks_are_in_order, ranks_have_values_of_targets,
+    spans_are_callers_or_recipes, spans_are_in_order_of_position, tables_have_first_ranks,
+    window_is_over_known_times,
 };
 pub use rank::Rank;
 pub use summary::Summary;
