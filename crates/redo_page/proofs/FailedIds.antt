@@ -254,31 +254,45 @@ module _ (count : ℕ) (listed : List ℕ) where
         (simp (flat_map-append, append-nil, badge_bare node.status))
         (then_refer (link_refers position below) (cause_if_refers causes node))
 
+    ordered_refers : Refer count listed (MarkupPart markup.Ordered ∷ []) [] []
+    ordered_refers =
+        record { target_ids_are = refl; article_ids_are = refl; target_links_lead = refl; article_links_lead = refl; sections_are = refl }
+
+    ordered_from_refers : (first : ℕ) → Refer count listed (MarkupPart (markup.OrderedFrom first) ∷ []) [] []
+    ordered_from_refers first =
+        record { target_ids_are = refl; article_ids_are = refl; target_links_lead = refl; article_links_lead = refl; sections_are = refl }
+
     list_refers : (positions : List ℕ) → list_all (is_among listed) positions ≡ true
         → Refer count listed (list_parts logs nodes positions) [] []
     unfolding list_parts
     list_refers positions among =
         refer_if (nat_lt 1 (length positions))
-        (same_refer {others = flat_map (article_row logs nodes) positions} (simp (flat_map-append, append-nil))
-        (rows_refer (is_among listed) (article_row logs nodes) article_row_refers positions among))
+        (same_refer {others = MarkupPart markup.Ordered ∷ flat_map (article_row logs nodes) positions} (simp (flat_map-append, append-nil))
+        (then_refer {parts = MarkupPart markup.Ordered ∷ []} ordered_refers
+        (rows_refer (is_among listed) (article_row logs nodes) article_row_refers positions among)))
 
-    more_refers : (list : Markup) (causes : Bool) → Bare (MarkupPart list ∷ []) → (heading positions : List ℕ) → AreBelow count positions
+    more_refers : (list : Markup) (causes : Bool) → Refer count listed (MarkupPart list ∷ []) [] [] → (heading positions : List ℕ)
+        → AreBelow count positions
         → Refer count listed (more_parts logs nodes list causes heading positions) [] []
     unfolding more_parts
-    more_refers list causes bare heading positions below =
+    more_refers list causes list_is heading positions below =
         let rows = flat_map (target_row logs nodes causes) (take max_rows positions) in
         refer_if (nat_lt 0 (length positions))
-        (same_refer {others = rows} (more_same rows (unlisted_parts (length positions)) (unlisted_bare (length positions)))
+        (same_refer {others = MarkupPart list ∷ rows}
+        (more_same rows (unlisted_parts (length positions)) (unlisted_bare (length positions)))
+        (then_refer {parts = MarkupPart list ∷ []} list_is
         (rows_refer (λ number. nat_lt number count) (target_row logs nodes causes) (target_row_refers causes) (take max_rows positions)
-        (all_take (λ number. nat_lt number count) max_rows positions below)))
+        (all_take (λ number. nat_lt number count) max_rows positions below))))
       where
         more_same : (rows unlisted : List Part) → Bare unlisted
             → references (MarkupPart markup.MoreDetails ∷ MarkupPart markup.Summary ∷ NumberPart (length positions) ∷ TextPart heading
             ∷ MarkupPart markup.EndSummary ∷ MarkupPart list
-            ∷ (rows ++ (MarkupPart markup.EndOrdered ∷ (unlisted ++ MarkupPart markup.EndDetails ∷ [])))) ≡ references rows
+            ∷ (rows ++ (MarkupPart markup.EndOrdered ∷ (unlisted ++ MarkupPart markup.EndDetails ∷ []))))
+            ≡ references (MarkupPart list ∷ rows)
         more_same rows unlisted unlisted_is =
-            ap (λ t. t ++ references (rows ++ (MarkupPart markup.EndOrdered ∷ (unlisted ++ MarkupPart markup.EndDetails ∷ []))))
-            (sym (append-nil (reference (MarkupPart list))) ∙ bare) ∙ simp (flat_map-append, append-nil, unlisted_is)
+            let ends : references (rows ++ (MarkupPart markup.EndOrdered ∷ (unlisted ++ MarkupPart markup.EndDetails ∷ [])))
+            ≡ references rows = simp (flat_map-append, append-nil, unlisted_is) in
+            ap (λ t. reference (MarkupPart list) ++ t) ends
 
     section_same : (a b c d e : List Part)
         → references (MarkupPart markup.FailedSection ∷ MarkupPart markup.FailedHeading ∷ TextPart WHAT_FAILED.now
@@ -303,9 +317,10 @@ module _ (count : ℕ) (listed : List ℕ) where
         (record { target_ids_are = refl; article_ids_are = refl; target_links_lead = refl; article_links_lead = refl; sections_are = refl })
         (then_refer (list_refers shown among)
         (then_refer (articles_refer shown shown_below)
-        (then_refer (more_refers (markup.OrderedFrom (suc max_articles)) true refl MORE_FAILED.now others others_below)
-        (then_refer (more_refers markup.Ordered false refl FAILED_WITH_THESE.now dependents dependents_below)
-        (more_refers markup.Ordered false refl COUNT_NOT_CLOSED.now unclosed unclosed_below))))))
+        (then_refer (more_refers (markup.OrderedFrom (suc max_articles)) true (ordered_from_refers (suc max_articles)) MORE_FAILED.now
+        others others_below)
+        (then_refer (more_refers markup.Ordered false ordered_refers FAILED_WITH_THESE.now dependents dependents_below)
+        (more_refers markup.Ordered false ordered_refers COUNT_NOT_CLOSED.now unclosed unclosed_below))))))
 
 -- The section, if a target failed.
 abbrev pub failed_section : List ℕ → List Part

@@ -1,7 +1,7 @@
 -- The names of targets in the sections before the tree.
-use Rattle.std.proofs.Common.{◌≡◌, ℕ, suc, Bool, true, false, List, [], ◌∷◌, ◌++◌, Option, None, Some, refl, ap}
-use Rattle.std.specs.Prelude.{◌==◌, ◌||◌, drop, length, nat_lt, not, take, if◌then◌else◌}
-use Rattle.std.specs.List.{flat_map, list_all}
+use Rattle.std.proofs.Common.{◌≡◌, ℕ, suc, Bool, true, false, List, [], ◌∷◌, ◌++◌, Option, None, Some, refl, sym, ◌∙◌, ap, subst, inl, inr}
+use Rattle.std.specs.Prelude.{◌==◌, ◌||◌, ◌&&◌, drop, length, map, nat_lt, not, take, if◌then◌else◌}
+use Rattle.std.specs.List.{AllByRecursion, flat_map}
 use Rattle.std.proofs.lemmas.Bool.{and_parts}
 use Rattle.std.proofs.lemmas.List.{append_assoc}
 use Rattle.redo_logs.specs.Logs.{Log}
@@ -16,6 +16,12 @@ use Rattle.redo_line.specs.Lines.{with_line_feed}
 use Rattle.redo_outline.specs.declared.node.Node.{Node}
 use Rattle.redo_outline.specs.Facts.{target_at}
 use Rattle.redo_page.specs.declared.labels.TheConstants.{COUNT_NOT_CLOSED, FAILED_WITH_THESE, IN_ITS_LOG, MORE_FAILED, MORE_LINE, MORE_LINES, PLACE_IN_TREE, WHAT_FAILED}
+use Rattle.redo_page.specs.declared.scope.Count.{Count}
+use Rattle.redo_page.specs.declared.scope.Count.TheVariants.{Value}
+use Rattle.redo_page.specs.declared.scope.Measure.{Measure}
+use Rattle.redo_page.specs.declared.scope.Measure.TheVariants.{Duration}
+use Rattle.redo_page.specs.declared.scope.Rows.{Rows}
+use Rattle.redo_page.specs.declared.scope.Rows.TheVariants.{Longest, Warned}
 use Rattle.redo_page.specs.declared.template.Around.TheVariants.{If, Unless, Each, EachTarget}
 use Rattle.redo_page.specs.declared.template.Item.{Item}
 use Rattle.redo_page.specs.declared.template.Item.TheVariants as item
@@ -24,21 +30,23 @@ use Rattle.redo_page.specs.Errors.{cause_of}
 use Rattle.redo_page.specs.Excerpt.{Stretch, error_position, excerpt_line_parts, excerpt_parts, in_tree_parts, is_kept, left_out_parts, stretch_parts, stretches_from}
 use Rattle.redo_page.specs.Excerpt.Stretch.{Shown, LeftOut}
 use Rattle.redo_page.specs.Failed.{article_of, article_parts, article_took, article_row, cause_if, cause_of_node, cause_parts, is_dependent_failure, failed_parts, is_unclosed, list_parts, max_path, max_rows, more_parts, nothing_parts, output_parts, path_parts, positions_where, printed_by, row_parts, section_parts, target_row, unlisted_parts, whole_parts}
-use Rattle.redo_page.specs.Laws.{target_name}
-use Rattle.redo_page.specs.Scope.{View, holds, measure_words, row_name, row_view, rows_of, target_view}
-use Rattle.redo_page.specs.Targets.{badge_parts, name_parts, plural}
-use Rattle.redo_page.specs.Template.{Template, block_parts, parts_of_item, parts_of_items, nothing, template_parts}
+use Rattle.redo_page.specs.Laws.{BeginWith, IsList, IsRow, TellsItsTarget, list_item, target_name}
+use Rattle.redo_page.specs.Scope.{View, count_of, holds, measure_words, row_name, row_view, rows_of, target_view}
+use Rattle.redo_page.specs.Targets.{badge_parts, linked_parts, name_parts, plural}
+use Rattle.redo_page.specs.Template.{Block, Template, block_parts, parts_of_item, parts_of_items, nothing, template_parts}
 use Rattle.redo_page.specs.Timeline.{facts_drawing, timeline_if, timeline_parts}
 use Rattle.redo_page.specs.Tree.{is_short, max_articles, node_at, root_failures}
-use Rattle.redo_page.specs.Words.{word_part}
+use Rattle.redo_page.specs.Words.{word_part, words_parts}
 use Rattle.redo_page.proofs.FailedIds.{article_took_bare, path_bare}
-use Rattle.redo_page.proofs.Ids.{Bare, badge_bare, bare_each, is_section, word_bare}
+use Rattle.redo_page.proofs.Ids.{Bare, badge_bare, bare_each, is_reference, is_section, word_bare}
 use Rattle.redo_page.proofs.NameLemmas.{Tells, article_link_tells, bare_tell, calm_tell, is_calm, is_calm_tag, linked_tells, log_link_tells, none_tell, place_link_tells, target_link_tells, tell_each, tell_if, then_tell}
-use Rattle.redo_page.proofs.TemplateIds.{Place, began_bare, block_only, body_bare, none_refer, only_known, only_tag, template_only}
+use Rattle.redo_page.proofs.TemplateIds.{Place, began_bare, body_bare, is_row, none_refer, only_known, only_tag}
 use Rattle.redo_page.proofs.TemplateIds.Place.{Outside, InTargets, InRows}
 use Rattle.redo_summary.specs.declared.rank.Rank.{Rank}
 use Rattle.redo_summary.specs.Summary.{is_timed}
+use Rattle.redo_summary.specs.Window.{cut}
 use Rattle.redo_timeline.specs.declared.span.Window.{Window}
+use Rattle.redo_units.specs.Durations.{duration_words}
 
 module _ (logs : List Log) (nodes : List Node) where
   abbrev Telling : List Part → Type 0
@@ -123,7 +131,6 @@ module _ (logs : List Log) (nodes : List Node) where
       let path = path_parts logs nodes (max_path logs nodes) node.parent in
       let link = MarkupPart (markup.TargetLink position) ∷ TextPart PLACE_IN_TREE.now ∷ MarkupPart markup.EndLink ∷ [] in
       let output = output_parts logs position node ++ MarkupPart markup.EndArticle ∷ [] in
-      let others = path ++ (link ++ (MarkupPart markup.EndParagraph ∷ output)) in
       let all = then_tell logs nodes {parts = MarkupPart markup.Title3 ∷ name} (bare_tell logs nodes _ refl)
       (then_tell logs nodes (bare_tell logs nodes (badge_parts node.status) (badge_bare node.status))
       (then_tell logs nodes {parts = MarkupPart markup.EndTitle3 ∷ MarkupPart markup.MetaParagraph ∷ []} (bare_tell logs nodes _ refl)
@@ -135,17 +142,20 @@ module _ (logs : List Log) (nodes : List Node) where
       (bare_tell logs nodes (MarkupPart markup.EndArticle ∷ []) refl)))))))) in
       record {
         before = λ rest tell. (
-          (others ++ rest, split name (badge_parts node.status) (article_took node.took) others rest),
+          (output ++ rest, split name (badge_parts node.status) (article_took node.took) path output rest),
           all.before rest tell,
         );
       }
     where
-      split : (name badge took others rest : List Part)
-          → (MarkupPart markup.Title3 ∷ (name ++ (badge ++ (MarkupPart markup.EndTitle3 ∷ MarkupPart markup.MetaParagraph ∷ took))))
-          ++ (others ++ rest)
+      split : (name badge took path output rest : List Part)
+          → (MarkupPart markup.Title3 ∷ (name ++ (badge ++ (MarkupPart markup.EndTitle3 ∷ MarkupPart markup.MetaParagraph
+          ∷ (took ++ (path ++ (MarkupPart (markup.TargetLink position) ∷ TextPart PLACE_IN_TREE.now ∷ MarkupPart markup.EndLink
+          ∷ MarkupPart markup.EndParagraph ∷ [])))))))
+          ++ (output ++ rest)
           ≡ (MarkupPart markup.Title3 ∷ (name ++ (badge ++ (MarkupPart markup.EndTitle3 ∷ MarkupPart markup.MetaParagraph
-          ∷ (took ++ others))))) ++ rest
-      split name badge took others rest = simp (append_assoc)
+          ∷ (took ++ (path ++ (MarkupPart (markup.TargetLink position) ∷ TextPart PLACE_IN_TREE.now ∷ MarkupPart markup.EndLink
+          ∷ MarkupPart markup.EndParagraph ∷ output))))))) ++ rest
+      split name badge took path output rest = simp (append_assoc)
 
   -- ---- lists
 
@@ -175,26 +185,74 @@ module _ (logs : List Log) (nodes : List Node) where
       (then_tell logs nodes (bare_tell logs nodes (badge_parts node.status) (badge_bare node.status))
       (then_tell logs nodes (cause_if_tells causes node) (bare_tell logs nodes (MarkupPart markup.EndItem ∷ []) refl))))
 
+  -- A list of targets, and what follows it.
+  module _ (link : ℕ → Markup) (causes : Bool) (row : ℕ → List Part)
+      (same : (position : ℕ) → list_item logs nodes link causes position ≡ row position)
+      (tells : (position : ℕ) → Telling (row position)) where
+    rows_same : (positions : List ℕ) → flat_map (list_item logs nodes link causes) positions ≡ flat_map row positions
+    rows_same [] = refl
+    rows_same (position ∷ positions) =
+        ap (λ (t : List Part). t ++ flat_map (list_item logs nodes link causes) positions) (same position)
+        ∙ ap (λ (t : List Part). row position ++ t) (rows_same positions)
+
+    rows_split : (rows others rest : List Part)
+        → (rows ++ MarkupPart markup.EndOrdered ∷ []) ++ (others ++ rest) ≡ (rows ++ (MarkupPart markup.EndOrdered ∷ others)) ++ rest
+    rows_split rows others rest = simp (append_assoc)
+
+    list_then : (list : Markup) → ((after : List Part) → IsList logs nodes link after → TellsItsTarget logs nodes list after)
+        → (positions : List ℕ) (others : List Part) → Telling others
+        → Telling (MarkupPart list ∷ (flat_map row positions ++ (MarkupPart markup.EndOrdered ∷ others)))
+    list_then list says positions others more =
+        let all = then_tell logs nodes (tell_each logs nodes row tells positions)
+        (then_tell logs nodes {parts = MarkupPart markup.EndOrdered ∷ []} (bare_tell logs nodes _ refl) more) in
+        record {
+          before = λ rest tell. (
+            says ((flat_map row positions ++ (MarkupPart markup.EndOrdered ∷ others)) ++ rest) (
+              causes,
+              positions,
+              (
+                others ++ rest,
+                ap (λ (t : List Part). (t ++ MarkupPart markup.EndOrdered ∷ []) ++ (others ++ rest)) (rows_same positions)
+                    ∙ rows_split (flat_map row positions) others rest,
+              ),
+            ),
+            all.before rest tell,
+          );
+        }
+
+  article_row_same : (position : ℕ)
+      → list_item logs nodes (λ position. markup.OutputLink position) true position ≡ article_row logs nodes position
+  unfolding article_row row_parts cause_of_node
+  article_row_same position = refl
+
+  target_row_same : (causes : Bool) (position : ℕ)
+      → list_item logs nodes (λ position. markup.TargetLink position) causes position ≡ target_row logs nodes causes position
+  unfolding target_row row_parts cause_of_node
+  target_row_same true position = refl
+  target_row_same false position = refl
+
   list_tells : (positions : List ℕ) → Telling (list_parts logs nodes positions)
   unfolding list_parts
   list_tells positions =
       tell_if logs nodes (nat_lt 1 (length positions))
-      (then_tell logs nodes {parts = MarkupPart markup.Ordered ∷ []} (bare_tell logs nodes _ refl)
-      (then_tell logs nodes (tell_each logs nodes (article_row logs nodes) article_row_tells positions)
-      (bare_tell logs nodes (MarkupPart markup.EndOrdered ∷ []) refl)))
+      (list_then (λ position. markup.OutputLink position) true (article_row logs nodes) article_row_same article_row_tells markup.Ordered
+      (λ after is. inl is) positions [] (none_tell logs nodes))
 
-  more_tells : (list : Markup) (causes : Bool) → Bare (MarkupPart list ∷ []) → (heading positions : List ℕ)
+  abbrev IsOfLinks : Markup → Type 0
+  IsOfLinks list = (after : List Part) → IsList logs nodes (λ position. markup.TargetLink position) after
+      → TellsItsTarget logs nodes list after
+
+  more_tells : (list : Markup) (causes : Bool) → IsOfLinks list → (heading positions : List ℕ)
       → Telling (more_parts logs nodes list causes heading positions)
   unfolding more_parts
-  more_tells list causes bare heading positions =
+  more_tells list causes says heading positions =
       tell_if logs nodes (nat_lt 0 (length positions))
       (then_tell logs nodes
       {parts = MarkupPart markup.MoreDetails ∷ MarkupPart markup.Summary ∷ NumberPart (length positions) ∷ TextPart heading
       ∷ MarkupPart markup.EndSummary ∷ []} (bare_tell logs nodes _ refl)
-      (then_tell logs nodes {parts = MarkupPart list ∷ []} (bare_tell logs nodes _ bare)
-      (then_tell logs nodes (tell_each logs nodes (target_row logs nodes causes) (target_row_tells causes) (take max_rows positions))
-      (then_tell logs nodes {parts = MarkupPart markup.EndOrdered ∷ []} (bare_tell logs nodes _ refl)
-      (then_tell logs nodes (unlisted_tells (length positions)) (bare_tell logs nodes (MarkupPart markup.EndDetails ∷ []) refl))))))
+      (list_then (λ position. markup.TargetLink position) causes (target_row logs nodes causes) (target_row_same causes)
+      (target_row_tells causes) list says (take max_rows positions) (unlisted_parts (length positions) ++ MarkupPart markup.EndDetails ∷ [])
+      (then_tell logs nodes (unlisted_tells (length positions)) (bare_tell logs nodes (MarkupPart markup.EndDetails ∷ []) refl))))
 
   section_tells : (shown others dependents unclosed : List ℕ) → Telling (section_parts logs nodes shown others dependents unclosed)
   unfolding section_parts
@@ -204,9 +262,9 @@ module _ (logs : List Log) (nodes : List Node) where
       ∷ []} (calm_tell logs nodes _ refl)
       (then_tell logs nodes (list_tells shown)
       (then_tell logs nodes (tell_each logs nodes (article_parts logs nodes) article_tells shown)
-      (then_tell logs nodes (more_tells (markup.OrderedFrom (suc max_articles)) true refl MORE_FAILED.now others)
-      (then_tell logs nodes (more_tells markup.Ordered false refl FAILED_WITH_THESE.now dependents)
-      (then_tell logs nodes (more_tells markup.Ordered false refl COUNT_NOT_CLOSED.now unclosed)
+      (then_tell logs nodes (more_tells (markup.OrderedFrom (suc max_articles)) true (λ after is. is) MORE_FAILED.now others)
+      (then_tell logs nodes (more_tells markup.Ordered false (λ after is. inr is) FAILED_WITH_THESE.now dependents)
+      (then_tell logs nodes (more_tells markup.Ordered false (λ after is. inr is) COUNT_NOT_CLOSED.now unclosed)
       (bare_tell logs nodes (MarkupPart markup.EndSection ∷ []) refl))))))
 
   pub failed_tells : Telling (failed_parts logs nodes)
@@ -218,24 +276,114 @@ module _ (logs : List Log) (nodes : List Node) where
 
 -- ---- templates
 
--- In a row, a view has the target at the row's position.
+-- The value of a row is how long its target took, or how many warnings it has.
+abbrev pub IsValueOf : Rows → Node → ℕ → Type 0
+IsValueOf Longest node value = (took : ℕ) × (node.took ≡ Some took) × (value ≡ cut took)
+IsValueOf Warned node value = value ≡ node.warnings
+
+abbrev IsRank : View → Rows → Rank → Type 0
+IsRank view rows rank = IsValueOf rows (node_at view.nodes rank.position) rank.value
+
+abbrev pub HasValues : View → Type 0
+HasValues view = (rows : Rows) → AllByRecursion (IsRank view rows) (rows_of view rows)
+
+-- In a row, a view has the target at the row's position, and its value.
 abbrev IsNamedRow : Place → View → Type 0
-IsNamedRow InRows view = node_at view.nodes view.rank.position ≡ view.node
+IsNamedRow (InRows rows) view =
+    (node_at view.nodes view.rank.position ≡ view.node) × IsValueOf rows (node_at view.nodes view.rank.position) view.rank.value
 IsNamedRow place view = Unit {0}
+
+-- ---- the items of rows
+
+abbrev ends_heading : Markup → Bool
+ends_heading markup.EndRowHeading = true
+ends_heading tag = false
+
+abbrev begins_cell : Markup → Bool
+begins_cell markup.NumberCell = true
+begins_cell tag = false
+
+abbrev ends_cell : Markup → Bool
+ends_cell markup.EndCell = true
+ends_cell tag = false
+
+abbrev is_duration : Measure → Bool
+is_duration Duration = true
+is_duration measure = false
+
+abbrev is_count : Count → Bool
+is_count Value = true
+is_count count = false
+
+module _ {T B : Type 0} where
+  abbrev is_heading : Item T B → Bool
+  is_heading (item.Tag tag) = is_row tag
+  is_heading item = false
+
+  abbrev is_link : Item T B → Bool
+  is_link item.Link = true
+  is_link item = false
+
+  abbrev is_badge : Item T B → Bool
+  is_badge item.Badge = true
+  is_badge item = false
+
+  abbrev is_heading_end : Item T B → Bool
+  is_heading_end (item.Tag tag) = ends_heading tag
+  is_heading_end item = false
+
+  abbrev is_cell : Item T B → Bool
+  is_cell (item.Tag tag) = begins_cell tag
+  is_cell item = false
+
+  abbrev is_cell_end : Item T B → Bool
+  is_cell_end (item.Tag tag) = ends_cell tag
+  is_cell_end item = false
+
+  abbrev is_value : Rows → Item T B → Bool
+  is_value Longest (item.Measure measure) = is_duration measure
+  is_value Warned (item.Number count) = is_count count
+  is_value rows item = false
+
+  abbrev begin_with : List (Item T B → Bool) → List (Item T B) → Bool
+  begin_with [] items = true
+  begin_with (test ∷ tests) [] = false
+  begin_with (test ∷ tests) (item ∷ items) = test item && begin_with tests items
+
+  -- Whether items are the rest of a row: the name of its target, the status, and the value.
+  abbrev begin_row : Place → List (Item T B) → Bool
+  begin_row (InRows rows) items =
+      begin_with (is_link ∷ is_badge ∷ is_heading_end ∷ is_cell ∷ is_value rows ∷ is_cell_end ∷ []) items
+  begin_row place items = false
+
+  abbrev only_rows : (Place → B → Bool) → Place → List (Item T B) → Bool
+  only_rows inner place [] = true
+  only_rows inner place (item ∷ items) =
+      only_known inner place item && ((not (is_heading item) || begin_row place items) && only_rows inner place items)
+
+abbrev block_rows : {B : Type 0} → (Place → B → Bool) → Place → Block B → Bool
+block_rows inner place block = only_rows inner place block.now
+
+abbrev pub template_rows : Template → Bool
+template_rows = block_rows (block_rows (block_rows (block_rows none_refer))) Outside
 
 -- What a template shows for the build of a view.
 pub record TellsOfViews {B : Type 0} (parts : B → View → List Part) (only : Place → B → Bool) : Type 0 where
-  pub tells : (place : Place) (block : B) → only place block ≡ true → (view : View) → IsNamedRow place view
+  pub tells : (place : Place) (block : B) → only place block ≡ true → (view : View) → HasValues view → IsNamedRow place view
       → Tells view.logs view.nodes (parts block view)
 
 -- A tag outside of loops is a link or an id of a section, or none.
-tag_calm : (place : Place) (tag : Markup) → only_tag place tag ≡ true → is_calm_tag tag ≡ true
-tag_calm place tag is = by tag (outside place is)
+tag_calm : (place : Place) (tag : Markup) → only_tag place tag ≡ true → is_row tag ≡ false → is_calm_tag tag ≡ true
+tag_calm place tag is plain = by tag (outside place is)
   where
+    no_row : (reference : Bool) → (not reference || is_row tag) ≡ true → not reference ≡ true
+    no_row false is = refl
+    no_row true is = absurd (cc)
+
     outside : (place : Place) → only_tag place tag ≡ true → only_tag Outside tag ≡ true
     outside Outside is = is
     outside InTargets is = ap (λ b. b || is_section tag) is
-    outside InRows is = ap (λ b. b || is_section tag) is
+    outside (InRows rows) is = ap (λ b. b || is_section tag) (no_row (is_reference tag) is)
 
     by : (tag : Markup) → only_tag Outside tag ≡ true → is_calm_tag tag ≡ true
     by (markup.TargetLink number) is = absurd (cc)
@@ -244,86 +392,258 @@ tag_calm place tag is = by tag (outside place is)
     by (markup.TargetItem number) is = absurd (cc)
     by (markup.Details number) is = absurd (cc)
     by (markup.OpenDetails number) is = absurd (cc)
+    by markup.Ordered is = absurd (cc)
+    by (markup.OrderedFrom number) is = absurd (cc)
+    by markup.RowHeading is = absurd (cc)
     by tag is = refl
 
-module _ {B : Type 0} (inner : B → View → List Part) (only : Place → B → Bool) (inner_tells : TellsOfViews inner only) (view : View) where
+module _ {T B : Type 0} (text_of : T → List ℕ) (inner : B → View → List Part) (view : View) where
+  abbrev shown : Item T B → List Part
+  shown item = parts_of_item text_of inner view item
+
+  abbrev all_shown : List (Item T B) → List Part
+  all_shown items = parts_of_items text_of inner view items
+
+  -- What an item that passes a test shows.
+  record Step : Type 0 where
+    test : Item T B → Bool
+    parts : List Part
+    sound : (item : Item T B) → test item ≡ true → parts ≡ shown item
+
+  abbrev tests : List Step → List (Item T B → Bool)
+  tests steps = map (λ (step : Step). step.test) steps
+
+  abbrev steps_parts : List Step → List Part
+  steps_parts steps = flat_map (λ (step : Step). step.parts) steps
+
+  steps_shown : (steps : List Step) (items : List (Item T B)) → begin_with (tests steps) items ≡ true
+      → BeginWith (steps_parts steps) (all_shown items)
+  steps_shown [] items is = (all_shown items, refl)
+  steps_shown (step ∷ steps) [] is = absurd (cc)
+  steps_shown (step ∷ steps) (item ∷ items) is =
+      let both = and_parts (step.test item) (begin_with (tests steps) items) is in
+      let more = steps_shown steps items both.1 in (
+        more.0,
+        append_assoc step.parts (steps_parts steps) more.0 ∙ ap (λ (t : List Part). step.parts ++ t) more.1
+            ∙ ap (λ (t : List Part). t ++ all_shown items) (step.sound item both.0),
+      )
+
+  heading_shown : (item : Item T B) → is_heading item ≡ true → MarkupPart markup.RowHeading ∷ [] ≡ shown item
+  heading_shown (item.Tag tag) is = by tag is
+    where
+      by : (tag : Markup) → is_row tag ≡ true → MarkupPart markup.RowHeading ∷ [] ≡ MarkupPart tag ∷ []
+      by markup.RowHeading is = refl
+      by tag is = absurd (cc)
+  heading_shown item is = absurd (cc)
+
+  link_sound : (item : Item T B) → is_link item ≡ true → linked_parts (Some view.rank.position) (row_name view) ≡ shown item
+  link_sound item.Link is = refl
+  link_sound item is = absurd (cc)
+
+  abbrev link_step : Step
+  link_step = record { test = is_link; parts = linked_parts (Some view.rank.position) (row_name view); sound = link_sound }
+
+  badge_sound : (item : Item T B) → is_badge item ≡ true → badge_parts view.node.status ≡ shown item
+  badge_sound item.Badge is = refl
+  badge_sound item is = absurd (cc)
+
+  abbrev badge_step : Step
+  badge_step = record { test = is_badge; parts = badge_parts view.node.status; sound = badge_sound }
+
+  heading_end_sound : (item : Item T B) → is_heading_end item ≡ true → MarkupPart markup.EndRowHeading ∷ [] ≡ shown item
+  heading_end_sound (item.Tag tag) is = by tag is
+    where
+      by : (tag : Markup) → ends_heading tag ≡ true → MarkupPart markup.EndRowHeading ∷ [] ≡ MarkupPart tag ∷ []
+      by markup.EndRowHeading is = refl
+      by tag is = absurd (cc)
+  heading_end_sound item is = absurd (cc)
+
+  abbrev heading_end_step : Step
+  heading_end_step = record { test = is_heading_end; parts = MarkupPart markup.EndRowHeading ∷ []; sound = heading_end_sound }
+
+  cell_sound : (item : Item T B) → is_cell item ≡ true → MarkupPart markup.NumberCell ∷ [] ≡ shown item
+  cell_sound (item.Tag tag) is = by tag is
+    where
+      by : (tag : Markup) → begins_cell tag ≡ true → MarkupPart markup.NumberCell ∷ [] ≡ MarkupPart tag ∷ []
+      by markup.NumberCell is = refl
+      by tag is = absurd (cc)
+  cell_sound item is = absurd (cc)
+
+  abbrev cell_step : Step
+  cell_step = record { test = is_cell; parts = MarkupPart markup.NumberCell ∷ []; sound = cell_sound }
+
+  cell_end_sound : (item : Item T B) → is_cell_end item ≡ true → MarkupPart markup.EndCell ∷ [] ≡ shown item
+  cell_end_sound (item.Tag tag) is = by tag is
+    where
+      by : (tag : Markup) → ends_cell tag ≡ true → MarkupPart markup.EndCell ∷ [] ≡ MarkupPart tag ∷ []
+      by markup.EndCell is = refl
+      by tag is = absurd (cc)
+  cell_end_sound item is = absurd (cc)
+
+  abbrev cell_end_step : Step
+  cell_end_step = record { test = is_cell_end; parts = MarkupPart markup.EndCell ∷ []; sound = cell_end_sound }
+
+  abbrev value_parts : Rows → List Part
+  value_parts Longest = words_parts (duration_words view.rank.value)
+  value_parts Warned = NumberPart view.rank.value ∷ []
+
+  value_sound : (rows : Rows) (item : Item T B) → is_value rows item ≡ true → value_parts rows ≡ shown item
+  value_sound Longest (item.Measure measure) is = by measure is
+    where
+      by : (measure : Measure) → is_duration measure ≡ true
+          → words_parts (duration_words view.rank.value) ≡ words_parts (measure_words view measure)
+      by Duration is = refl
+      by measure is = absurd (cc)
+  value_sound Warned (item.Number count) is = by count is
+    where
+      by : (count : Count) → is_count count ≡ true → NumberPart view.rank.value ∷ [] ≡ NumberPart (count_of view count) ∷ []
+      by Value is = refl
+      by count is = absurd (cc)
+  value_sound Longest item is = absurd (cc)
+  value_sound Warned item is = absurd (cc)
+
+  abbrev value_step : Rows → Step
+  value_step rows = record { test = is_value rows; parts = value_parts rows; sound = value_sound rows }
+
+  abbrev row_steps : Rows → List Step
+  row_steps rows = link_step ∷ badge_step ∷ heading_end_step ∷ cell_step ∷ value_step rows ∷ cell_end_step ∷ []
+
+  -- The row of a node with this value.
+  abbrev row_of : Node → List Part → List Part
+  row_of node value =
+      MarkupPart (markup.TargetLink view.rank.position)
+      ∷ (name_parts (target_at view.logs node.number)
+      ++ (MarkupPart markup.EndLink ∷ (badge_parts node.status
+      ++ (MarkupPart markup.EndRowHeading ∷ MarkupPart markup.NumberCell ∷ (value ++ MarkupPart markup.EndCell ∷ [])))))
+
+  row_shown : (rows : Rows) (items : List (Item T B)) → begin_row (InRows rows) items ≡ true → IsNamedRow (InRows rows) view
+      → (rest : List Part) → IsRow view.logs view.nodes (all_shown items ++ rest)
+  row_shown rows items is row rest = by rows row.1 (rows_begin rows (steps_shown (row_steps rows) items is))
+    where
+      rows_begin : (rows : Rows) → BeginWith (steps_parts (row_steps rows)) (all_shown items)
+          → BeginWith (row_of (node_at view.nodes view.rank.position) (value_parts rows)) (all_shown items ++ rest)
+      rows_begin rows begins =
+          subst (λ (node : Node). BeginWith (row_of node (value_parts rows)) (all_shown items ++ rest)) (sym row.0) (
+            begins.0 ++ rest,
+            sym (append_assoc (row_of view.node (value_parts rows)) begins.0 rest) ∙ ap (λ (t : List Part). t ++ rest) begins.1,
+          )
+
+      by : (rows : Rows) → IsValueOf rows (node_at view.nodes view.rank.position) view.rank.value
+          → BeginWith (row_of (node_at view.nodes view.rank.position) (value_parts rows)) (all_shown items ++ rest)
+          → IsRow view.logs view.nodes (all_shown items ++ rest)
+      by Longest value begins =
+          inl (
+            view.rank.position,
+            value.0,
+            value.1,
+            subst (λ (n : ℕ). BeginWith (row_of (node_at view.nodes view.rank.position) (words_parts (duration_words n)))
+                (all_shown items ++ rest)) value.2 begins,
+          )
+      by Warned value begins =
+          inr (
+            view.rank.position,
+            subst (λ (n : ℕ). BeginWith (row_of (node_at view.nodes view.rank.position) (NumberPart n ∷ [])) (all_shown items ++ rest))
+                value begins,
+          )
+
+module _ {B : Type 0} (inner : B → View → List Part) (only : Place → B → Bool) (inner_tells : TellsOfViews inner only)
+    (view : View) (values : HasValues view) where
   abbrev Here : List Part → Type 0
   Here parts = Tells view.logs view.nodes parts
 
   bare : (parts : List Part) → Bare parts → Here parts
   bare parts is = bare_tell view.logs view.nodes parts is
 
-  ranks_tell : (block : B) → only InRows block ≡ true → (all ranks : List Rank)
-      → Here (flat_map (λ rank. inner block (row_view view all rank)) ranks)
-  ranks_tell block is all [] = none_tell view.logs view.nodes
-  ranks_tell block is all (rank ∷ ranks) =
-      then_tell view.logs view.nodes (inner_tells.tells InRows block is (row_view view all rank) refl) (ranks_tell block is all ranks)
+  ranks_tell : (rows : Rows) (block : B) → only (InRows rows) block ≡ true → (all ranks : List Rank)
+      → AllByRecursion (IsRank view rows) ranks → Here (flat_map (λ rank. inner block (row_view view all rank)) ranks)
+  ranks_tell rows block is all [] have = none_tell view.logs view.nodes
+  ranks_tell rows block is all (rank ∷ ranks) have =
+      then_tell view.logs view.nodes
+      (inner_tells.tells (InRows rows) block is (row_view view all rank) values (refl, have.0)) (ranks_tell rows block is all ranks have.1)
 
   targets_tell : (block : B) → only InTargets block ≡ true → (nodes : List Node)
       → Here (flat_map (λ node. inner block (target_view view node)) nodes)
   targets_tell block is [] = none_tell view.logs view.nodes
   targets_tell block is (node ∷ nodes) =
-      then_tell view.logs view.nodes (inner_tells.tells InTargets block is (target_view view node) tt) (targets_tell block is nodes)
+      then_tell view.logs view.nodes (inner_tells.tells InTargets block is (target_view view node) values tt) (targets_tell block is nodes)
 
   item_tells : {T : Type 0} (text_of : T → List ℕ) (place : Place) (item : Item T B) → only_known only place item ≡ true
-      → IsNamedRow place view → Here (parts_of_item text_of inner view item)
-  item_tells text_of place (item.Tag tag) is row = tag_tells view.logs view.nodes tag (tag_calm place tag is)
-  item_tells text_of place item.Body is row = bare _ (body_bare view.verdict)
-  item_tells text_of place item.TabTitle is row = bare _ refl
-  item_tells text_of place item.StyleSheet is row = bare _ refl
-  item_tells text_of place (item.Text text) is row = bare _ refl
-  item_tells text_of place (item.Phrase phrase) is row = bare _ refl
-  item_tells text_of place item.Date is row = bare _ (began_bare view.facts.window)
-  item_tells text_of place (item.Tile term) is row = bare _ refl
-  item_tells text_of place item.EndTile is row = bare _ refl
-  item_tells text_of place (item.Number number) is row = bare _ refl
-  item_tells text_of place (item.Measure measure) is row = bare _ (bare_each word_part word_bare (measure_words view measure))
-  item_tells text_of place item.Name is row = bare _ refl
-  item_tells text_of InRows item.Link is row =
+      → is_heading item ≡ false → IsNamedRow place view → Here (parts_of_item text_of inner view item)
+  item_tells text_of place (item.Tag tag) is plain row = tag_tells view.logs view.nodes tag (tag_calm place tag is plain)
+  item_tells text_of place item.Body is plain row = bare _ (body_bare view.verdict)
+  item_tells text_of place item.TabTitle is plain row = bare _ refl
+  item_tells text_of place item.StyleSheet is plain row = bare _ refl
+  item_tells text_of place (item.Text text) is plain row = bare _ refl
+  item_tells text_of place (item.Phrase phrase) is plain row = bare _ refl
+  item_tells text_of place item.Date is plain row = bare _ (began_bare view.facts.window)
+  item_tells text_of place (item.Tile term) is plain row = bare _ refl
+  item_tells text_of place item.EndTile is plain row = bare _ refl
+  item_tells text_of place (item.Number number) is plain row = bare _ refl
+  item_tells text_of place (item.Measure measure) is plain row = bare _ (bare_each word_part word_bare (measure_words view measure))
+  item_tells text_of place item.Name is plain row = bare _ refl
+  item_tells text_of (InRows rows) item.Link is plain row =
       linked_tells view.logs view.nodes (Some view.rank.position) (row_name view)
-      (ap (λ (node : Node). target_at view.logs node.number) row)
-  item_tells text_of Outside item.Link is row = absurd (cc)
-  item_tells text_of InTargets item.Link is row = absurd (cc)
-  item_tells text_of place item.Badge is row = bare _ (badge_bare view.node.status)
-  item_tells text_of place item.Meter is row = bare _ refl
-  item_tells text_of place (item.In (If test) block) is row =
-      tell_if view.logs view.nodes (holds view test) (inner_tells.tells place block is view row)
-  item_tells text_of place (item.In (Unless test) block) is row =
-      tell_if view.logs view.nodes (not (holds view test)) (inner_tells.tells place block is view row)
-  item_tells text_of place (item.In (Each rows) block) is row = ranks_tell block is (rows_of view rows) (rows_of view rows)
-  item_tells text_of place (item.In EachTarget block) is row = targets_tell block is view.nodes
+      (ap (λ (node : Node). target_at view.logs node.number) row.0)
+  item_tells text_of Outside item.Link is plain row = absurd (cc)
+  item_tells text_of InTargets item.Link is plain row = absurd (cc)
+  item_tells text_of place item.Badge is plain row = bare _ (badge_bare view.node.status)
+  item_tells text_of place item.Meter is plain row = bare _ refl
+  item_tells text_of place (item.In (If test) block) is plain row =
+      tell_if view.logs view.nodes (holds view test) (inner_tells.tells place block is view values row)
+  item_tells text_of place (item.In (Unless test) block) is plain row =
+      tell_if view.logs view.nodes (not (holds view test)) (inner_tells.tells place block is view values row)
+  item_tells text_of place (item.In (Each rows) block) is plain row =
+      ranks_tell rows block is (rows_of view rows) (rows_of view rows) (values rows)
+  item_tells text_of place (item.In EachTarget block) is plain row = targets_tell block is view.nodes
 
   items_tell : {T : Type 0} (text_of : T → List ℕ) (place : Place) (items : List (Item T B))
-      → list_all (only_known only place) items ≡ true → IsNamedRow place view → Here (parts_of_items text_of inner view items)
+      → only_rows only place items ≡ true → IsNamedRow place view → Here (parts_of_items text_of inner view items)
   items_tell text_of place [] is row = none_tell view.logs view.nodes
   items_tell text_of place (item ∷ items) is row =
-      let both = and_parts (only_known only place item) (list_all (only_known only place) items) is in
-      then_tell view.logs view.nodes (item_tells text_of place item both.0 row) (items_tell text_of place items both.1 row)
+      let known = and_parts (only_known only place item) ((not (is_heading item) || begin_row place items) && only_rows only place items)
+      is in
+      let rows = and_parts (not (is_heading item) || begin_row place items) (only_rows only place items) known.1 in
+      by (is_heading item) refl known.0 rows.0 (items_tell text_of place items rows.1 row)
+    where
+      here : (place : Place) → begin_row place items ≡ true → IsNamedRow place view → (rest : List Part)
+          → IsRow view.logs view.nodes (parts_of_items text_of inner view items ++ rest)
+      here (InRows rows) is row rest = row_shown text_of inner view rows items is row rest
+      here Outside is row rest = absurd (cc)
+      here InTargets is row rest = absurd (cc)
+
+      by : (heading : Bool) → is_heading item ≡ heading → only_known only place item ≡ true
+          → (not heading || begin_row place items) ≡ true
+          → Here (parts_of_items text_of inner view items) → Here (parts_of_items text_of inner view (item ∷ items))
+      by true heading known begins more =
+          subst (λ (parts : List Part). Here (parts ++ parts_of_items text_of inner view items))
+          (heading_shown text_of inner view item heading)
+          (record { before = λ rest tell. (here place begins row rest, more.before rest tell) })
+      by false plain known begins more = then_tell view.logs view.nodes (item_tells text_of place item known plain row) more
 
 block_tells : {B : Type 0} (inner : B → View → List Part) (only : Place → B → Bool) → TellsOfViews inner only
-    → TellsOfViews (block_parts inner) (block_only only)
+    → TellsOfViews (block_parts inner) (block_rows only)
 block_tells inner only inner_tells = record {
-  tells = λ place block is view row. items_tell inner only inner_tells view (λ text. text.now) place block.now is row;
+  tells = λ place block is view values row. items_tell inner only inner_tells view values (λ text. text.now) place block.now is row;
 }
 
 nothing_tells_any : TellsOfViews nothing none_refer
-nothing_tells_any = record { tells = λ place block is view row. none_tell view.logs view.nodes }
+nothing_tells_any = record { tells = λ place block is view values row. none_tell view.logs view.nodes }
 
-pub template_tells : (template : Template) → template_only template ≡ true → (view : View)
+pub template_tells : (template : Template) → template_rows template ≡ true → (view : View) → HasValues view
     → Tells view.logs view.nodes (template_parts template view)
-template_tells template is view =
+template_tells template is view values =
     (block_tells _ _ (block_tells _ _ (block_tells _ _ (block_tells nothing none_refer nothing_tells_any)))).tells
-    Outside template is view tt
+    Outside template is view values tt
 
 -- ---- the timeline
 
-pub timeline_tells : (view : View) → Tells view.logs view.nodes (timeline_parts view)
-timeline_tells view = by view.facts.window
+pub timeline_tells : (view : View) → HasValues view → Tells view.logs view.nodes (timeline_parts view)
+timeline_tells view values = by view.facts.window
   where
     by : (window : Option Window) → Tells view.logs view.nodes (timeline_if view window)
     by None = none_tell view.logs view.nodes
     by (Some window) =
         tell_if view.logs view.nodes (is_timed view.facts)
-        (then_tell view.logs view.nodes (template_tells START refl view)
+        (then_tell view.logs view.nodes (template_tells START refl view values)
         (then_tell view.logs view.nodes {parts = ChartPart (facts_drawing view.logs view.nodes view.facts window) ∷ []}
-        (calm_tell view.logs view.nodes _ refl) (template_tells END refl view)))
+        (calm_tell view.logs view.nodes _ refl) (template_tells END refl view values)))

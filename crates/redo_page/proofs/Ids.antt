@@ -7,7 +7,7 @@ use Rattle.std.proofs.lemmas.List.{append-nil}
 use Rattle.std.proofs.lemmas.List.Folds.{list_all-append}
 use Rattle.std.proofs.lemmas.Grind.{flat_map-append}
 use Rattle.redo_html.specs.declared.markup.Markup.{Markup}
-use Rattle.redo_html.specs.declared.markup.Markup.TheVariants.{FailedSection, SummarySection, TimelineSection, TreeSection, FailedLink, SummaryLink, TimelineLink, TreeLink, TargetLink, OutputLink, Article, TargetItem, Details, OpenDetails, Small, EndSmall}
+use Rattle.redo_html.specs.declared.markup.Markup.TheVariants.{FailedSection, SummarySection, TimelineSection, TreeSection, FailedLink, SummaryLink, TimelineLink, TreeLink, TargetLink, OutputLink, Article, TargetItem, Details, OpenDetails, Ordered, OrderedFrom, RowHeading, Title1, DescriptionList, Small, EndSmall}
 use Rattle.redo_html.specs.Chart.{drawing_links}
 use Rattle.redo_html.specs.Parts.{Part}
 use Rattle.redo_html.specs.Parts.Part.{MarkupPart, LogPart, TextPart, NumberPart, TitlePart, StylePart, ChartPart, MeterPart}
@@ -22,7 +22,7 @@ use Rattle.redo_units.specs.Durations.{duration_words}
 use Rattle.redo_units.specs.Words.{WordValue}
 use Rattle.redo_units.specs.Words.WordValue.{NumberWord, TextWord}
 
--- Whether a tag begins a section, or leads to one.
+-- Whether a tag begins a section, or leads to one, or begins a heading of the page or a list of terms.
 abbrev pub is_section : Markup → Bool
 is_section FailedSection = true
 is_section SummarySection = true
@@ -32,6 +32,8 @@ is_section FailedLink = true
 is_section SummaryLink = true
 is_section TimelineLink = true
 is_section TreeLink = true
+is_section Title1 = true
+is_section DescriptionList = true
 is_section markup = false
 
 -- Such tags, and charts.
@@ -40,7 +42,7 @@ section (MarkupPart markup) = if is_section markup then MarkupPart markup ∷ []
 section (ChartPart drawing) = ChartPart drawing ∷ []
 section part = []
 
--- Whether a tag has an id of a target, of an article or of a section, or leads to one.
+-- Whether a tag has an id of a target, of an article or of a section, or leads to one, or begins a list of targets or a row of a table.
 abbrev pub is_reference : Markup → Bool
 is_reference (TargetLink number) = true
 is_reference (OutputLink number) = true
@@ -48,6 +50,9 @@ is_reference (Article number) = true
 is_reference (TargetItem number) = true
 is_reference (Details number) = true
 is_reference (OpenDetails number) = true
+is_reference Ordered = true
+is_reference (OrderedFrom number) = true
+is_reference RowHeading = true
 is_reference markup = is_section markup
 
 -- Such tags, text of logs, and charts.

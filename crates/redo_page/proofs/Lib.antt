@@ -31,6 +31,7 @@ mod PageIds
 mod PageLemmas
 mod PageLines
 mod PageNames
+mod PageNumbers
 mod PagePartLemmas
 mod PageRows
 mod PageTags

@@ -15,7 +15,7 @@ use Rattle.redo_page.specs.Laws.{TellsItsTarget, target_name}
 use Rattle.redo_page.specs.Targets.{linked_parts, name_parts, parts_if}
 use Rattle.redo_page.proofs.Ids.{Bare, reference, references}
 
--- Whether a part is no link to a target or to an article, and has no id of one.
+-- Whether a part is no link to a target or to an article, has no id of one, and begins no list and no row of targets.
 abbrev pub is_calm_tag : Markup → Bool
 is_calm_tag (markup.TargetLink number) = false
 is_calm_tag (markup.OutputLink number) = false
@@ -23,6 +23,9 @@ is_calm_tag (markup.Article number) = false
 is_calm_tag (markup.TargetItem number) = false
 is_calm_tag (markup.Details number) = false
 is_calm_tag (markup.OpenDetails number) = false
+is_calm_tag markup.Ordered = false
+is_calm_tag (markup.OrderedFrom number) = false
+is_calm_tag markup.RowHeading = false
 is_calm_tag tag = true
 
 abbrev pub is_calm : Part → Bool
@@ -69,6 +72,9 @@ module _ (logs : List Log) (nodes : List Node) where
       by (markup.TargetItem number) calm = absurd (cc)
       by (markup.Details number) calm = absurd (cc)
       by (markup.OpenDetails number) calm = absurd (cc)
+      by markup.Ordered calm = absurd (cc)
+      by (markup.OrderedFrom number) calm = absurd (cc)
+      by markup.RowHeading calm = absurd (cc)
       by tag calm = (tt, tell)
   calm_part part rest calm tell = (tt, tell)
 
@@ -89,6 +95,9 @@ module _ (logs : List Log) (nodes : List Node) where
       by (markup.TargetItem number) calm = absurd (cc)
       by (markup.Details number) calm = absurd (cc)
       by (markup.OpenDetails number) calm = absurd (cc)
+      by markup.Ordered calm = absurd (cc)
+      by (markup.OrderedFrom number) calm = absurd (cc)
+      by markup.RowHeading calm = absurd (cc)
       by tag calm = refl
   calm_reference part calm = refl
 

@@ -6,7 +6,7 @@ use Rattle.std.proofs.lemmas.Bool.{and_from, and_parts, eqb-false, ltb-true}
 use Rattle.std.proofs.lemmas.List.{append-nil, length-map}
 use Rattle.redo_logs.specs.Logs.{Log}
 use Rattle.redo_html.specs.declared.markup.Markup.{Markup}
-use Rattle.redo_html.specs.declared.markup.Markup.TheVariants.{FailedLink, FailedSection, SummaryLink, SummarySection, TimelineLink, TreeLink, TreeSection}
+use Rattle.redo_html.specs.declared.markup.Markup.TheVariants.{FailedLink, FailedSection, SummaryLink, SummarySection, TimelineLink, TreeLink, TreeSection, Title1, DescriptionList}
 use Rattle.redo_html.specs.Parts.{Part}
 use Rattle.redo_html.specs.Parts.Part.{MarkupPart}
 use Rattle.redo_page.specs.Targets.{parts_if}
@@ -19,7 +19,7 @@ use Rattle.redo_page.specs.declared.frame.TheConstants.{FOOTER, HEAD, HEADER}
 use Rattle.redo_page.specs.declared.scope.Rows.TheVariants.{Longest, Warned}
 use Rattle.redo_page.specs.declared.summary.TheConstants.{SECTION}
 use Rattle.redo_page.specs.Frame.{footer_parts}
-use Rattle.redo_page.specs.Laws.{article_ids, article_links, charts, is_among, numbers_from, page_chart, part_chart, section_id, section_ids, section_link, section_links, target_ids, target_links}
+use Rattle.redo_page.specs.Laws.{article_ids, article_links, charts, is_among, numbers_from, page_chart, part_chart, section_id, section_ids, section_link, section_links, target_ids, target_links, heading_tag}
 use Rattle.redo_page.specs.Page.{Request, options_of, page_contents, page_events, page_facts, page_outline, page_parts, page_view, run_times, top_parts}
 use Rattle.redo_page.specs.Scope.{View}
 use Rattle.redo_page.specs.Summary.{summary_parts}
@@ -81,16 +81,26 @@ section_link_part (MarkupPart markup) = by markup
     by markup = refl
 section_link_part part = refl
 
--- The links to sections: what failed, the summary, the timeline, and the tree.
+heading_tag_part : (part : Part) → flat_map heading_tag (section part) ≡ heading_tag part
+heading_tag_part (MarkupPart markup) = by markup
+  where
+    by : (markup : Markup) → flat_map heading_tag (section (MarkupPart markup)) ≡ heading_tag (MarkupPart markup)
+    by FailedSection = refl
+    by markup = refl
+heading_tag_part part = refl
+
+-- The heading, and the links to sections: what failed, the summary, the timeline, and the tree.
 abbrev links : Bool → Bool → Bool → List Part
 links failed some timed =
-    parts_if failed (MarkupPart FailedLink ∷ [])
-    ++ (MarkupPart SummaryLink ∷ (some_if some (parts_if timed (MarkupPart TimelineLink ∷ []) ++ []) ++ MarkupPart TreeLink ∷ []))
+    MarkupPart Title1
+    ∷ (parts_if failed (MarkupPart FailedLink ∷ [])
+    ++ (MarkupPart SummaryLink ∷ (some_if some (parts_if timed (MarkupPart TimelineLink ∷ []) ++ []) ++ MarkupPart TreeLink ∷ [])))
 
 -- The tags of sections of a page, and its charts, if targets failed, and if a window and most times are known.
 abbrev page_sections : Bool → Bool → Bool → List Part → List Part
 page_sections failed some timed timeline =
-    (links failed some timed ++ (parts_if failed (MarkupPart FailedSection ∷ []) ++ MarkupPart SummarySection ∷ []))
+    (links failed some timed
+    ++ (parts_if failed (MarkupPart FailedSection ∷ []) ++ MarkupPart SummarySection ∷ MarkupPart DescriptionList ∷ []))
     ++ ((timeline ++ MarkupPart TreeSection ∷ []) ++ [])
 
 chart_part : (part : Part) → flat_map part_chart (section part) ≡ part_chart part
@@ -132,6 +142,20 @@ module _ (view : View) where
     where
       by : (failed timed : Bool) (window : Option Window)
           → section_links (sections_of failed timed window) ≡ section_ids (sections_of failed timed window)
+      by true true None = refl
+      by true false None = refl
+      by true true (Some window) = refl
+      by true false (Some window) = refl
+      by false true None = refl
+      by false false None = refl
+      by false true (Some window) = refl
+      by false false (Some window) = refl
+
+  headings_found : flat_map heading_tag view_sections ≡ Title1 ∷ DescriptionList ∷ []
+  headings_found = by (nat_lt 0 (length (root_failures view.nodes))) (is_timed view.facts) view.facts.window
+    where
+      by : (failed timed : Bool) (window : Option Window)
+          → flat_map heading_tag (sections_of failed timed window) ≡ Title1 ∷ DescriptionList ∷ []
       by true true None = refl
       by true false None = refl
       by true true (Some window) = refl
@@ -222,6 +246,9 @@ module _ (have : HavePositions) (lead : BarsLead) (keep : KeepLogs) (request : R
   page_section_links =
       in_sections section_link section_link_part parts ∙ ap section_links page_refers.sections_are ∙ sections_linked view
       ∙ sym (ap section_ids page_refers.sections_are) ∙ sym (in_sections section_id section_id_part parts)
+
+  pub page_headings : flat_map heading_tag parts ≡ Title1 ∷ DescriptionList ∷ []
+  page_headings = in_sections heading_tag heading_tag_part parts ∙ ap (flat_map heading_tag) page_refers.sections_are ∙ headings_found view
 
   charts_are : charts parts ≡ charts (timeline_found view (is_timed facts) facts.window)
   charts_are =

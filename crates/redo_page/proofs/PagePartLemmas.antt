@@ -23,14 +23,14 @@ use Rattle.redo_page.specs.Tree.{articles, root_failures, max_articles}
 whole_part : (parts : List Part) → IsPartOf parts parts
 whole_part parts = record { before = []; after = []; splits = append-nil parts }
 
-part_later : {inner whole : List Part} (front : List Part) → IsPartOf inner whole → IsPartOf inner (front ++ whole)
+pub part_later : {inner whole : List Part} (front : List Part) → IsPartOf inner whole → IsPartOf inner (front ++ whole)
 part_later {inner} front part = record {
   before = front ++ part.before;
   after = part.after;
   splits = append_assoc front part.before (inner ++ part.after) ∙ ap (λ t. front ++ t) part.splits;
 }
 
-part_earlier : {inner whole : List Part} (back : List Part) → IsPartOf inner whole → IsPartOf inner (whole ++ back)
+pub part_earlier : {inner whole : List Part} (back : List Part) → IsPartOf inner whole → IsPartOf inner (whole ++ back)
 part_earlier {inner} back part = record {
   before = part.before;
   after = part.after ++ back;

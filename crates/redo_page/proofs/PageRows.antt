@@ -54,6 +54,10 @@ abbrev is_text : Part → Bool
 is_text (TextPart text) = true
 is_text part = false
 
+abbrev begins_row : Part → Bool
+begins_row (MarkupPart markup.RowHeading) = true
+begins_row part = false
+
 abbrev first_text : List Part → List ℕ
 first_text [] = []
 first_text (TextPart text ∷ parts) = text

@@ -1,15 +1,18 @@
 -- Rows of the summary, as the parts that are written. The values are worked out by hand.
 use Rattle.std.proofs.Common.{◌≡◌, ℕ, Bool, true, false, List, [], ◌∷◌, ◌++◌, Option, None, Some, ℤ, pos, replicate, refl}
+use Rattle.std.specs.Fmt.{digits}
 use Rattle.std.specs.List.{flat_map}
 use Rattle.std.specs.Prelude.{codes, take}
 use Rattle.redo_html.specs.declared.markup.Markup.{Markup}
 use Rattle.redo_html.specs.declared.markup.Markup.TheVariants as markup
 use Rattle.redo_html.specs.Parts.{Part}
 use Rattle.redo_html.specs.Parts.Part.{MarkupPart, MeterPart, TextPart, NumberPart}
+use Rattle.redo_html.specs.Shown.{number_text}
 use Rattle.redo_logs.specs.declared.log_state.LogState.TheVariants.{Ended}
 use Rattle.redo_logs.specs.Logs.{Log}
 use Rattle.redo_outline.specs.declared.node.Node.{Node}
 use Rattle.redo_page.specs.Scope.{View, known_count, largest_of, meter_of, shown_longest}
+use Rattle.redo_page.specs.Laws.{heading_shown, requested_shown, summary_shown}
 use Rattle.redo_page.specs.Page.{build_view}
 use Rattle.redo_page.specs.Summary.{summary_parts}
 use Rattle.redo_page.specs.Template.{nothing, tile_end, tile_start}
@@ -265,6 +268,14 @@ few_words_are :
 unfolding summary_parts duration_words size_words tenths_words
 few_words_are = refl
 
+-- A build of which no time is known: 46.0 kB of text.
+no_times_words_are :
+    flat_map words_of (summary_parts (build_view [] [] [] (log (codes "a") ∷ []) (node 0 None (Some (pos 1)) false ∷ []) unknown))
+    ≡ codes "Summary" ∷ codes "Targets" ∷ codes "Failed" ∷ codes "Lines with warning:" ∷ codes "Logs" ∷ codes "." ∷ codes " kB"
+    ∷ codes "There is no timeline: the logs do not say when the targets ran." ∷ []
+unfolding summary_parts duration_words size_words tenths_words
+no_times_words_are = refl
+
 -- The values in some parts: numbers, and the widths of meters.
 abbrev values_of : Part → List ℕ
 values_of (NumberPart value) = value ∷ []
@@ -313,6 +324,26 @@ warned_words_are :
     ∷ codes "There is no timeline: the logs do not say when the targets ran." ∷ []
 unfolding summary_parts duration_words size_words tenths_words
 warned_words_are = refl
+
+-- What the heading and the summary say. `E2 9C 97` is a ballot cross.
+heading_is :
+    heading_shown nodes
+    ≡ tag markup.Title1 ∷ tag markup.Sign ∷ words (0xE2 ∷ 0x9C ∷ 0x97 ∷ []) ∷ tag markup.EndSign ∷ words (codes " ")
+    ∷ words (codes "1 of 3 targets failed") ∷ tag markup.EndTitle1 ∷ []
+unfolding number_text digits
+heading_is = refl
+
+tiles_are : summary_shown nodes known ≡ tag markup.DescriptionList ∷ all_tiles (tag markup.EndDescriptionList ∷ [])
+unfolding duration_words size_words tenths_words
+tiles_are = refl
+
+-- Only the first target is in no other one.
+requested_are :
+    flat_map (requested_shown logs) nodes
+    ≡ tag markup.Paragraph ∷ tag markup.Bdi ∷ words (codes "all") ∷ tag markup.EndBdi
+    ∷ words (codes " ") ∷ tag markup.ExitBadge ∷ words (codes "exit ") ∷ words [] ∷ number 1 ∷ tag markup.EndBadge
+    ∷ tag markup.EndParagraph ∷ []
+requested_are = refl
 
 nothing_is : nothing (record {}) (view unknown) ≡ []
 nothing_is = refl

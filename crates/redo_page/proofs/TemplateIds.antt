@@ -5,7 +5,7 @@ use Rattle.std.specs.List.{flat_map, list_all}
 use Rattle.std.proofs.lemmas.Bool.{and_parts, lt-ltb}
 use Rattle.redo_outline.specs.declared.node.Node.{Node}
 use Rattle.redo_html.specs.declared.markup.Markup.{Markup}
-use Rattle.redo_html.specs.declared.markup.Markup.TheVariants.{TargetLink, OutputLink, Article, TargetItem, Details, OpenDetails}
+use Rattle.redo_html.specs.declared.markup.Markup.TheVariants.{TargetLink, OutputLink, Article, TargetItem, Details, OpenDetails, RowHeading}
 use Rattle.redo_html.specs.Parts.{Part}
 use Rattle.redo_html.specs.Parts.Part.{MarkupPart}
 use Rattle.redo_page.specs.declared.scope.Rows.{Rows}
@@ -29,15 +29,21 @@ use Rattle.redo_units.specs.Dates.{date_text_of}
 pub data Place : Type 0 where
   Outside : Place
   InTargets : Place
-  InRows : Place
+  InRows : Rows → Place
+
+-- Whether a tag begins a row of a table.
+abbrev pub is_row : Markup → Bool
+is_row RowHeading = true
+is_row markup = false
 
 -- Whether an item has no references, except for tags of sections outside of loops, and for links to the targets of rows.
 abbrev pub only_tag : Place → Markup → Bool
 only_tag Outside markup = not (is_reference markup) || is_section markup
-only_tag place markup = not (is_reference markup)
+only_tag InTargets markup = not (is_reference markup)
+only_tag (InRows rows) markup = not (is_reference markup) || is_row markup
 
 abbrev only_link : Place → Bool
-only_link InRows = true
+only_link (InRows rows) = true
 only_link place = false
 
 module _ {T B : Type 0} (inner : Place → B → Bool) where
@@ -46,7 +52,7 @@ module _ {T B : Type 0} (inner : Place → B → Bool) where
   only_known place item.Link = only_link place
   only_known place (item.In (If test) block) = inner place block
   only_known place (item.In (Unless test) block) = inner place block
-  only_known place (item.In (Each rows) block) = inner InRows block
+  only_known place (item.In (Each rows) block) = inner (InRows rows) block
   only_known place (item.In EachTarget block) = inner InTargets block
   only_known place item = true
 
@@ -80,7 +86,7 @@ template_sections = block_sections (block_sections (block_sections (block_sectio
 abbrev at : Place → List Part → List Part
 at Outside parts = parts
 at InTargets parts = []
-at InRows parts = []
+at (InRows rows) parts = []
 
 tag_bare : (markup : Markup) → not (is_reference markup) ≡ true → Bare (MarkupPart markup ∷ [])
 tag_bare markup is = by (is_reference markup) refl is
@@ -104,7 +110,7 @@ began_bare (Some window) = date_bare (date_text_of (window.began / 1000))
 
 module _ (count : ℕ) (articles : List ℕ) where
   abbrev IsRow : Place → View → Type 0
-  IsRow InRows view = nat_lt view.rank.position count ≡ true
+  IsRow (InRows rows) view = nat_lt view.rank.position count ≡ true
   IsRow place view = Unit {0}
 
   abbrev pub AreRows : View → Type 0
@@ -113,7 +119,7 @@ module _ (count : ℕ) (articles : List ℕ) where
   refer_at : (place : Place) {parts : List Part} → Refer count articles parts [] [] → Refers count articles parts [] [] (at place [])
   refer_at Outside refer = refer
   refer_at InTargets refer = refer
-  refer_at InRows refer = refer
+  refer_at (InRows rows) refer = refer
 
   bare_at : (place : Place) (parts : List Part) → Bare parts → Refers count articles parts [] [] (at place [])
   bare_at place parts bare = refer_at place (bare_refers parts bare)
@@ -122,7 +128,7 @@ module _ (count : ℕ) (articles : List ℕ) where
       → Refers count articles others [] [] (at place more) → Refers count articles (parts ++ others) [] [] (at place (sections ++ more))
   then_at Outside sections more first last = then_refer first last
   then_at InTargets sections more first last = then_refer first last
-  then_at InRows sections more first last = then_refer first last
+  then_at (InRows rows) sections more first last = then_refer first last
 
   tag_refers : (place : Place) (markup : Markup) → only_tag place markup ≡ true
       → Refers count articles (MarkupPart markup ∷ []) [] [] (at place (section (MarkupPart markup)))
@@ -135,7 +141,15 @@ module _ (count : ℕ) (articles : List ℕ) where
   tag_refers Outside markup is =
       record { target_ids_are = refl; article_ids_are = refl; target_links_lead = refl; article_links_lead = refl; sections_are = refl }
   tag_refers InTargets markup is = bare_refers (MarkupPart markup ∷ []) (tag_bare markup is)
-  tag_refers InRows markup is = bare_refers (MarkupPart markup ∷ []) (tag_bare markup is)
+  tag_refers (InRows rows) (TargetLink number) is = absurd (cc)
+  tag_refers (InRows rows) (OutputLink number) is = absurd (cc)
+  tag_refers (InRows rows) (Article number) is = absurd (cc)
+  tag_refers (InRows rows) (TargetItem number) is = absurd (cc)
+  tag_refers (InRows rows) (Details number) is = absurd (cc)
+  tag_refers (InRows rows) (OpenDetails number) is = absurd (cc)
+  tag_refers (InRows rows) RowHeading is =
+      record { target_ids_are = refl; article_ids_are = refl; target_links_lead = refl; article_links_lead = refl; sections_are = refl }
+  tag_refers (InRows rows) markup is = bare_refers (MarkupPart markup ∷ []) (tag_bare markup is)
 
   pub record LeadToRows {B : Type 0} (parts sections : B → View → List Part) (only : Place → B → Bool) : Type 0 where
     pub refer : (place : Place) (block : B) → only place block ≡ true → (view : View) → IsRow place view → AreRows view
@@ -150,12 +164,12 @@ module _ (count : ℕ) (articles : List ℕ) where
 
   module _ {B : Type 0} (inner sections : B → View → List Part) (only : Place → B → Bool) (inner_refers : LeadToRows inner sections only)
       (view : View) (rows_are : AreRows view) where
-    each_row : (block : B) → only InRows block ≡ true → (all ranks : List Rank) → AreRanksBelow count ranks
+    each_row : (rows : Rows) (block : B) → only (InRows rows) block ≡ true → (all ranks : List Rank) → AreRanksBelow count ranks
         → Refer count articles (flat_map (λ rank. inner block (row_view view all rank)) ranks) [] []
-    each_row block is all [] below = bare_refers [] refl
-    each_row block is all (rank ∷ ranks) below =
-        then_refer (inner_refers.refer InRows block is (row_view view all rank) (lt-ltb rank.position count below.0) rows_are)
-        (each_row block is all ranks below.1)
+    each_row rows block is all [] below = bare_refers [] refl
+    each_row rows block is all (rank ∷ ranks) below =
+        then_refer (inner_refers.refer (InRows rows) block is (row_view view all rank) (lt-ltb rank.position count below.0) rows_are)
+        (each_row rows block is all ranks below.1)
 
     each_target : (block : B) → only InTargets block ≡ true → (nodes : List Node)
         → Refer count articles (flat_map (λ node. inner block (target_view view node)) nodes) [] []
@@ -178,7 +192,7 @@ module _ (count : ℕ) (articles : List ℕ) where
     item_refers text_of place (item.Number number) is row = bare_at place _ refl
     item_refers text_of place (item.Measure measure) is row = bare_at place _ (bare_each word_part word_bare (measure_words view measure))
     item_refers text_of place item.Name is row = bare_at place _ refl
-    item_refers text_of InRows item.Link is row = linked_refers (Some view.rank.position) (row_name view) row
+    item_refers text_of (InRows rows) item.Link is row = linked_refers (Some view.rank.position) (row_name view) row
     item_refers text_of Outside item.Link is row = absurd (cc)
     item_refers text_of InTargets item.Link is row = absurd (cc)
     item_refers text_of place item.Badge is row = bare_at place _ (badge_bare view.node.status)
@@ -188,7 +202,7 @@ module _ (count : ℕ) (articles : List ℕ) where
     item_refers text_of place (item.In (Unless test) block) is row =
         if_at place (not (holds view test)) (inner block view) (sections block view) (inner_refers.refer place block is view row rows_are)
     item_refers text_of place (item.In (Each rows) block) is row =
-        refer_at place (each_row block is (rows_of view rows) (rows_of view rows) (rows_are rows))
+        refer_at place (each_row rows block is (rows_of view rows) (rows_of view rows) (rows_are rows))
     item_refers text_of place (item.In EachTarget block) is row = refer_at place (each_target block is view.nodes)
 
     items_refer : {T : Type 0} (text_of : T → List ℕ) (place : Place) (items : List (Item T B))

@@ -1,5 +1,5 @@
 -- What the laws state.
-use Rattle.std.specs.Prelude.{◌≡◌, ◌⊎◌, ℕ, zero, suc, ◌+◌, ◌*◌, ◌^◌, ◌<◌, ◌==◌, ◌||◌, ◌&&◌, nat_le, max, length, Bool, true, not, List, [], ◌∷◌, ◌++◌, map, Option, None, Some, codes, false, nat_eq, take}
+use Rattle.std.specs.Prelude.{◌≡◌, ◌⊎◌, ℕ, zero, suc, ◌+◌, ◌*◌, ◌^◌, ◌<◌, ◌==◌, ◌||◌, ◌&&◌, nat_le, max, length, Bool, true, not, List, [], ◌∷◌, ◌++◌, map, Option, None, Some, is_none, is_some, codes, false, nat_eq, nat_lt, take, if◌then◌else◌}
 use Rattle.std.specs.List.{AllByRecursion, filter, flat_map, list_any, starts_with}
 use Rattle.redo_line.specs.declared.entry.Entry.TheVariants.{Text, Done, Note}
 use Rattle.redo_line.specs.declared.entry.How.{How}
@@ -9,32 +9,41 @@ use Rattle.redo_view.specs.Event.{Event}
 use Rattle.redo_view.specs.LogLines.{text_lines}
 use Rattle.redo_view.specs.Event.Event.{Requested, Mentioned, EntryShown}
 use Rattle.redo_html.specs.declared.markup.Markup.{Markup}
-use Rattle.redo_html.specs.declared.markup.Markup.TheVariants.{BodyBad, BodyGood, BodyOpen, FailedSection, SummarySection, TimelineSection, TreeSection, FailedLink, SummaryLink, TimelineLink, TreeLink, TargetLink, EndLink, OutputLink, Article, TargetItem, Details, OpenDetails, Summary, Title3, EndTitle3, MetaParagraph}
+use Rattle.redo_html.specs.declared.markup.Markup.TheVariants.{BodyBad, BodyGood, BodyOpen, FailedSection, SummarySection, TimelineSection, TreeSection, FailedLink, SummaryLink, TimelineLink, TreeLink, TargetLink, EndLink, OutputLink, Article, TargetItem, Details, OpenDetails, Summary, Title3, EndTitle3, MetaParagraph, Paragraph, EndParagraph, Ordered, OrderedFrom, EndOrdered, Item, EndItem, RowHeading, EndRowHeading, NumberCell, EndCell, Title1, EndTitle1, Sign, EndSign, DescriptionList, EndDescriptionList, Div, EndDiv, Term, EndTerm, Description, EndDescription, Code, EndCode}
 use Rattle.redo_html.specs.declared.chart.GroupKind.{GroupKind}
 use Rattle.redo_html.specs.Chart.{Drawing, drawing_links}
-use Rattle.redo_html.specs.Html.{is_one_of}
+use Rattle.redo_html.specs.Html.{Token, is_one_of, read}
 use Rattle.redo_html.specs.Laws.{IsChartTag, is_highlight}
-use Rattle.redo_html.specs.Parts.{Part}
-use Rattle.redo_html.specs.Parts.Part.{MarkupPart, LogPart, TextPart, TitlePart, ChartPart}
+use Rattle.redo_html.specs.Parts.{Part, part_tokens}
+use Rattle.redo_html.specs.Parts.Part.{MarkupPart, LogPart, TextPart, NumberPart, TitlePart, ChartPart}
+use Rattle.redo_html.specs.Shown.{number_text}
 use Rattle.redo_html.specs.Tags.{markup_text}
 use Rattle.redo_outline.specs.declared.node.Node.{Node}
 use Rattle.redo_outline.specs.Contents.{Contents, contents_of}
 use Rattle.redo_outline.specs.Contents.Contents.{Nothing, Shown, Opened}
 use Rattle.redo_outline.specs.Facts.{target_at, target_status, text_size}
 use Rattle.redo_outline.specs.Outline.{log_count}
-use Rattle.redo_page.specs.declared.labels.TheConstants.{IN_ITS_LOG, PLACE_IN_TREE, SHOWN_ABOVE}
-use Rattle.redo_page.specs.Failed.{article_parts, article_took, is_dependent_failure}
-use Rattle.redo_page.specs.Page.{Request, options_of, page_contents, page_events, page_facts, page_outline}
+use Rattle.redo_page.specs.declared.labels.TheConstants.{ABOVE, AND_COUNT, AS_ONE_TEXT, AT_MOST, AT_ONCE, BUILD_TOOK, FAILED, FAILED_SIGN, IN_ITS_LOG, LOGS, LOGS_IN, LOG_IN, MADE_SIGN, OF, PLACE_IN_TREE, SHOWN_ABOVE, SUM_OF_TIMES, TARGETS, TARGETS_BEGUN, TARGETS_FAILED, TARGETS_MADE, TARGET_BEGUN, TARGET_FAILED, TARGET_MADE, TOOK, UNFINISHED_SIGN, WARNED_LINES}
+use Rattle.redo_page.specs.Command.{command}
+use Rattle.redo_page.specs.Errors.{cause_of}
+use Rattle.redo_page.specs.Failed.{article_parts, article_took, cause_parts, is_dependent_failure, max_path, path_parts, positions_where, printed_by}
+use Rattle.redo_page.specs.Page.{Request, options_of, page_contents, page_events, page_facts, page_html, page_outline}
+use Rattle.redo_page.specs.Scope.{began_parts}
 use Rattle.redo_page.specs.Timeline.{facts_drawing}
 use Rattle.redo_chart.specs.Laws.{DrawsAll, shapes_of}
-use Rattle.redo_summary.specs.Summary.{is_timed}
+use Rattle.redo_summary.specs.Summary.{Facts, is_timed}
 use Rattle.redo_summary.specs.Targets.{duration_of, times_of}
+use Rattle.redo_summary.specs.Window.{cut}
 use Rattle.redo_timeline.specs.declared.span.Span.{Span}
 use Rattle.redo_timeline.specs.declared.span.Window.{Window}
 use Rattle.redo_times.specs.declared.times.Times.{Times}
-use Rattle.redo_page.specs.Tree.{Build, has_failed, is_moved_if, is_root_failure, is_same_position, node_at, tree_parts}
+use Rattle.redo_page.specs.Tree.{Build, has_failed, is_moved_if, is_root_failure, is_same_position, node_at, root_failures, tree_parts}
+use Rattle.redo_page.specs.Verdict.{is_unfinished}
 use Rattle.redo_page.specs.Limits.{tree_limits}
-use Rattle.redo_page.specs.Targets.{badge_parts, facts_parts, how_parts, name_parts}
+use Rattle.redo_page.specs.Targets.{badge_parts, facts_parts, how_parts, name_parts, parts_if, plural}
+use Rattle.redo_page.specs.Words.{words_parts}
+use Rattle.redo_units.specs.Durations.{duration_words}
+use Rattle.redo_units.specs.Sizes.{size_words, tenths_words}
 use Rattle.redo_trim.specs.declared.limit.Limit.{Limit}
 use Rattle.redo_trim.specs.Trim.{limit_of}
 
@@ -160,15 +169,47 @@ module _ (logs : List Log) (nodes : List Node) where
       ⊎ ((how : How)
       × BeginWith (start ++ (name_parts (target_name position) ++ (how_parts true how ++ facts_parts (node_at nodes position)))) after)
 
-  -- An article begins with this name, the status of the target, and how long it took.
+  -- An article begins with this name, the status of the target, how long it took, the logs around it, and a link to its place.
   abbrev pub IsArticleHeading : ℕ → List Part → Type 0
   IsArticleHeading position after =
       BeginWith (MarkupPart Title3
       ∷ (name_parts (target_name position)
       ++ (badge_parts (node_at nodes position).status
-      ++ (MarkupPart EndTitle3 ∷ MarkupPart MetaParagraph ∷ article_took (node_at nodes position).took)))) after
+      ++ (MarkupPart EndTitle3 ∷ MarkupPart MetaParagraph
+      ∷ (article_took (node_at nodes position).took
+      ++ (path_parts logs nodes (max_path logs nodes) (node_at nodes position).parent
+      ++ MarkupPart (TargetLink position) ∷ TextPart PLACE_IN_TREE.now ∷ MarkupPart EndLink ∷ MarkupPart EndParagraph ∷ []))))))
+      after
 
-  -- What follows a link to a target or to its article, and a tag with the id of one of these.
+  -- An item of a list: a link with the name of its target, the status of the target, and maybe why it failed.
+  abbrev pub list_item : (ℕ → Markup) → Bool → ℕ → List Part
+  list_item link causes position =
+      MarkupPart Item ∷ MarkupPart (link position)
+      ∷ (name_parts (target_name position)
+      ++ (MarkupPart EndLink
+      ∷ (badge_parts (node_at nodes position).status
+      ++ (parts_if causes (cause_parts (cause_of (printed_by logs (node_at nodes position)))) ++ MarkupPart EndItem ∷ []))))
+
+  abbrev pub IsList : (ℕ → Markup) → List Part → Type 0
+  IsList link after =
+      (causes : Bool) × (positions : List ℕ) × BeginWith (flat_map (list_item link causes) positions ++ MarkupPart EndOrdered ∷ []) after
+
+  -- A row of a table: a link with the name of its target, the status of the target, and a value.
+  abbrev pub IsRowWith : List Part → ℕ → List Part → Type 0
+  IsRowWith value position after =
+      BeginWith (MarkupPart (TargetLink position)
+      ∷ (name_parts (target_name position)
+      ++ (MarkupPart EndLink
+      ∷ (badge_parts (node_at nodes position).status
+      ++ (MarkupPart EndRowHeading ∷ MarkupPart NumberCell ∷ (value ++ MarkupPart EndCell ∷ [])))))) after
+
+  -- The value is how long the target took, or how many warnings it has.
+  abbrev pub IsRow : List Part → Type 0
+  IsRow after =
+      ((position : ℕ) × (took : ℕ) × ((node_at nodes position).took ≡ Some took) × IsRowWith (words_parts (duration_words (cut took))) position after)
+      ⊎ ((position : ℕ) × IsRowWith (NumberPart (node_at nodes position).warnings ∷ []) position after)
+
+  -- What follows a link to a target or to its article, a tag with the id of one of these, and the start of a list of targets or of a row.
   abbrev pub TellsItsTarget : Markup → List Part → Type 0
   TellsItsTarget (TargetLink position) after = IsLinkText (PLACE_IN_TREE.now ∷ IN_ITS_LOG.now ∷ []) position after
   TellsItsTarget (OutputLink position) after = IsLinkText (SHOWN_ABOVE.now ∷ []) position after
@@ -176,6 +217,9 @@ module _ (logs : List Log) (nodes : List Node) where
   TellsItsTarget (Details position) after = IsLogHeading (MarkupPart Summary ∷ []) position after
   TellsItsTarget (OpenDetails position) after = IsLogHeading (MarkupPart Summary ∷ []) position after
   TellsItsTarget (Article position) after = IsArticleHeading position after
+  TellsItsTarget Ordered after = IsList (λ position. OutputLink position) after ⊎ IsList (λ position. TargetLink position) after
+  TellsItsTarget (OrderedFrom number) after = IsList (λ position. TargetLink position) after
+  TellsItsTarget RowHeading after = IsRow after
   TellsItsTarget tag after = Unit {0}
 
 -- What is known of the target of a node: its log has the node's number, and its status and its times are those that the logs say.
@@ -184,6 +228,82 @@ pub record IsOfTarget (logs : List Log) (events : List Event) (times : List Time
   pub status : node.status ≡ target_status logs events node.number
   pub took : node.took ≡ duration_of times node.number
   pub ended : node.ended ≡ (times_of times node.number).ended
+
+-- ---- numbers
+
+-- A number, and words that depend on it.
+abbrev pub number_of : ℕ → List ℕ → List ℕ → List ℕ
+number_of number one many = number_text number ++ plural number one many
+
+-- A heading, with a sign before it.
+abbrev pub heading_with : List ℕ → List ℕ → List Part
+heading_with sign text =
+    MarkupPart Title1 ∷ MarkupPart Sign ∷ TextPart sign ∷ MarkupPart EndSign ∷ TextPart (codes " ") ∷ TextPart text ∷ MarkupPart EndTitle1 ∷ []
+
+-- A term, and what it is.
+abbrev pub tile : List ℕ → List Part → List Part
+tile term value =
+    MarkupPart Div ∷ MarkupPart Term ∷ TextPart term ∷ MarkupPart EndTerm ∷ MarkupPart Description
+    ∷ (value ++ MarkupPart EndDescription ∷ MarkupPart EndDiv ∷ [])
+
+-- The tags that begin a heading of the page, or a list of terms.
+abbrev pub heading_tag : Part → List Markup
+heading_tag (MarkupPart Title1) = Title1 ∷ []
+heading_tag (MarkupPart DescriptionList) = DescriptionList ∷ []
+heading_tag part = []
+
+module _ (nodes : List Node) where
+  -- The number of targets that failed without a failure below them, and the number of targets that failed with these.
+  abbrev pub root_count : ℕ
+  root_count = length (root_failures nodes)
+
+  abbrev pub dependent_count : ℕ
+  dependent_count = length (positions_where is_dependent_failure 0 nodes)
+
+  -- What the heading says: how many targets failed; else how many began, if a requested one isn't closed; else how many were made.
+  abbrev pub heading_shown : List Part
+  heading_shown =
+      if nat_lt 0 root_count then heading_with FAILED_SIGN.now (number_text root_count ++ (OF.now ++ number_of (length nodes) TARGET_FAILED.now TARGETS_FAILED.now))
+      else if list_any is_unfinished nodes then heading_with UNFINISHED_SIGN.now (number_of (length nodes) TARGET_BEGUN.now TARGETS_BEGUN.now)
+      else heading_with MADE_SIGN.now (number_of (length nodes) TARGET_MADE.now TARGETS_MADE.now)
+
+  -- What the summary says. Times are left out if they aren't known.
+  abbrev pub summary_shown : Facts → List Part
+  summary_shown facts =
+      MarkupPart DescriptionList
+      ∷ ((tile TARGETS.now (NumberPart (length nodes) ∷ [])
+      ++ (tile FAILED.now (NumberPart root_count ∷ parts_if (not (dependent_count == 0)) (TextPart AND_COUNT.now ∷ NumberPart dependent_count ∷ TextPart ABOVE.now ∷ []))
+      ++ (tile WARNED_LINES.now (NumberPart facts.warnings ∷ [])
+      ++ (tile LOGS.now (words_parts (size_words facts.bytes))
+      ++ (parts_if (is_some facts.window) (tile TOOK.now (words_parts (duration_words facts.took)))
+      ++ parts_if (is_timed facts)
+      (tile SUM_OF_TIMES.now (words_parts (duration_words facts.sum))
+      ++ tile AT_ONCE.now (words_parts (tenths_words facts.sum facts.took) ++ TextPart AT_MOST.now ∷ NumberPart facts.most ∷ [])))))))
+      ++ MarkupPart EndDescriptionList ∷ [])
+
+-- When the build began, if this has a date, and how long it took, if any time is known.
+abbrev pub took_shown : Facts → List Part
+took_shown facts =
+    parts_if (is_some facts.window)
+    (MarkupPart MetaParagraph ∷ (began_parts facts.window ++ TextPart BUILD_TOOK.now ∷ (words_parts (duration_words facts.took) ++ MarkupPart EndParagraph ∷ [])))
+
+-- The name and the status of a target, if it was requested and its log is in no other one.
+abbrev pub requested_shown : List Log → Node → List Part
+requested_shown logs node =
+    parts_if (is_none node.parent)
+    (MarkupPart Paragraph ∷ (name_parts (target_at logs node.number) ++ (badge_parts node.status ++ MarkupPart EndParagraph ∷ [])))
+
+-- How many logs the page shows, from which directory, and the command that prints them as text.
+abbrev pub end_shown : Request → List (List ℕ) → List Node → List Part
+end_shown request requested nodes =
+    NumberPart (length nodes) ∷ TextPart (plural (length nodes) LOG_IN.now LOGS_IN.now) ∷ MarkupPart Code ∷ TextPart request.dir ∷ MarkupPart EndCode
+    ∷ TextPart AS_ONE_TEXT.now ∷ MarkupPart Code ∷ TextPart (command request.dir (options_of request) requested) ∷ MarkupPart EndCode ∷ []
+
+-- A browser reads these parts in a page, next to each other.
+pub record IsRead (inner : List Part) (request : Request) (logs : List Log) (requested : List (List ℕ)) : Type 0 where
+  pub before : List Token
+  pub after : List Token
+  pub splits : before ++ (flat_map part_tokens inner ++ after) ≡ read (page_html request logs requested)
 
 -- ---- what failed
 

@@ -4,7 +4,7 @@ ghost use Rattle.std.specs.List.{All, AllByRecursion, IsDistinct, flat_map, list
 ghost use Rattle.std.specs.List.Sorted.{IsPermutation};
 ghost use Rattle.redo_html.specs.Html.{nests_in, read, tags_of, text_of};
 ghost use Rattle.redo_html.specs.declared.markup.Markup.{Markup};
-ghost use Rattle.redo_html.specs.declared.markup.Markup.TheVariants.{EndDetails};
+ghost use Rattle.redo_html.specs.declared.markup.Markup.TheVariants.{DescriptionList, EndDetails, Title1};
 ghost use Rattle.redo_html.specs.Laws.{markup_tag};
 ghost use Rattle.redo_html.specs.Parts.{Part, part_text, part_tokens};
 ghost use Rattle.redo_html.specs.Parts.Part.{MarkupPart};
@@ -13,7 +13,7 @@ ghost use Rattle.redo_options.specs.declared.options.Options.{Options};
 ghost use Rattle.redo_view.specs.View.{find_unknown};
 ghost use Rattle.redo_outline.specs.declared.node.Node.{Node};
 ghost use Rattle.redo_outline.specs.Contents.{Contents};
-ghost use Rattle.redo_page.specs.Laws.{AreInOrderOfEnd, ContainRoots, HaveSameLogs, IsOfTarget, IsOwnTag, IsPartOf, IsRed, ShowsItsLines, AreCountable, budget_of_tree, TellsItsTarget, article_ids, article_links, blanked, event_lines, is_among, kept_lines, lines_at, log_bytes, markups, numbers_from, page_article, page_chart, page_lines, page_tree, positioned_bytes, section_ids, section_links, target_ids, target_links, texts_of, unmoved_lines, charts, ChartDraws, HasTimeline, first, page_limit, says_failed, shows_failure, title_in};
+ghost use Rattle.redo_page.specs.Laws.{AreInOrderOfEnd, ContainRoots, HaveSameLogs, IsOfTarget, IsOwnTag, IsPartOf, IsRead, IsRed, ShowsItsLines, AreCountable, budget_of_tree, TellsItsTarget, article_ids, article_links, blanked, event_lines, is_among, kept_lines, lines_at, log_bytes, markups, numbers_from, page_article, page_chart, page_lines, page_tree, positioned_bytes, section_ids, section_links, target_ids, target_links, texts_of, unmoved_lines, charts, ChartDraws, HasTimeline, end_shown, first, heading_shown, heading_tag, requested_shown, summary_shown, took_shown, page_limit, says_failed, shows_failure, title_in};
 ghost use Rattle.redo_page.specs.Failed.{is_dependent_failure, positions_where};
 ghost use Rattle.redo_page.specs.Limits.{bytes_shown, highest_cap};
 ghost use Rattle.redo_page.specs.Page.{Request, page_build, page_events, page_facts, page_html, page_outline, page_parts};
@@ -33,7 +33,8 @@ use redo_html::{
 };
 use redo_outline::{events_are_in_contents, nodes_sum_up_logs_below};
 use redo_summary::{
-    positions_are_of_nodes, spans_are_callers_or_recipes, window_is_over_known_times,
+    positions_are_of_nodes, ranks_have_values_of_targets, spans_are_callers_or_recipes,
+    window_is_over_known_times,
 };
 use redo_trim::{head_and_tail_are_kept, trimmed_events_are_in_tree, unlimited_logs_are_whole};
 use redo_view::{each_log_once, logs_show_their_lines};
@@ -79,14 +80,43 @@ pub fn links_lead_to_ids()
 }
 
 /// Each link to a log or to an article has the name of its target as text, or one of the page's own texts. Each log in the tree, and each
-/// article, begins with the name of its target, its status and how long it took. These are what the logs say.
+/// article, begins with the name of its target, its status and how long it took. Each item of a list has the name of a target and its
+/// status, and each row of a table has how long it took too, or its number of warnings. These are what the logs say. The page names the
+/// requested targets, with their statuses.
 pub fn targets_have_their_names()
     ensures names { (request : Request) (logs : List Log) (requested : List (List ℕ)) →
         (before : List Part) (tag : Markup) (after : List Part) → before ++ (MarkupPart tag ∷ after) ≡ page_parts request logs requested →
         TellsItsTarget logs (page_outline request logs requested) tag after }
     ensures targets { (request : Request) (logs : List Log) (requested : List (List ℕ)) →
         AllByRecursion (IsOfTarget logs (page_events request logs requested) request.times) (page_outline request logs requested) }
-{}
+    ensures requested { (request : Request) (logs : List Log) (requested : List (List ℕ)) →
+        IsRead (flat_map (requested_shown logs) (page_outline request logs requested)) request logs requested }
+{
+    page_is_read();
+    ranks_have_values_of_targets();
+}
+
+/// The heading of a page says how many targets failed; else how many began, if a requested one isn't closed; else how many were made. The
+/// summary has the numbers of targets, of failures and of lines with warnings, the size of all text lines, and times, if they are known. A
+/// page has one heading and one such list. It says when the build began and how long it took, if any time is known. Its
+/// last line has the number of logs, the capture directory, and the command that prints the same logs as text.
+pub fn numbers_are_shown()
+    ensures heading { (request : Request) (logs : List Log) (requested : List (List ℕ)) →
+        IsRead (heading_shown (page_outline request logs requested)) request logs requested }
+    ensures summary { (request : Request) (logs : List Log) (requested : List (List ℕ)) →
+        IsRead (summary_shown (page_outline request logs requested) (page_facts request logs requested)) request logs requested }
+    ensures took { (request : Request) (logs : List Log) (requested : List (List ℕ)) →
+        IsRead (took_shown (page_facts request logs requested)) request logs requested }
+    ensures command { (request : Request) (logs : List Log) (requested : List (List ℕ)) →
+        IsRead (end_shown request requested (page_outline request logs requested)) request logs requested }
+    ensures once { (request : Request) (logs : List Log) (requested : List (List ℕ)) →
+        flat_map heading_tag (page_parts request logs requested) ≡ Title1 ∷ DescriptionList ∷ [] }
+{
+    page_is_read();
+    positions_are_of_nodes();
+    bars_lead_to_positions();
+    trimmed_events_are_in_tree();
+}
 
 /// The body of a page has the colours of a failed build, and its title the sign of one, exactly if a target that the page shows failed.
 pub fn failed_builds_are_red()

@@ -31,8 +31,9 @@ mod words;
 mod writer;
 
 pub use laws::{
-    failed_builds_are_red, failures_are_listed, lines_are_shown, links_lead_to_ids, page_is_read,
-    tags_are_its_own, tags_nest, targets_have_their_names, times_are_shown,
+    cap_is_highest, failed_builds_are_red, failures_are_listed, lines_are_shown, links_lead_to_ids,
+    numbers_are_shown, page_is_read, tags_are_its_own, tags_nest, targets_have_their_names,
+    times_are_shown,
 };
 pub use page::{PageRequest, write_page};
 pub use redo_view::FormFault;

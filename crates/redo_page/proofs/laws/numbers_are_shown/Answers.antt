@@ -1,0 +1,23 @@
+use Rattle.redo_page.proofs.PageIds.{page_headings}
+use Rattle.redo_page.proofs.PageNumbers.{end_read, heading_read, summary_read, took_read}
+use Rattle.redo_page.proofs.laws.numbers_are_shown.Goals as goal
+
+pub returns-clause-heading : goal.returns-clause-heading
+returns-clause-heading c = λ request logs requested.
+    heading_read request logs requested (c.page_is_read.ensures.parts request logs requested)
+
+pub returns-clause-summary : goal.returns-clause-summary
+returns-clause-summary c = λ request logs requested.
+    summary_read request logs requested (c.page_is_read.ensures.parts request logs requested)
+
+pub returns-clause-took : goal.returns-clause-took
+returns-clause-took c = λ request logs requested.
+    took_read request logs requested (c.page_is_read.ensures.parts request logs requested)
+
+pub returns-clause-command : goal.returns-clause-command
+returns-clause-command c = λ request logs requested.
+    end_read request logs requested (c.page_is_read.ensures.parts request logs requested)
+
+pub returns-clause-once : goal.returns-clause-once
+returns-clause-once c = page_headings c.positions_are_of_nodes.ensures c.bars_lead_to_positions.ensures
+    c.trimmed_events_are_in_tree.ensures.logs
