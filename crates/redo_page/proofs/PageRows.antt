@@ -1,8 +1,9 @@
 -- Rows of whole pages, as the parts that are written. The model in tests/page gives the same tags and texts.
-use Rattle.std.proofs.Common.{Bor, ◌≡◌, ℕ, Bool, true, false, List, [], ◌∷◌, ◌++◌, map, Option, None, Some, pos, length, replicate, refl}
+use Rattle.std.proofs.Common.{Bor, ◌≡◌, ℕ, Bool, true, false, List, [], ◌∷◌, ◌++◌, map, Option, None, Some, pos, length, replicate, refl, sym, ◌∙◌, ap, inl, inr, ◌⊎◌}
 use Rattle.std.specs.Fmt.{digits}
 use Rattle.std.specs.List.{filter, flat_map, starts_with}
 use Rattle.std.specs.Prelude.{bytes_eq, codes, nat_eq, sum_by, take, if◌then◌else◌}
+use Rattle.std.proofs.lemmas.List.{append_assoc}
 use Rattle.redo_line.specs.declared.entry.Entry.{Entry}
 use Rattle.redo_line.specs.declared.entry.Entry.TheVariants.{Text, Mention, Closing}
 use Rattle.redo_line.specs.declared.entry.How.TheVariants.{Made}
@@ -29,7 +30,7 @@ use Rattle.redo_page.specs.Failed.{article_of, article_parts, article_row, cause
 use Rattle.redo_page.specs.Command.{is_safe}
 use Rattle.redo_page.specs.Frame.{footer_parts}
 use Rattle.redo_page.specs.Summary.{summary_parts}
-use Rattle.redo_page.specs.Laws.{article_ids, article_links, log_bytes, positioned_lines}
+use Rattle.redo_page.specs.Laws.{article_ids, article_links, log_bytes, positioned_lines, BeginWith, IsList, list_item}
 use Rattle.redo_page.specs.Page.{Request, body_parts, options_of, page_contents, page_events, page_facts, page_html, page_outline, page_parts, page_view, request_of, run_times, top_parts, tree_contents}
 use Rattle.redo_timeline.specs.declared.span.Window.{Window}
 use Rattle.redo_units.specs.Dates as dates
@@ -58,6 +59,14 @@ abbrev begins_row : Part → Bool
 begins_row (MarkupPart markup.RowHeading) = true
 begins_row part = false
 
+abbrev begins_list : Part → Bool
+begins_list (MarkupPart markup.Ordered) = true
+begins_list part = false
+
+abbrev begins_item : Part → Bool
+begins_item (MarkupPart markup.Item) = true
+begins_item part = false
+
 abbrev first_text : List Part → List ℕ
 first_text [] = []
 first_text (TextPart text ∷ parts) = text
@@ -74,6 +83,33 @@ after_first is (part ∷ parts) = if is part then parts else after_first is part
 
 abbrev log : List ℕ → List Entry → Log
 log target entries = record { target = target; entries = entries; state = Ended }
+
+-- The first item of a list, or its end.
+module _ (logs : List Log) (nodes : List Node) (link : ℕ → Markup) (after : List Part) where
+  abbrev FirstItem : Type 0
+  FirstItem =
+      ((causes : Bool) × (position : ℕ) × BeginWith (list_item logs nodes link causes position) after)
+      ⊎ BeginWith (MarkupPart markup.EndOrdered ∷ []) after
+
+  pub first_item : IsList logs nodes link after → FirstItem
+  first_item (causes, positions, begins) = by positions begins
+    where
+      by : (positions : List ℕ)
+          → BeginWith (flat_map (list_item logs nodes link causes) positions ++ MarkupPart markup.EndOrdered ∷ []) after → FirstItem
+      by [] begins = inr begins
+      by (position ∷ positions) begins =
+          let item = list_item logs nodes link causes position in
+          let others = flat_map (list_item logs nodes link causes) positions in
+          let end = MarkupPart markup.EndOrdered ∷ [] in
+          inl (
+            causes,
+            position,
+            (
+              (others ++ end) ++ begins.0,
+              sym (ap (λ (t : List Part). t ++ begins.0) (append_assoc item others end) ∙ append_assoc item (others ++ end) begins.0)
+                  ∙ begins.1,
+            ),
+          )
 
 -- ---- what is asked
 
