@@ -12,7 +12,7 @@ use Rattle.redo_html.specs.Parts.Part.{MarkupPart, TextPart, NumberPart}
 use Rattle.redo_html.specs.Shown.{number_text}
 use Rattle.redo_outline.specs.declared.node.Node.{Node}
 use Rattle.redo_page.specs.declared.frame.TheConstants.{HEADER}
-use Rattle.redo_page.specs.declared.labels.TheConstants.{ABOVE, AND_COUNT, AT_MOST, AT_ONCE, FAILED, FAILED_SIGN, LOGS, MADE_BY, MADE_SIGN, OF, PROGRAM, SUM_OF_TIMES, SUMMARY, TARGETS, TARGETS_BEGUN, TARGETS_FAILED, TARGETS_MADE, TARGET_BEGUN, TARGET_FAILED, TARGET_MADE, TOOK, UNFINISHED_SIGN, WARNED_LINES}
+use Rattle.redo_page.specs.declared.labels.TheConstants.{AND_COUNT, AT_MOST, AT_ONCE, DEPENDENT, FAILED, FAILED_SIGN, LOGS, MADE_BY, MADE_SIGN, OF, PROGRAM, SUM_OF_TIMES, SUMMARY, TARGETS, TARGETS_FAILED, TARGETS_MADE, TARGETS_UNFINISHED, TARGET_FAILED, TARGET_MADE, TARGET_UNFINISHED, TOOK, UNFINISHED_SIGN, WARNED_LINES}
 use Rattle.redo_page.specs.declared.summary.TheConstants.{SECTION}
 use Rattle.redo_page.specs.declared.verdict.Verdict.{Verdict}
 use Rattle.redo_page.specs.declared.verdict.Verdict.TheVariants.{Failed, Unfinished, Made}
@@ -24,7 +24,7 @@ use Rattle.redo_page.specs.Scope.{View}
 use Rattle.redo_page.specs.Summary.{summary_parts}
 use Rattle.redo_page.specs.Targets.{parts_if}
 use Rattle.redo_page.specs.Template.{block_parts, nothing, parts_of_items}
-use Rattle.redo_page.specs.Verdict.{is_unfinished, sign_text, verdict_of, verdict_text}
+use Rattle.redo_page.specs.Verdict.{is_unfinished, sign_text, unfinished_count, verdict_of, verdict_text}
 use Rattle.redo_page.specs.Words.{words_parts}
 use Rattle.redo_page.specs.Tree.{root_failures}
 use Rattle.redo_page.proofs.PagePartLemmas.{part_earlier, part_later}
@@ -41,7 +41,8 @@ abbrev heading_if : List Node → Bool → Bool → List Part
 heading_if nodes failed unfinished =
     if failed then heading_with FAILED_SIGN.now
     (number_text (root_count nodes) ++ (OF.now ++ number_of (length nodes) TARGET_FAILED.now TARGETS_FAILED.now))
-    else if unfinished then heading_with UNFINISHED_SIGN.now (number_of (length nodes) TARGET_BEGUN.now TARGETS_BEGUN.now)
+    else if unfinished then heading_with UNFINISHED_SIGN.now
+    (number_text (unfinished_count nodes) ++ (OF.now ++ number_of (length nodes) TARGET_UNFINISHED.now TARGETS_UNFINISHED.now))
     else heading_with MADE_SIGN.now (number_of (length nodes) TARGET_MADE.now TARGETS_MADE.now)
 
 heading_is : (nodes : List Node) → heading_with (sign_text (verdict_of nodes)) (heading_of nodes) ≡ heading_shown nodes
@@ -133,7 +134,7 @@ module _ (request : Request) (logs : List Log) (requested : List (List ℕ)) whe
       let roots = NumberPart (length (root_failures nodes)) in
       let dependent_count = length (positions_where is_dependent_failure 0 nodes) in
       let dependents = parts_if (not (dependent_count == 0))
-      (TextPart AND_COUNT.now ∷ NumberPart dependent_count ∷ TextPart ABOVE.now ∷ []) in
+      (TextPart AND_COUNT.now ∷ NumberPart dependent_count ∷ TextPart DEPENDENT.now ∷ []) in
       let rest = parts_of_items (λ text. text.now) (block_parts (block_parts (block_parts nothing))) view (drop 21 SECTION.now) in
       let timed = parts_if (is_timed facts) (term_of SUM_OF_TIMES.now (sum ++ ended (term_of AT_ONCE.now
       (at ++ (TextPart AT_MOST.now ∷ NumberPart facts.most ∷ ended []))))) in

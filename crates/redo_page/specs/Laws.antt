@@ -23,7 +23,7 @@ use Rattle.redo_outline.specs.Contents.{Contents, contents_of}
 use Rattle.redo_outline.specs.Contents.Contents.{Nothing, Shown, Opened}
 use Rattle.redo_outline.specs.Facts.{target_at, target_status, text_size}
 use Rattle.redo_outline.specs.Outline.{log_count}
-use Rattle.redo_page.specs.declared.labels.TheConstants.{ABOVE, AND_COUNT, AS_ONE_TEXT, AT_MOST, AT_ONCE, BUILD_TOOK, FAILED, FAILED_SIGN, IN_ITS_LOG, LOGS, LOGS_IN, LOG_IN, MADE_SIGN, OF, PLACE_IN_TREE, SHOWN_ABOVE, SUM_OF_TIMES, TARGETS, TARGETS_BEGUN, TARGETS_FAILED, TARGETS_MADE, TARGET_BEGUN, TARGET_FAILED, TARGET_MADE, TOOK, UNFINISHED_SIGN, WARNED_LINES}
+use Rattle.redo_page.specs.declared.labels.TheConstants.{AND_COUNT, AS_ONE_TEXT, AT_MOST, AT_ONCE, BUILD_TOOK, DEPENDENT, FAILED, FAILED_SIGN, IN_ITS_LOG, LOGS, LOGS_IN, LOG_IN, MADE_SIGN, OF, PLACE_IN_TREE, SHOWN_ABOVE, SUM_OF_TIMES, TARGETS, TARGETS_FAILED, TARGETS_MADE, TARGETS_UNFINISHED, TARGET_FAILED, TARGET_MADE, TARGET_UNFINISHED, TOOK, UNFINISHED_SIGN, WARNED_LINES}
 use Rattle.redo_page.specs.Command.{command}
 use Rattle.redo_page.specs.Errors.{cause_of}
 use Rattle.redo_page.specs.Failed.{article_parts, article_took, cause_parts, is_dependent_failure, max_path, path_parts, positions_where, printed_by}
@@ -38,7 +38,7 @@ use Rattle.redo_timeline.specs.declared.span.Span.{Span}
 use Rattle.redo_timeline.specs.declared.span.Window.{Window}
 use Rattle.redo_times.specs.declared.times.Times.{Times}
 use Rattle.redo_page.specs.Tree.{Build, has_failed, is_moved_if, is_root_failure, is_same_position, node_at, root_failures, tree_parts}
-use Rattle.redo_page.specs.Verdict.{is_unfinished}
+use Rattle.redo_page.specs.Verdict.{is_unfinished, unfinished_count}
 use Rattle.redo_page.specs.Limits.{tree_limits}
 use Rattle.redo_page.specs.Targets.{badge_parts, facts_parts, how_parts, name_parts, parts_if, plural}
 use Rattle.redo_page.specs.Words.{words_parts}
@@ -260,11 +260,11 @@ module _ (nodes : List Node) where
   abbrev pub dependent_count : ℕ
   dependent_count = length (positions_where is_dependent_failure 0 nodes)
 
-  -- What the heading says: how many targets failed; else how many began, if a requested one isn't closed; else how many were made.
+  -- What the heading says: how many targets failed; else how many are unfinished, if a requested one is; else how many were made.
   abbrev pub heading_shown : List Part
   heading_shown =
       if nat_lt 0 root_count then heading_with FAILED_SIGN.now (number_text root_count ++ (OF.now ++ number_of (length nodes) TARGET_FAILED.now TARGETS_FAILED.now))
-      else if list_any is_unfinished nodes then heading_with UNFINISHED_SIGN.now (number_of (length nodes) TARGET_BEGUN.now TARGETS_BEGUN.now)
+      else if list_any is_unfinished nodes then heading_with UNFINISHED_SIGN.now (number_text (unfinished_count nodes) ++ (OF.now ++ number_of (length nodes) TARGET_UNFINISHED.now TARGETS_UNFINISHED.now))
       else heading_with MADE_SIGN.now (number_of (length nodes) TARGET_MADE.now TARGETS_MADE.now)
 
   -- What the summary says. Times are left out if they aren't known.
@@ -272,7 +272,7 @@ module _ (nodes : List Node) where
   summary_shown facts =
       MarkupPart DescriptionList
       ∷ ((tile TARGETS.now (NumberPart (length nodes) ∷ [])
-      ++ (tile FAILED.now (NumberPart root_count ∷ parts_if (not (dependent_count == 0)) (TextPart AND_COUNT.now ∷ NumberPart dependent_count ∷ TextPart ABOVE.now ∷ []))
+      ++ (tile FAILED.now (NumberPart root_count ∷ parts_if (not (dependent_count == 0)) (TextPart AND_COUNT.now ∷ NumberPart dependent_count ∷ TextPart DEPENDENT.now ∷ []))
       ++ (tile WARNED_LINES.now (NumberPart facts.warnings ∷ [])
       ++ (tile LOGS.now (words_parts (size_words facts.bytes))
       ++ (parts_if (is_some facts.window) (tile TOOK.now (words_parts (duration_words facts.took)))
