@@ -3,5 +3,7 @@ pub mod ErrorLemmas
 pub mod Getters
 pub mod OneKind
 pub mod ParseLemmas
+mod RejectionLemmas
+mod RejectionRows
 mod Sound
 mod WordsRows

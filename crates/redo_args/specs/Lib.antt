@@ -1,4 +1,5 @@
 pub mod CommandLine
 pub mod Job
 pub mod Private
+pub mod Rejection
 pub mod Words

@@ -1,12 +1,14 @@
 //! The command line: the job that its arguments describe, or why they describe none; and the help text.
-//! [`arguments`] has what the command lines of other programs share.
+//! [`arguments`] has what the command lines of other programs share. [`explain_rejection`] says why arguments are rejected.
 #![tactic(auto)]
 
 pub mod arguments;
 mod job;
+mod rejection;
 mod words;
 mod words_fault;
 
 pub use job::Job;
-pub use words::{help_text, read_words};
+pub use rejection::{CommandLine, explain_rejection, fault_by};
+pub use words::{RedoLog, help_text, read_arguments, read_words};
 pub use words_fault::WordsFault;

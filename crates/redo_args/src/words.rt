@@ -13,7 +13,9 @@ use crate::arguments::{
     command_line, debug_locks, dir, flag, help_of, letter_flag, number, senders, unchanged,
 };
 use crate::job::{Job, job_from_matches};
+use crate::rejection::{CommandLine, fault_by};
 use crate::words_fault::WordsFault;
+use clap::error::ErrorKind;
 use clap::{Arg, ArgAction, ArgMatches, Command};
 use std::alloc::{AllocError, Global};
 
@@ -51,8 +53,28 @@ pub fn read_words(alloc: Global, words: Vec<String>) -> Result<Job, WordsFault>
     // They request help or are rejected; the fault says which. Or memory ran out.
     ensures fault { IfErr result (λ fault. (fault ≡ OutOfMemory) ⊎ (fault_of_words (map string_bytes words.items) ≡ Some fault)) }
 {
-    let matches = parse_arguments(alloc, words.as_slice())?;
+    read_arguments(alloc, words.as_slice())
+}
+
+/// Parses the command-line arguments as [`read_words`] does, and leaves them to the caller.
+pub fn read_arguments(alloc: Global, words: &[String]) -> Result<Job, WordsFault>
+    ensures no_fault { IfOk result (λ _. fault_of_words (map string_bytes words.now) ≡ None) }
+    ensures job { IfOk result (λ job. job ≡ parse_parts (map string_bytes words.now)) }
+    ensures fault { IfErr result (λ fault. (fault ≡ OutOfMemory) ⊎ (fault_of_words (map string_bytes words.now) ≡ Some fault)) }
+{
+    let matches = parse_arguments(alloc, words)?;
     job_from_matches(alloc, &matches).map_err(WordsFault::from)
+}
+
+/// The command line of `redo-log`, whose arguments [`read_words`] parses.
+pub struct RedoLog;
+
+impl CommandLine for RedoLog {
+    ghost app = { λ _. redo_log };
+
+    fn fault(&self, alloc: Global, words: &[String]) -> Result<Option<ErrorKind>, AllocError> {
+        fault_by(command(alloc)?, words)
+    }
 }
 
 /// Returns the help text: the arguments and options, an example, and the exit statuses. It ends with a

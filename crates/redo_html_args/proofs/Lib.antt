@@ -1,3 +1,3 @@
-mod Getters
+mod RejectionRows
 mod Sound
 mod WordsRows

@@ -7,4 +7,4 @@ mod words;
 
 pub use job::PageJob;
 pub use redo_args::WordsFault;
-pub use words::{help_text, read_words};
+pub use words::{RedoLogHtml, help_text, read_arguments, read_words};

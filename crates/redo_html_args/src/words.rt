@@ -10,11 +10,12 @@ ghost use Rattle.redo_html_args.specs.Private.Matches.{AreSound};
 ghost use Rattle.redo_html_args.specs.Words.{fault_of_words, parse_parts};
 
 use crate::job::{PageJob, job_from_matches};
+use clap::error::ErrorKind;
 use clap::{Arg, ArgAction, ArgMatches, Command, value_parser};
-use redo_args::WordsFault;
 use redo_args::arguments::{
     command_line, debug_locks, dir, help_of, senders, text_option, unchanged,
 };
+use redo_args::{CommandLine, WordsFault, fault_by};
 use std::alloc::{AllocError, Global};
 
 const ABOUT: &str =
@@ -48,8 +49,28 @@ pub fn read_words(alloc: Global, words: Vec<String>) -> Result<PageJob, WordsFau
     // They request help or are rejected; the fault says which. Or memory ran out.
     ensures fault { IfErr result (λ fault. (fault ≡ OutOfMemory) ⊎ (fault_of_words (map string_bytes words.items) ≡ Some fault)) }
 {
-    let matches = parse_arguments(alloc, words.as_slice())?;
+    read_arguments(alloc, words.as_slice())
+}
+
+/// Parses the command-line arguments as [`read_words`] does, and leaves them to the caller.
+pub fn read_arguments(alloc: Global, words: &[String]) -> Result<PageJob, WordsFault>
+    ensures no_fault { IfOk result (λ _. fault_of_words (map string_bytes words.now) ≡ None) }
+    ensures job { IfOk result (λ job. job ≡ parse_parts (map string_bytes words.now)) }
+    ensures fault { IfErr result (λ fault. (fault ≡ OutOfMemory) ⊎ (fault_of_words (map string_bytes words.now) ≡ Some fault)) }
+{
+    let matches = parse_arguments(alloc, words)?;
     job_from_matches(alloc, &matches).map_err(WordsFault::from)
+}
+
+/// The command line of `redo-log-html`, whose arguments [`read_words`] parses.
+pub struct RedoLogHtml;
+
+impl CommandLine for RedoLogHtml {
+    ghost app = { λ _. redo_log_html };
+
+    fn fault(&self, alloc: Global, words: &[String]) -> Result<Option<ErrorKind>, AllocError> {
+        fault_by(command(alloc)?, words)
+    }
 }
 
 /// Returns the help text: the arguments and options, an example, and the exit statuses. It ends with a

@@ -1,0 +1,26 @@
+-- Examples of rejected command lines, computed: which argument is rejected, and why.
+use Rattle.std.proofs.Common.{◌≡◌, ℕ, List, [], ◌∷◌, refl}
+use Rattle.std.specs.Prelude.{codes}
+use Rattle.std.specs.List.{AllByRecursion}
+use Rattle.clap.proofs.OnLiterals.{clap_on_literals}
+use Rattle.redo_args.specs.Rejection.{rejected_within, rejection}
+use Rattle.redo_html_args.specs.CommandLine.{redo_log_html}
+
+record Row : Type 0 where
+  words : List (List ℕ)
+  text_is : List ℕ
+
+abbrev rejected : List (List ℕ) → List ℕ → Row
+rejected words text = record { words = words; text_is = text }
+
+abbrev rejections : List Row
+rejections =
+    rejected (codes "-r" ∷ []) (codes "unknown option '-r'") ∷
+    rejected (codes "--max-bytes" ∷ codes "1k" ∷ []) (codes "--max-bytes 1k: not in 0 to 18446744073709551615") ∷
+    rejected (codes "--senders=65" ∷ []) (codes "--senders=65: not in 1 to 64") ∷
+    rejected (codes "all" ∷ codes "--output" ∷ []) (codes "--output: a value is missing") ∷
+    []
+
+these_rejections : AllByRecursion (λ row. rejection redo_log_html row.words ≡ row.text_is) rejections
+unfolding redo_log_html clap_on_literals rejected_within
+these_rejections = (refl, (refl, (refl, (refl, tt))))
