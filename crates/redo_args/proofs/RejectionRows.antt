@@ -1,10 +1,11 @@
 -- Examples of rejected command lines, computed: which argument is rejected, and why.
-use Rattle.std.proofs.Common.{◌≡◌, ℕ, List, [], ◌∷◌, refl}
+use Rattle.std.proofs.Common.{◌≡◌, ℕ, List, [], ◌∷◌, None, Some, refl}
 use Rattle.std.specs.Prelude.{codes}
 use Rattle.std.specs.List.{AllByRecursion}
 use Rattle.clap.proofs.OnLiterals.{clap_on_literals}
+use Rattle.clap.specs.declared.error.kind.ErrorKind.TheVariants as kind
 use Rattle.redo_args.specs.CommandLine.{redo_log}
-use Rattle.redo_args.specs.Rejection.{rejected_within, rejection}
+use Rattle.redo_args.specs.Rejection.{kinds_of, rejected_within, rejection}
 
 record Row : Type 0 where
   words : List (List ℕ)
@@ -32,3 +33,6 @@ rejections =
 these_rejections : AllByRecursion (λ row. rejection redo_log row.words ≡ row.text_is) rejections
 unfolding redo_log clap_on_literals rejected_within
 these_rejections = (refl, (refl, (refl, (refl, (refl, (refl, (refl, (refl, (refl, (refl, (refl, (refl, tt))))))))))))
+
+these_kinds : (kinds_of None ≡ []) × (kinds_of (Some kind.InvalidValue) ≡ kind.InvalidValue ∷ [])
+these_kinds = (refl, refl)

@@ -1,3 +1,4 @@
+mod Getters
 mod RejectionRows
 mod Sound
 mod WordsRows
