@@ -1,3 +1,5 @@
+mod ExplanationRows
 mod FileLemmas
 pub mod LogLemmas
 pub mod Results
+mod SuggestionLemmas

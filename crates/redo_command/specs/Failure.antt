@@ -5,7 +5,7 @@ use Rattle.redo_line.specs.declared.stream_fault.StreamFault.{StreamFault}
 use Rattle.redo_line.specs.declared.stream_fault.StreamFault.TheVariants as stream
 use Rattle.redo_line.specs.Lines.{with_line_feed}
 use Rattle.redo_command.specs.declared.failure.Failure.{Failure}
-use Rattle.redo_command.specs.declared.failure.Failure.TheVariants.{Words, NamesRead, Index, Run, Memory}
+use Rattle.redo_command.specs.declared.failure.Failure.TheVariants.{Words, NamesMissing, NamesRead, Index, Run, Memory}
 use Rattle.redo_index.specs.declared.index_fault.IndexFault.{IndexFault}
 use Rattle.redo_index.specs.declared.index_fault.IndexFault.TheVariants as index
 use Rattle.redo_run.specs.declared.run_fault.RunFault.TheVariants as run
@@ -24,6 +24,7 @@ abbrev pub status_of : Failure → ℕ
 status_of (Words words.Help) = 0
 status_of (Words words.Refused) = 2
 status_of (Words words.OutOfMemory) = 7
+status_of NamesMissing = 5
 status_of NamesRead = 5
 status_of (Index (index.BadLine line)) = 3
 status_of (Index (index.FidTwice line)) = 3
@@ -67,6 +68,7 @@ abbrev pub failure_message_as : List ℕ → List (List ℕ) → List (List ℕ)
 failure_message_as program targets arguments (Words words.Help) = []
 failure_message_as program targets arguments (Words words.Refused) = message_line program (codes "bad command line")
 failure_message_as program targets arguments (Words words.OutOfMemory) = message_line program (codes "out of memory")
+failure_message_as program targets arguments NamesMissing = message_line program (codes "names: cannot be read")
 failure_message_as program targets arguments NamesRead = message_line program (codes "names: cannot be read")
 failure_message_as program targets arguments (Index fault) = index_message program fault
 failure_message_as program targets arguments (Run (run.Unknown place)) = message_line program (get_or arguments place [] ++ codes ": not known")
@@ -97,6 +99,7 @@ IsBeforeRun failure = IfStreamFailure failure (λ _. ⊥) × IfUnknownFailure fa
 
 -- Whether the failure is one of reading the file `names`, or an allocation failed.
 abbrev pub IsIndexFailure : Failure → Type 0
+IsIndexFailure NamesMissing = Unit {0}
 IsIndexFailure NamesRead = Unit {0}
 IsIndexFailure (Index fault) = Unit {0}
 IsIndexFailure Memory = Unit {0}

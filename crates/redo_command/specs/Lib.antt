@@ -1,3 +1,4 @@
+pub mod Explanation
 pub mod Failure
 pub mod LogFile
 pub mod Logs

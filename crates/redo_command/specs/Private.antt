@@ -2,3 +2,4 @@
 pub mod Opening
 pub mod Program
 pub mod Shown
+pub mod Suggested

@@ -57,6 +57,7 @@ fn index_of<F: Feed>(alloc: Global, keys: HashKeys, opened: io::Result<F>) -> Re
         Ok(reader) => reader,
         Err(error) => {
             return Err(match error.kind() {
+                ErrorKind::NotFound => Failure::NamesMissing,
                 ErrorKind::OutOfMemory => Failure::Memory,
                 _ => Failure::NamesRead,
             });

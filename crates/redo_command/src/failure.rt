@@ -15,7 +15,10 @@ pub enum Failure {
     /// The command-line arguments request no run.
     #[error("no run is asked for: {0:?}")]
     Words(WordsFault),
-    /// The file `names` is missing, can't be read, or has more than 1,073,741,824 bytes.
+    /// There is no file `names`.
+    #[error("there is no index")]
+    NamesMissing,
+    /// The file `names` can't be read, or has more than 1,073,741,824 bytes.
     #[error("the index can't be read")]
     NamesRead,
     /// The index is rejected.
@@ -55,7 +58,7 @@ pub fn status(failure: &Failure) -> u8
         Failure::Index(IndexFault::OutOfMemory) => 7,
         Failure::Index(_) => 3,
         Failure::Run(RunFault::Stream { fault, .. }) => stream_status(fault),
-        Failure::NamesRead => 5,
+        Failure::NamesMissing | Failure::NamesRead => 5,
         Failure::Run(RunFault::Write) => 6,
         Failure::Run(RunFault::Unknown { .. }) => 24,
         Failure::Words(WordsFault::OutOfMemory) | Failure::Run(RunFault::OutOfMemory) => 7,

@@ -36,6 +36,7 @@ pub fn fault_line_as(
             program,
             &[b"out of memory"],
         ),
+        Failure::NamesMissing => message_line(alloc, program, &[b"names: cannot be read"]),
         Failure::NamesRead => message_line(alloc, program, &[b"names: cannot be read"]),
         Failure::Index(fault) => index_message(alloc, program, fault),
         Failure::Run(RunFault::Unknown { place }) => message_line(
@@ -119,7 +120,11 @@ fn message_at_line(
 }
 
 // Returns an error message with these parts, concatenated.
-fn message_line(alloc: Global, program: &str, parts: &[&[u8]]) -> Result<Vec<u8>, AllocError>
+pub(crate) fn message_line(
+    alloc: Global,
+    program: &str,
+    parts: &[&[u8]],
+) -> Result<Vec<u8>, AllocError>
     ensures { IfOk result (λ line. line.items ≡ message_line program.now (flat_map (λ part. part.now) parts.now)) }
 {
     let text = parts.concat(alloc)?;

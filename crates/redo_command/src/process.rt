@@ -1,5 +1,5 @@
 //! The command-line arguments of the process.
-ghost use Rattle.std.specs.Prelude.{IfErr};
+ghost use Rattle.std.specs.Prelude.{◌<◌, length, IfErr, IsTrue};
 ghost use Rattle.redo_command.specs.Failure.{IsBeforeRun};
 
 use crate::failure::Failure;
@@ -30,10 +30,26 @@ pub fn process_arguments<R: Env + AllocGlobal>(rt: &R) -> Result<Vec<String>, Fa
     Ok(rest)
 }
 
-/// Returns whether the arguments request the version: `--version` or `-V` as the only argument.
+/// Returns whether the arguments request explanations: whether the first one is `--explain`. It is not one of the
+/// arguments that a command line parses.
+pub fn explains(arguments: &[String]) -> bool
+    ensures { IsTrue result → 0 < length arguments.now }
+{
+    match arguments {
+        [first, ..] => first.as_str() == "--explain",
+        [] => false,
+    }
+}
+
+/// Returns whether the arguments request the version: `--version` or `-V` as the only argument, or after `--explain`.
 pub fn requests_version(arguments: &[String]) -> bool {
     match arguments {
-        [argument] => matches!(argument.as_str(), "--version" | "-V"),
+        [argument] => is_version(argument),
+        [_, argument] => explains(arguments) && is_version(argument),
         _ => false,
     }
+}
+
+fn is_version(argument: &str) -> bool {
+    matches!(argument, "--version" | "-V")
 }

@@ -7,7 +7,7 @@ use Rattle.std.specs.declared.io.ErrorKind.TheVariants.{NotFound, OutOfMemory}
 use Rattle.redo_command.specs.declared.log_file.LogFile.{LogFile}
 use Rattle.redo_command.specs.declared.log_file.LogFile.TheVariants.{Open, Missing, Unreadable}
 use Rattle.redo_command.specs.declared.failure.Failure.{Failure}
-use Rattle.redo_command.specs.declared.failure.Failure.TheVariants.{NamesRead, Memory, Run}
+use Rattle.redo_command.specs.declared.failure.Failure.TheVariants.{NamesMissing, NamesRead, Memory, Run}
 use Rattle.redo_run.specs.declared.run_fault.RunFault.TheVariants as run
 
 -- The path of the file `names`.
@@ -35,6 +35,7 @@ IsLogFileOf (Err error) log_file = IsLogFileAfter (error_kind error) log_file
 
 -- The failure if `names` can't be opened, from the kind of the error.
 abbrev pub failure_after : ErrorKind → Failure
+failure_after NotFound = NamesMissing
 failure_after OutOfMemory = Memory
 failure_after _ = NamesRead
 
