@@ -4,8 +4,10 @@ ghost use Rattle.redo_run.specs.declared.run_fault.RunFault.TheVariants as run;
 ghost use Rattle.redo_command.specs.Failure.{IsBeforeRun, IsStatus, status_of};
 
 use crate::job::show_job;
-use redo_command::{Failure, exit_status, print, print_help, report_before_run_as};
-use redo_html_args::{WordsFault, help_text, read_words};
+use redo_command::{
+    Failure, exit_status, explain_fault, explain_shown, print, print_help, report_before_run_as,
+};
+use redo_html_args::{RedoLogHtml, WordsFault, help_text, read_arguments};
 use std::alloc::Global;
 use std::io::Write;
 use std::random::RandomSource;
@@ -27,7 +29,7 @@ pub fn report_before_run<E: Write>(alloc: Global, failure: &Failure, err: &mut E
 
 /// Runs the program: reads its command-line arguments, which don't include its own name, and the directory that they
 /// name, and writes the page to the output file that they name, or else to `out`. If it fails, it writes one line to
-/// `err`. It returns the exit status; docs/redo-log-html.1 has the table.
+/// `err`, and a second one if it can say what to do. It returns the exit status; docs/redo-log-html.1 has the table.
 pub fn command<
     R: Files<File: Send> + RandomSource + Threads + Wait + Sync + AllocGlobal,
     W: Write,
@@ -36,10 +38,19 @@ pub fn command<
     ensures { IsStatus result }
 {
     let alloc = rt.alloc();
-    match read_words(alloc, words) {
-        Ok(job) => exit_status(alloc, PROGRAM, &show_job(rt, &job, out), job.targets(), err),
+    match read_arguments(alloc, &words) {
+        Ok(job) => {
+            let shown = show_job(rt, &job, out);
+            let status = exit_status(alloc, PROGRAM, &shown, job.targets(), err);
+            explain_shown(alloc, PROGRAM, job.dir(), &shown, job.targets(), err);
+            status
+        }
         Err(WordsFault::Help) => print_help(alloc, PROGRAM, help_text(alloc), out, err),
-        Err(fault) => report_before_run(alloc, &Failure::Words(fault), err),
+        Err(fault) => {
+            let status = report_before_run(alloc, &Failure::Words(fault), err);
+            explain_fault(alloc, PROGRAM, &RedoLogHtml, &words, fault, err);
+            status
+        }
     }
 }
 

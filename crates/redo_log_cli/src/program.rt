@@ -3,8 +3,11 @@ ghost use Rattle.redo_command.specs.declared.failure.Failure.TheVariants.{Memory
 ghost use Rattle.redo_command.specs.Failure.{IsBeforeRun, IsStatus, status_of};
 
 use crate::job::show_job;
-use redo_args::{WordsFault, help_text, read_words};
-use redo_command::{Failure, exit_status, print, print_help, report_before_run_as};
+use redo_args::{RedoLog, WordsFault, help_text, read_arguments};
+use redo_command::{
+    Failure, exit_status, explain_fault, explain_shown, explains, print, print_help,
+    report_before_run_as,
+};
 use std::alloc::Global;
 use std::io::Write;
 use std::random::RandomSource;
@@ -25,8 +28,9 @@ pub fn report_before_run<E: Write>(alloc: Global, failure: &Failure, err: &mut E
 }
 
 /// Runs the program: reads its command-line arguments, which don't include its own name, and the
-/// directory that they name, and writes the text to `out`. If it fails, it writes one line to `err`. It
-/// returns the exit status; docs/redo-log.1 has the table.
+/// directory that they name, and writes the text to `out`. If it fails, it writes one line to `err`, and with
+/// `--explain` as the first argument a second one, if it can say what to do. It returns the exit status;
+/// docs/redo-log.1 has the table.
 pub fn command<
     R: Files<File: Send> + RandomSource + Threads + Wait + Sync + AllocGlobal,
     W: Write,
@@ -35,10 +39,25 @@ pub fn command<
     ensures { IsStatus result }
 {
     let alloc = rt.alloc();
-    match read_words(alloc, words) {
-        Ok(job) => exit_status(alloc, PROGRAM, &show_job(rt, &job, out), job.targets(), err),
+    let explains = explains(&words);
+    let arguments = if explains { &words[1..] } else { &words[..] };
+    match read_arguments(alloc, arguments) {
+        Ok(job) => {
+            let shown = show_job(rt, &job, out);
+            let status = exit_status(alloc, PROGRAM, &shown, job.targets(), err);
+            if explains {
+                explain_shown(alloc, PROGRAM, job.dir(), &shown, job.targets(), err);
+            }
+            status
+        }
         Err(WordsFault::Help) => print_help(alloc, PROGRAM, help_text(alloc), out, err),
-        Err(fault) => report_before_run(alloc, &Failure::Words(fault), err),
+        Err(fault) => {
+            let status = report_before_run(alloc, &Failure::Words(fault), err);
+            if explains {
+                explain_fault(alloc, PROGRAM, &RedoLog, arguments, fault, err);
+            }
+            status
+        }
     }
 }
 
