@@ -65,7 +65,7 @@ pub fn dir<'a>(alloc: Global) -> Arg<'a>
         alloc,
         "dir",
         "DIR",
-        "The capture directory: `names`, and a `log.NUMBER` for each line of it [default: .]",
+        "The capture directory: `names`, and a `log.NUMBER` for each line of it [default: ., .redo-log or capture]",
     )
 }
 

@@ -23,6 +23,7 @@ const ABOUT: &str =
     "Shows the logs of a parallel build as one text, as if nothing had run in parallel.";
 
 const AFTER_HELP: &str = "Example:
+  redo-log                          as installed, shows the same as redo-log -r all
   redo-log -r --dir captures all    shows the log of `all`, with the logs of the targets that it mentions
 
 Exit status:
