@@ -23,6 +23,9 @@ use std::io::Write;
 /// The maximum number of targets that are suggested for an unknown one.
 const MAX_SUGGESTIONS: usize = 5;
 
+/// The maximum number of arguments of which the rejected one is looked for. The time is quadratic in it.
+const MAX_EXPLAINED_ARGUMENTS: usize = 1_000;
+
 /// Returns why the arguments of a program are rejected: one line, with its line feed, that begins with the program's name.
 pub fn explain_words_as<C: CommandLine>(
     alloc: Global,
@@ -60,8 +63,8 @@ pub fn explanation_as(
     }
 }
 
-/// Writes why the arguments of a program are rejected, if they are. The line is lost if an allocation for it fails or if
-/// it can't be written.
+/// Writes why the arguments of a program are rejected, if they are, and if there are at most 1,000. The line is lost if an
+/// allocation for it fails or if it can't be written.
 pub fn explain_fault<C: CommandLine, E: Write>(
     alloc: Global,
     program: &str,
@@ -70,7 +73,7 @@ pub fn explain_fault<C: CommandLine, E: Write>(
     fault: WordsFault,
     err: &mut E,
 ) {
-    if matches!(fault, WordsFault::Refused) {
+    if matches!(fault, WordsFault::Refused) && words.len() <= MAX_EXPLAINED_ARGUMENTS {
         write_line(explain_words_as(alloc, program, command_line, words), err);
     }
 }
