@@ -96,10 +96,10 @@ pub fn targets_have_their_names()
     ranks_have_values_of_targets();
 }
 
-/// The heading of a page says how many targets failed; else how many began, if a requested one isn't closed; else how many were made. The
-/// summary has the numbers of targets, of failures and of lines with warnings, the size of all text lines, and times, if they are known. A
-/// page has one heading and one such list. It says when the build began and how long it took, if any time is known. Its
-/// last line has the number of logs, the capture directory, and the command that prints the same logs as text.
+/// The heading of a page says how many targets failed; else how many are unfinished, if a requested one is; else how many were made.
+/// The summary has the numbers of targets, of failures and of lines with warnings, the size of all text lines, and times, if they are
+/// known. A page has one heading and one such list. It says when the build began and how long it took, if any time is known. Its last
+/// line has the number of logs, the capture directory, and the command that prints the same logs as text.
 pub fn numbers_are_shown()
     ensures heading { (request : Request) (logs : List Log) (requested : List (List ℕ)) →
         IsRead (heading_shown (page_outline request logs requested)) request logs requested }
