@@ -256,9 +256,11 @@ recipe: ; @true
     checks.expect("facts: the summary has the same", {row[4]: (row[5], row[6]) for row in rows}, wanted)
     short = project(at("short"), "all:\n" + "\t@/bin/true\n" * 60)
     captured(short, options=["--summary", "sum"])
-    alone = sum(reference(short, program="/bin/true")[0] for _ in range(60))
+    alone = [reference(short, program="/bin/true")[0] for _ in range(60)]
     took = all_facts(short)[b"all"]["usage"]
-    checks.expect(f"facts: many short lines: {took}, {alone}", alone / 3 <= took[0] + took[1] <= 3 * alone + 100, True)
+    # A busy machine may slow the lines of the recipe or these processes.
+    is_between = 60 * min(alone) / 3 <= took[0] + took[1] <= 3 * sum(alone) + 100
+    checks.expect(f"facts: many short lines: {took}, {min(alone)} to {max(alone)} each", is_between, True)
     checks.expect("facts: of all targets but the run", sorted(wanted), ["a b", "both", "launched", "memory", "recipe", "sub", "time"])
 
 
