@@ -180,7 +180,7 @@ pub const CHOSEN: [Case; 31] = [
         1000,
         "log\ndirectory  d \ncommand  x \n",
     ),
-    // A capture with `--commands`, of a make and a sub-make.
+    // A capture of make and a sub-make, with `--commands`.
     (
         "1 all\n2 a.o\n3 sub\n4 sub/x\n",
         "1 log all\n2 log a.o\n2 directory /src\n2 command echo compiling\n2 usage 0 0 2216\n2 command false 'a b' \"it's\"\n\

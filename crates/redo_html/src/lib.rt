@@ -21,7 +21,7 @@
 //!
 //! **Text** (`Symbols`, `Shown`). From five equal unprintable code points in a row on, one notation and a count are shown. In
 //! logs, the sequences by which compilers set colours and write links are consumed, and all other escape characters are unprintable. No
-//! byte of a link may be an escape character, so each byte is tested for one link at most, also if links don't end.
+//! byte of a link may be an escape character, so each byte is tested for one link at most, even if links don't end.
 //!
 //! **Highlights** (`Passage`, `Style`). Unprintable code points, bold text and six hues have elements. A `Look` has the style of the next
 //! code point and what is open. All elements that are begun in a passage end in it. The highlights between two code points are written

@@ -127,7 +127,7 @@ run took = record { took = Some took; ended = None }
 times_1500 : times_at (replicate 1500 (run 5) ++ run 7 ∷ run 8 ∷ []) 1500 ≡ run 7
 times_1500 = refl
 
--- The last of 300 logs, each of which is in the one before, and the last of 301 logs in one log. A position is that of the log around.
+-- The last of 300 logs, each in the one before it, and the last of 301 logs in one log. A parent is the position of the log around.
 abbrev parent_at : List Node → ℕ → Option (Option ℕ)
 parent_at nodes position = option_map (λ (node : Node). node.parent) (slice_get nodes position)
 
@@ -166,7 +166,7 @@ silence :
     × (map (λ event. has_others (Shown event Nothing)) three ≡ true ∷ true ∷ false ∷ [])
 silence = (refl, refl, refl)
 
--- A record at any depth says how a target without a closing record ended, also if a signal killed it.
+-- A record at any depth says how a target without a closing record ended, even if a signal killed it.
 abbrev done_at : ℕ → ℤ → Event
 done_at depth status = EntryShown depth (Done 9 status (codes "a"))
 

@@ -30,7 +30,7 @@ use Rattle.redo_page.specs.declared.block.Pending.TheVariants as pending
 use Rattle.redo_page.specs.Blocks.{after_line, fits, line_parts}
 use Rattle.redo_page.specs.Tree.{articles, contents_parts, is_short, no_node, node_at, top_level, tree_parts}
 
--- A text with middle dots (U+00B7) in place of its tildes.
+-- A text with middle dots (U+00B7) instead of its tildes.
 abbrev dotted : List ℕ → List ℕ
 dotted text = flat_map (λ byte. if byte == 126 then 0xC2 ∷ 0xB7 ∷ [] else byte ∷ []) text
 

@@ -52,7 +52,7 @@ pub fn tables_have_first_ranks()
     ensures warned { (nodes : List Node) (times : List Times) → HasFirstTen (warning_ranks nodes) (summary_of nodes times).warned }
 {}
 
-/// The value of each rank is that of the target at its position: how long it took, or its number of warnings.
+/// The value of each rank says how long the target at its position took, or how many warnings it has.
 pub fn ranks_have_values_of_targets()
     ensures longest { (nodes : List Node) (times : List Times) →
         AllByRecursion (HasDuration nodes times) (summary_of nodes times).longest }
