@@ -303,7 +303,7 @@ void mention_in_parent(struct target *target, pid_t process, int64_t time, int s
 int flush_log(struct target *target);
 void flush_logs(int can_begin);
 void forget_logs(void);
-/* If somebody has removed the log, closes it. What is written next creates it again. */
+/* If somebody has removed the log, closes it. The next write creates it again. */
 void detect_lost_log(struct target *target);
 /* Writes what is buffered, and returns a descriptor of the log, or -1. */
 int open_log(struct target *target);

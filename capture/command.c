@@ -1,4 +1,7 @@
-/* Starting the command, and forwarding signals to it. */
+/* Starting the command, and forwarding signals to it.
+
+   Without the helper process that recognizes signals to the group, make would get SIGTERM twice, which interrupts its removal
+   of intermediate files. */
 #define _GNU_SOURCE
 #include "capture.h"
 #include <errno.h>

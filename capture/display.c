@@ -114,7 +114,7 @@ static void add_to_excerpt(const char *bytes, size_t size, void *to) {
   }
 }
 
-/* Returns the size without a UTF-8 character of which the end is missing. */
+/* Returns the size without a UTF-8 character whose end is missing. */
 static size_t complete_size(const char *bytes, size_t size) {
   size_t end = size;
   while (end > 0 && size - end < 3 && (bytes[end - 1] & 0xC0) == 0x80) end--;

@@ -223,7 +223,7 @@ static struct fact parse_line(const char *line, const char *end) {
   return fact;
 }
 
-/* The lines of a number that count, of the kinds of which the last line counts. If `log` is NULL, no line of the number counts. */
+/* The lines of a number that count, of the kinds whose last line counts. If `log` is NULL, no line of the number counts. */
 struct latest {
   const char *log, *directory, *usage;
 };

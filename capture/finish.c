@@ -1,5 +1,11 @@
 /* Records that are written when the run has ended: its own log, the targets that the sub-makes of recipes made, and the closing
-   records. */
+   records.
+
+   Closing records and some mentions are written after the build: make doesn't say which line is the last, and the text must
+   not depend on timing.
+
+   Targets that no other log mentions are mentioned in the log of their parent or of the run. If a target fails, make never
+   begins its dependents, and doesn't say which they are. */
 #define _GNU_SOURCE
 #include "capture.h"
 #include <errno.h>

@@ -6,7 +6,12 @@
      line NUMBER PROCESS                           a line began, after its first
      ended NUMBER PROCESS TIME STATUS              a line ended; the target's end so far has this PROCESS and TIME
      mention NUMBER START END                      these bytes of its log are a provisional record
-   `.capture/closed` has a line for each closed log: its number and its name. */
+   `.capture/closed` has a line for each closed log: its number and its name.
+
+   The journal names a target before its log is truncated, and has other events after what they say is in the logs. So, even
+   if a build is killed or the disk is full, a log that is listed as closed is closed. `closed` lists logs by number and name,
+   not by their last bytes. So a log that has lost its end is flagged, and `redo-log` rejects it. Flags are optional, because
+   a flagged log can't just be deleted. */
 #define _GNU_SOURCE
 #include "capture.h"
 #include <fcntl.h>

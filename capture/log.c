@@ -2,7 +2,9 @@
    records: each mentions a target that a sub-make of the recipe makes, at the time of the event. `finish` replaces them.
 
    What is appended to a log is buffered until flush_logs, which the server calls some milliseconds later. So a short recipe costs one
-   write. */
+   write.
+
+   A log is truncated, not replaced: on ext4 a new file costs more, the more files were removed shortly before. */
 #define _GNU_SOURCE
 #include "capture.h"
 #include <errno.h>
@@ -228,7 +230,7 @@ static int ends_with_mention(const struct log_file *log) {
   return log->mention_count > 0 && log->mentions[log->mention_count - 1].end == log->size;
 }
 
-/* Puts a space before each line that would be a record: whatever a recipe prints is text. */
+/* Puts a space before each line that would be a record: all output of a recipe is text. */
 static void append_as_text(struct target *target, const char *bytes, size_t size) {
   const char *end = bytes + size, *from = bytes;
   if ((!target->log.is_mid_line || ends_with_mention(&target->log)) && may_be_record(bytes, size)) append_bytes(target, " ", 1);

@@ -30,7 +30,7 @@ struct make {
   size_t recipe_count, recipe_capacity;
   char *names; /* of the recipe that is being sent */
   size_t names_size;
-  /* Recipes of which make may start the next line: the one of which a line has just ended, and the one of which make could not
+  /* Recipes whose next line make may start: the one whose line has just ended, and the one whose line make could not
      start the last line; otherwise 0. */
   uint32_t ended_recipe, failed_recipe;
   struct announcement announced;

@@ -1,4 +1,7 @@
-/* The messages of makes. They aren't trusted: an invalid one ends the connection. */
+/* The messages of makes. They aren't trusted: an invalid one ends the connection.
+
+   A sub-make's messages may arrive before the messages of the make that started it. So the server reads the parent's messages
+   before a line of a sub-make begins, and the sub-make's before the parent's line ends. */
 #define _GNU_SOURCE
 #include "make.h"
 #include <errno.h>
@@ -62,7 +65,7 @@ static int handle_recipe(struct make *make, const char *message, size_t size) {
   return recipe.number == make->recipe_count ? add_recipe(make, message + sizeof recipe, size - sizeof recipe) : -1;
 }
 
-/* Whether names of this size can follow the head of a message, of which `left` bytes are left. */
+/* Whether names of this size can follow the head of a message, if `left` bytes of it are left. */
 static int are_valid_names(const struct make *make, size_t size, size_t left) { return size == 0 || (size <= left && !make->names); }
 
 /* Whether this is the read end of a pipe, or of a terminal. */
@@ -145,7 +148,7 @@ static int handle_started(struct make *make, const char *message, size_t size) {
   return 0;
 }
 
-/* Returns the recipe of which make could not start a line. make starts the next line of a recipe when its last line has ended or could
+/* Returns the recipe whose line make could not start. make starts the next line of a recipe when its last line has ended or could
    not be started, and the first line when it has announced the recipe. */
 static uint32_t unstarted_recipe(struct make *make) {
   uint32_t latest = make->recipe_count - 1;

@@ -1,5 +1,8 @@
 /* The output of recipes. It arrives through pipes, and is written to the logs in whole lines, so that processes that write at the
-   same time don't mix their lines. */
+   same time don't mix their lines.
+
+   Recipes write into a pipe, because a recipe that reopens a log (`>/dev/stderr`) would truncate it. Redirected output is not
+   captured: somebody waits for it elsewhere, and writing it twice would change its order. */
 #define _GNU_SOURCE
 #include "capture.h"
 #include "terminal.h"

@@ -1,4 +1,8 @@
-/* The terminals that recipes get with --colour. The hook uses these functions too, so they need no C library. */
+/* The terminals that recipes get with --colour. The hook uses these functions too, so they need no C library.
+
+   The hook opens a terminal where it would create the pipe, and passes its other end to the server. Recipes can only write to
+   it: no process gets a controlling terminal that it can't read. The server reads up to an error, which comes after the last
+   byte. */
 #include "hook/syscalls.h"
 #include <asm/termbits.h>
 #include <errno.h>

@@ -1,5 +1,8 @@
 /* Reaping. The server learns that a child has ended before make does, and has printed the output of a failed one before make
-   reports it. */
+   reports it.
+
+   A child is reported while it is a zombie. Otherwise a signal between the reaping and the report could find make waiting for
+   a child that is gone, and make would stop with an error. */
 #define _GNU_SOURCE
 #include "hook.h"
 #include "syscalls.h"
