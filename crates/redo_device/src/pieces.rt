@@ -1,3 +1,4 @@
+//! A reader in memory. It also specifies each single call, for tests that cut a stream somewhere, and so does `Taker`.
 ghost use Rattle.std.specs.Prelude.{◌≡◌, ◌<◌, ◌≤◌, Some, IfOk, map, length, slice_index_or, vec_len};
 ghost use Rattle.redo_device.specs.Feed.{Pulls};
 ghost use Rattle.redo_device.specs.Pieces.{Reads, stream_of, from_first_byte, ReadsNext};
@@ -6,7 +7,7 @@ ghost use Rattle.redo_device.specs.Private.Pieces.{unread_of};
 use crate::feed::{Broken, Feed};
 use std::marker::Model;
 
-/// A reader in memory, of which everything is known. It is modelled as the reads still to come.
+/// A reader in memory. All is known of it. It is modelled as the reads still to come.
 #[derive(Drop)]
 pub struct Pieces {
     reads: Vec<Vec<u8>>,
@@ -85,6 +86,7 @@ impl Feed for Pieces {
         requires room { 0 < length buf.old }
         ensures bound { IfOk result (λ n. n ≤ length buf.new) }
         ensures gives { Pulls (Some (stream_of self.old)) (Some (stream_of self.new)) result buf.new }
+        // Which bytes come in which call.
         ensures exact { ReadsNext (from_first_byte self.old.reads) self.old.fails self.new result buf.new }
     {
         self.give(buf)

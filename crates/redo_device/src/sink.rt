@@ -14,6 +14,7 @@ pub trait Sink {
     fn push(&mut self, bytes: &[u8]) -> Result<usize, Broken>
         requires nonempty { 0 < length bytes.now }
         ensures bound { IfOk result (λ n. n ≤ length bytes.now) }
+        // The number of failures rises by one exactly if the writer failed or took no byte.
         ensures takes { written self.new ≡ after_push (written self.old) bytes.now result };
 }
 

@@ -8,7 +8,7 @@ use crate::sink::Sink;
 use std::alloc::{AllocError, Global};
 use std::marker::Model;
 
-/// A writer in memory, of which everything is known.
+/// A writer in memory. All is known of it.
 #[derive(Drop)]
 pub struct Taker {
     held: Vec<u8>,
@@ -57,6 +57,7 @@ impl Sink for Taker {
         requires nonempty { 0 < length bytes.now }
         ensures bound { IfOk result (λ n. n ≤ length bytes.now) }
         ensures takes { Some (output_of self.new) ≡ after_push (Some (output_of self.old)) bytes.now result }
+        // How many bytes one call takes.
         ensures answer { result ≡ answer_of self.old (length bytes.now) }
         ensures room { self.new.room ≡ self.old.room }
         ensures per_call { self.new.per_call ≡ self.old.per_call }

@@ -1,4 +1,8 @@
 //! Reads the file `facts`.
+//!
+//! A failed read counts as an empty file: in a file that was cut off somewhere, an earlier log's facts might remain. The file
+//! is stored whole before its lines are read, because only its end shows whether anything is known. Texts are copied, because
+//! the parts of a command may be in lines that are far apart.
 ghost use Rattle.std.specs.Prelude.{◌≡◌, [], IfNone, IfOk, IfSome};
 ghost use Rattle.redo_device.specs.Feed.{SomeStream};
 ghost use Rattle.redo_facts.specs.Reading.{bytes_that_count, facts_of_stream};
@@ -25,6 +29,7 @@ pub fn read_facts<R: Feed>(
     reader: &mut R,
     max_bytes: u64,
 ) -> Result<Vec<Facts>, AllocError>
+    // These are the facts of the stream that the reader gives; for an opaque reader, of some stream.
     ensures { IfOk result (λ facts. SomeStream (R.contents reader.old) (λ stream.
         facts.items ≡ facts_of_stream max_bytes index.now stream)) }
 {

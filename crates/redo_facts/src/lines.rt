@@ -1,4 +1,8 @@
 //! The facts of all targets, by the lines of a file.
+//!
+//! The definition collects what the ended lines with a target's number state, and takes what follows the last `log` line. The
+//! code reads the lines once, and changes the facts of one target for each. Numbers are looked up in a set with the keys of
+//! the index, so nobody can choose numbers that make this slow.
 ghost use Rattle.std.specs.Prelude.{◌≡◌, ◌<◌, ◌∷◌, ◌++◌, [], List, IfNone, IfOk, IfSome, OnOk, length};
 ghost use Rattle.redo_index.specs.Index.{numbers_of, IsIndex};
 ghost use Rattle.redo_line.specs.Lines.{ended};

@@ -1,3 +1,9 @@
+//! The collector adds the entries to the log of the item's stream, and ends or fails it (`store_item`). Once memory has run
+//! out, it goes on taking and stores nothing. The table is specified only if memory never ran out (`StoresAllTaken`), so a
+//! batch that was cut short needs no undoing.
+//!
+//! The collector skips an item that doesn't fit its log. Such items never occur, but this can be proved only at the end, so
+//! no fault is defined for them.
 ghost use Rattle.std.specs.Prelude.{◌≡◌, ◌≢◌, ℕ, ◌≤◌, ◌^◌, List, [], ◌∷◌, ◌++◌, Option, false, Ok, IfOk};
 ghost use Rattle.std.specs.Result.{result_and};
 ghost use Rattle.redo_line.specs.declared.stream_fault.StreamFault.TheVariants.{OutOfMemory};

@@ -1,3 +1,4 @@
+//! Pairs each reader with its must-close flag, so that nothing can separate them later.
 ghost use Rattle.std.specs.Prelude.{◌≡◌, IfOk, length, zip};
 
 use redo_line::Feed;

@@ -1,3 +1,6 @@
+//! A gate is notified of reads, entries and ends, and may hold the notifying thread. The program's gate does nothing; the
+//! tests' gate yields until another event, or gives up. It is also notified when nothing is stored any more: a held thread
+//! would wait forever otherwise.
 use std::sync::Wait;
 
 /// Is notified of the progress of a gathering by each of its threads, and may hold the thread that notifies

@@ -1,3 +1,11 @@
+//! `run_next_sender` starts one sender per level of a recursion. The innermost level takes until all streams are over. Each
+//! level then joins its sender and meets its end, and `drain` takes what is left. The recursion joins each sender however the
+//! others end, and no list of threads has to grow. A level borrows the collector, so it takes a few hundred bytes of stack.
+//! `join` instead of `spawn_with` would read a share on the calling thread if no thread can be started.
+//!
+//! There is no deadlock (tested, not proved): a sender blocks only while the mailbox is full, or in the gate. The collector
+//! takes as long as a stream isn't over, and afterwards no sender posts. If a thread can't be started, the others are served
+//! and joined, and the missing end makes the result out of memory.
 ghost use Rattle.std.specs.Prelude.{◌≡◌, ◌≢◌, ◌<◌, ◌≤◌, ◌^◌, IfOk, nat_eq, length, map};
 ghost use Rattle.std.specs.List.{AllByRecursion, IsDistinct};
 ghost use Rattle.std.specs.Cmp.Lexicographic.{pointwise};
@@ -59,6 +67,7 @@ pub fn gather<T: Threads + Wait + Sync, R: Feed + Send, G: Gate>(
 
     // The logs of the streams, or the fault of the lowest-numbered stream that has one, or `OutOfMemory`.
     ensures gathered { IsGathered plan.now.max_bytes names.items (known_inputs R.contents flags.items readers.items) result }
+    // Out of memory is never the fault of a stream.
     ensures never_out_of_memory { IfStreamFault result (λ number fault. fault ≢ OutOfMemory) }
 {
     let table = new_table(alloc, keys, names)?;

@@ -28,7 +28,7 @@ pub fn known_streams_decide()
 {}
 
 /// What is expected of a sender for a stream, in order: its log; or the entries before its fault, and the
-/// fault; or, if memory runs out, the first of these entries.
+/// fault; or, if memory runs out, the first of these entries. All of these are allowed.
 pub fn expected_for_stream()
     ensures order { (max_bytes : ℕ) (source : Source Stream) → ExpectsInOrder max_bytes source }
     ensures log { (max_bytes : ℕ) (source : Source Stream) → ExpectsLog max_bytes source }
@@ -37,15 +37,16 @@ pub fn expected_for_stream()
     ensures prefix { (max_bytes : ℕ) (source : Source Stream) → MayExpectPrefix max_bytes source }
 {}
 
-/// For a share, all of this is expected for each of its streams, one stream after another.
+/// For a share without streams nothing is expected. For one stream, it is what is expected for it; for several, what is expected for
+/// each, one stream after another.
 pub fn expected_for_share()
     ensures nothing { (max_bytes sender : ℕ) → ExpectsNothing max_bytes sender }
     ensures one { (max_bytes sender : ℕ) → ExpectsOne max_bytes sender }
     ensures concatenation { (max_bytes sender : ℕ) → ExpectsConcatenation max_bytes sender }
 {}
 
-/// However entries are grouped into items, each item has the number of its sender. It has one entry or, in
-/// order, at most 1,024 entries.
+/// However entries are grouped into items, each item has the number of its sender. It has one entry or, as a batch, 2 to 1,024 entries
+/// in order. There are at most as many items as entries, ends and faults, and at least a 1024th as many.
 pub fn items_for_share()
     ensures singles { (sender stream : ℕ) (entries : List Entry) (fault : Option StreamFault) → AreSingles sender stream entries fault }
     ensures each { (sender stream : ℕ) (entries : List Entry) → StandsForEach sender stream entries }

@@ -1,3 +1,6 @@
+//! Before a sender reads again, it posts the entries that the last read completed, in as few items as possible
+//! (`read_batch`). An item is limited in entries and in bytes. The limit in bytes makes the capacity bound memory too: a
+//! short record may have a name as long as its log's directory.
 ghost use Rattle.std.specs.Prelude.{◌≡◌, ◌≢◌, ◌<◌, ◌≤◌, ◌++◌, [], IfOk, IfErr, OnOk, OnErr, length, map, List};
 ghost use Rattle.redo_line.specs.declared.stream_fault.StreamFault.TheVariants.{OutOfMemory, Read};
 ghost use Rattle.redo_line.specs.declared.entry.Entry.{Entry as EntryValue};

@@ -1,4 +1,6 @@
 //! Reads one stream, for every kind of gathering.
+//!
+//! One loop reads every stream (`read_entries`), and gives the entries to an `EntrySink`: a list of entries, or a `Poster`.
 ghost use Rattle.std.specs.Prelude.{◌≡◌, ◌≢◌, ◌≤◌, ◌^◌, ◌∷◌, [], ◌++◌, List, IfOk, IfErr, OnOk, OnErr, length};
 ghost use Rattle.redo_line.specs.declared.stream_fault.StreamFault.TheVariants.{OutOfMemory, Read};
 ghost use Rattle.redo_line.specs.declared.entry.Entry.{Entry as EntryValue};

@@ -1,3 +1,5 @@
+//! A sender allocates its buffer in its own thread. If it can't, it posts out of memory for each stream, so `send` has no
+//! other result.
 ghost use Rattle.std.specs.Prelude.{◌≡◌, ◌≤◌, ◌^◌, ◌++◌, [], map};
 ghost use Rattle.redo_line.specs.Source.{source};
 ghost use Rattle.redo_gather.specs.Private.Posting.{IsStreamPosted};

@@ -7,7 +7,7 @@ use std::thread;
 /// How often a held thread yields before the gate gives up.
 const MAX_YIELDS: u32 = 10_000_000;
 
-/// An event of which a gate is notified.
+/// An event, such as a read, that a gate is notified of.
 #[derive(Clone, Copy, Debug, PartialEq, Eq)]
 pub enum Event {
     BeforeRead { stream: u32, read_number: u64 },

@@ -1,5 +1,11 @@
 //! Streams that are gathered on one thread or by senders: their logs, or the fault of the lowest-numbered
 //! stream that has one.
+//!
+//! Counting readers and holds of a gate show what no clause of `gather` states. A counting gate is notified of each read,
+//! entry and end of each stream, once, in order. The first reads of 1 to 64 streams begin together, each by a sender. Two
+//! senders each read their second line only once the other's first one was taken. While the first line is being taken, a
+//! sender gets to the read that is two more than the capacity, and no further. No hold may give up, and a gate that nobody
+//! notifies fails.
 use crate::counting::{Counting, Filling, Starting};
 use crate::gate::{Event, Hold, Holding};
 use crate::gathered::{WAYS, Way, gathered_by};

@@ -1,3 +1,8 @@
+//! An index is one `indexmap` from names to log number and flag, in the order of the lines. `read_index` adds each line to
+//! this map, and its number to a set that it drops at the end. A line is added before it is known to be valid, which saves a
+//! look-up in set and map. A rejected index is dropped whole. The definition knows no maps: `fault_at` says why a line is
+//! rejected after the lines before it. The invariant `Hold` relates the two. `Index::len` also states the invariant, because
+//! callers can't see it.
 ghost use Rattle.std.specs.Prelude.{◌≡◌, ◌<◌, ◌≤◌, ◌⊎◌, List, [], ◌∷◌, Some, None, nat_eq, length, position, slice_get, IfOk, IfErr, if◌then◌else◌};
 ghost use Rattle.std.specs.Cmp.Lexicographic.{pointwise};
 ghost use Rattle.std.specs.List.{IsDistinct};
@@ -145,6 +150,7 @@ impl Index {
 /// causes. Numbers and names can be chosen to collide, which makes this slow: use [`read_index_with_keys`] if
 /// somebody else may choose them.
 pub fn read_index(alloc: Global, bytes: &[u8]) -> Result<Index, IndexFault>
+    // If no line is rejected, all are listed: their numbers, their names and their must-close flags.
     ensures index { IfOk result (λ index. IsIndexOf (all_lines bytes.now) index) }
     ensures fault { IfErr result (λ fault. (fault ≡ OutOfMemory) ⊎ IsRejected (all_lines bytes.now) fault) }
 {
@@ -158,6 +164,7 @@ pub fn read_index_with_keys(
     keys: HashKeys,
     bytes: &[u8],
 ) -> Result<Index, IndexFault>
+    // If no line is rejected, all are listed: their numbers, their names and their must-close flags.
     ensures index { IfOk result (λ index. IsIndexOf (all_lines bytes.now) index) }
     ensures fault { IfErr result (λ fault. (fault ≡ OutOfMemory) ⊎ IsRejected (all_lines bytes.now) fault) }
 {

@@ -1,4 +1,13 @@
 //! Consecutive entries that share a few buffers.
+//!
+//! They are in three vectors, and modelled as their list:
+//!
+//!     bytes    o k \n b u i l t \n l i n k \n ...     names    a . o b . o ...
+//!     places   Texts 1 0..3, Mention Made 0..3, Texts 2 3..14, Done 0 0..3, ...
+//!
+//! No line and no name gets its own allocation on its way to the table, or is freed by another thread. `read_line` and `step`
+//! copy a single entry out. The first text of a batch reserves capacity for the rest of the chunk, but no more than the batch
+//! before it consumed, so that buffers are well filled.
 ghost use Rattle.std.specs.Prelude.{◌≡◌, ◌≤◌, ◌+◌, true, [], ◌∷◌, ◌++◌, length, map, drop, slice_range, IfOk, OnOk, OnErr};
 ghost use Rattle.redo_line.specs.Entries.{AreStoredAt, IsLayout, IsWithin, entries_at_place};
 ghost use Rattle.redo_line.specs.Lines.{AreCompleteLines, HasNoLineFeed, ended};
@@ -121,6 +130,8 @@ impl Entries {
 
     /// Returns the buffers.
     pub fn layout(&self) -> Layout<'_>
+        // Each entry is at its stated offsets in the bytes or names. Text lines are as many as stated, with their line
+        // feeds. The texts of notes have none. Names are normal forms.
         ensures { IsLayout result self.now }
     {
         Layout {

@@ -1,4 +1,6 @@
 //! Finds many text lines at once.
+//!
+//! Consecutive text lines are consumed together, as one copy and one `EntryAt`.
 ghost use Rattle.std.specs.Prelude.{◌≤◌, length, take};
 ghost use Rattle.redo_line.specs.Private.CutLine.{AreTextLines};
 

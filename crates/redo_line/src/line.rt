@@ -1,3 +1,6 @@
+//! Reads the entry of a line. `BadRecord` is decided before anything is allocated, so it is returned exactly if a line has no
+//! entry. Names of kinds are compared one after another, because a proof can't cite what a pattern over byte strings says
+//! about the bytes.
 ghost use Rattle.std.specs.Prelude.{◌≡◌, ◌↔◌, ◌&&◌, true, None, Some, Ok, Err, IfOk, IsTrue, nat_eq};
 ghost use Rattle.std.specs.List.{starts_with};
 ghost use Rattle.redo_line.specs.Parts.{split_once};
@@ -63,6 +66,7 @@ pub fn read_line(
     line: LineText,
     ended: bool,
 ) -> Result<Entry, LineFault>
+    // The entry of a record has its pid, as a number.
     ensures entry { IfOk result (λ entry. entry_of target.now line ended ≡ Some entry) }
     ensures bad { (result ≡ Err LineFault.BadRecord) ↔ (entry_of target.now line ended ≡ None) }
     ensures text { candidate_body line ended ≡ None → result ≡ Ok (Text line) }

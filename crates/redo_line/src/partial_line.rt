@@ -39,7 +39,7 @@ impl<'a> Line<'a> {
     }
 }
 
-/// The start of a line that isn't ended yet. It is modelled as the bytes since the last line feed.
+/// The start of an unended line. It is modelled as the bytes since the last line feed.
 #[derive(Drop)]
 pub struct PartialLine {
     alloc: Global,

@@ -1,3 +1,6 @@
+//! Reads records. `IsRecord` is a relation: the line is its parts, joined, and each part has its form. The function cuts at
+//! the first `:`, the next `:` and the first `@` after them, and so does this file. The law `entry_is_sound_and_complete`
+//! says that the function gives an entry exactly if the relation has one, and the same one.
 ghost use Rattle.std.specs.Prelude.{◌≡◌, ◌≢◌, ◌<◌, [], None, Some, IfSome, IfNone, length, option_map};
 ghost use Rattle.std.specs.List.{list_all};
 ghost use Rattle.redo_line.specs.Decimal.{are_digits};

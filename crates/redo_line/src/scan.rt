@@ -1,3 +1,14 @@
+//! The scan of a stream. The log and the fault of a stream are defined over its whole list of bytes (`Log`). A scan is
+//! modelled as the bytes that it consumed (a ghost), with its target, size limit, must-close flag and fault, and not as what
+//! it stores. So its clauses read as sentences, and loops mention no chunks or counters.
+//!
+//! A step first checks whether the next byte is invalid because of its position. Then it passes the bytes within the limit to
+//! `PartialLine`, and appends the entry of the line found. Only these bytes are searched for a line feed. So a line that ends
+//! past the limit isn't found, and the fault is `TooLong`. A byte that is invalid because of its position is reported without
+//! allocating only if a step begins there; otherwise the line before it is copied first.
+//!
+//! No step can check the must-close flag: it concerns the last line, and every other fault comes first. It comes from the
+//! index, not from a reader, and so has a separate layer (`Source`).
 ghost use Rattle.std.specs.Prelude.{◌≡◌, ◌≢◌, ◌<◌, ◌≤◌, ◌^◌, ◌++◌, [], None, Some, Ok, Err, IfOk, IfErr, IfSome, IfNone, length, drop, slice_range, option_to_list};
 ghost use Rattle.redo_line.specs.Lines.{rest, unended};
 ghost use Rattle.redo_line.specs.Source.{source_fault, source_log};
@@ -61,6 +72,7 @@ impl Scan {
         requires at_most { max_bytes ≤ 2 ^ 40 }
         ensures scan { result ≡
             record { target = target; max_bytes = max_bytes; must_close = must_close; bytes = []; failed_with = None } }
+        // It has consumed, rejected and found nothing.
         ensures fault_free { IsFaultFree result }
         ensures none_found { entries_in result ≡ [] }
     {
@@ -126,6 +138,7 @@ impl Scan {
 
         // Otherwise the rest of the chunk is consumed. It ends no further line and has no fault.
         ensures rest_consumed { IfOk result (λ found. IfNone found (ConsumesAll self.old self.new (drop from chunk.now))) }
+        // If no line ends, the entries are unchanged.
         ensures entries_unchanged { IfOk result (λ found. IfNone found (entries.new ≡ entries.old)) }
 
         // The fault is `OutOfMemory` or the fault of the bytes, with no further entry before it.
@@ -164,8 +177,10 @@ impl Scan {
     /// the log must be closed and isn't. If the scan failed before, it returns the same fault again.
     pub fn finish(self) -> Result<Option<Entry>, StreamFault>
         ensures rest { self.failed_with ≡ None → IfOk result (λ last. last ≡ unended_entry (unended (rest self.bytes))) }
+        // With the unended line, the entries found are the log.
         ensures log { self.failed_with ≡ None →
             IfOk result (λ last. source_log self.max_bytes (source_in self) ≡ Some (entries_in self ++ option_to_list last)) }
+        // `NotClosed` is the fault of all bytes consumed.
         ensures not_closed { self.failed_with ≡ None →
             IfErr result (λ fault. (fault ≡ NotClosed) × (source_fault self.max_bytes (source_in self) ≡ Some NotClosed)) }
         ensures sticky { (fault : StreamFault) → self.failed_with ≡ Some fault → result ≡ Err fault }

@@ -27,7 +27,7 @@ pub struct Outcome {
     pub status: u8,
 }
 
-/// What a run is asked.
+/// The parameters of a run.
 #[derive(Clone, Copy)]
 struct Request<'a> {
     plan: &'a Plan,

@@ -1,4 +1,4 @@
--- What an entry in a table is modelled as.
+-- The model of an entry in a table.
 use Rattle.redo_line.specs.declared.entry.Entry.{Entry}
 use Rattle.redo_line.specs.declared.entry.Entry.TheVariants as entry
 use Rattle.redo_logs.specs.declared.entry_ref.EntryRef.{EntryRef}

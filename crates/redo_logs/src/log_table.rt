@@ -1,3 +1,8 @@
+//! A log is the number of its target's name, its `PackedEntries`, and its state. If `add` fails, it may leave bytes, a block
+//! or a name to which no `PackedEntries` refers. Adding never changes what an existing one denotes (`Extends`, `Keeping`),
+//! and every call is proved from that.
+//!
+//! `enter` looks a target up and then inserts it. An insertion alone would allocate before `Twice` could be returned.
 ghost use Rattle.std.specs.Prelude.{◌≡◌, ◌↔◌, ◌<◌, ◌≤◌, ◌^◌, ℕ, [], ◌∷◌, ◌++◌, length, slice_get, slice_index_or};
 ghost use Rattle.std.specs.Prelude.{None, Some, Err, IfOk, OnOk, OnErr, OnSome, IsSome};
 ghost use Rattle.std.specs.List.{list_all};
@@ -89,6 +94,7 @@ impl LogTable {
         ensures number { IfOk result (λ number. number ≡ length self.old) }
         ensures entered { OnOk result (self.new ≡ self.old ++ new_log target ∷ []) }
         ensures room { OnOk result (length self.old < max_logs) }
+        // `Twice` is returned exactly if the target has a log, otherwise `Full` exactly if the table has 1,048,575 logs.
         ensures duplicate { (result ≡ Err TableFault.Twice) ↔ IsSome (log_number target self.old) }
         ensures full { (result ≡ Err TableFault.Full) ↔ ((log_number target self.old ≡ None) × (length self.old ≡ max_logs)) }
         ensures unchanged_on_err { OnErr result (self.new ≡ self.old) }
@@ -125,6 +131,7 @@ impl LogTable {
     /// Adds an entry to a log, which must be running. If this fails, nothing changes.
     pub fn add(&mut self, stream: u32, entry: Entry) -> Result<(), AllocError>
         requires running { slice_get (states_of self.old) stream ≡ Some Running }
+        // The entries are appended to this log, and nothing else changes.
         ensures added { OnOk result (self.new ≡ update_log stream (with_entry entry) self.old) }
         ensures unchanged_on_err { OnErr result (self.new ≡ self.old) }
     {
@@ -137,6 +144,7 @@ impl LogTable {
     /// buffer well aren't copied: the table takes ownership of the buffer.
     pub fn add_all(&mut self, stream: u32, entries: Entries) -> Result<(), AllocError>
         requires running { slice_get (states_of self.old) stream ≡ Some Running }
+        // The entries are appended to this log, and nothing else changes.
         ensures added { OnOk result (self.new ≡ update_log stream (with_entries entries) self.old) }
         ensures unchanged_on_err { OnErr result (self.new ≡ self.old) }
     {
@@ -148,6 +156,7 @@ impl LogTable {
     /// Ends a log, which must be running. It is complete then.
     pub fn end(&mut self, stream: u32)
         requires running { slice_get (states_of self.old) stream ≡ Some Running }
+        // The log keeps its entries, and nothing else changes.
         ensures { self.new ≡ update_log stream (with_state Ended) self.old }
     {
         self.logs[stream as usize].state = LogState::Ended;
@@ -156,6 +165,7 @@ impl LogTable {
     /// Sets the state of a log, which must be running, to failed with this fault. Its entries stay.
     pub fn fail(&mut self, stream: u32, fault: StreamFault)
         requires running { slice_get (states_of self.old) stream ≡ Some Running }
+        // The log keeps its entries, and nothing else changes.
         ensures { self.new ≡ update_log stream (with_state (Failed fault)) self.old }
     {
         self.logs[stream as usize].state = LogState::Failed(fault);
@@ -164,6 +174,7 @@ impl LogTable {
     /// Returns the number of logs.
     pub fn len(&self) -> u32
         ensures len { result ≡ length self.now }
+        // The targets of the logs differ, and there are at most 1,048,575.
         ensures table { IsTable self.now }
     {
         self.logs.len() as u32
@@ -194,7 +205,9 @@ impl LogTable {
 
     /// Returns entry `k` of log `i`, if there is one. Logs and entries are counted from 0.
     pub fn entry(&self, i: u32, k: usize) -> Option<EntryRef<'_>>
+        // An entry has the pid with which it was added.
         ensures entry { option_map entry_value result ≡ entry_at i k self.now }
+        // Entries are numbered below 2^63.
         ensures no_overflow { OnSome result (k < 2 ^ 63) }
     {
         let log = self.logs.get(i as usize)?;

@@ -1,4 +1,8 @@
 //! A read-only view of a table's logs, with a number for each name.
+//!
+//! It is modelled as the list of logs together with the list of names. The table's contract doesn't fix the numbers of names,
+//! because they depend on the order of arrival. `name` and `log_of` map a number to the name and its log, without hashing.
+//! `lines` returns the text lines of a `PackedEntries` as one slice, so a large log is written in few large writes.
 ghost use Rattle.std.specs.Prelude.{◌≡◌, ◌+◌, ◌<◌, ◌^◌, length, nat_eq, slice_get, slice_index_or, Some, None, OnSome, IfSome};
 ghost use Rattle.std.specs.Cmp.Lexicographic.{pointwise};
 ghost use Rattle.std.specs.List.{IsDistinct};
@@ -116,6 +120,7 @@ impl<'a> Numbered<'a> {
     /// Returns entry `k` of log `i`, if there is one. Logs and entries are counted from 0.
     pub fn entry(&self, i: u32, k: usize) -> Option<NumberedEntry<'a>>
         ensures entry { option_map (numbered_value self.now.names) result ≡ entry_at i k self.now.logs }
+        // A mention has the number of its name, and other entries have none.
         ensures numbered { IfSome result (IsNumbered self.now.names) }
         ensures no_overflow { OnSome result (k < 2 ^ 63) }
     {

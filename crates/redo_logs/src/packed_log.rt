@@ -1,4 +1,12 @@
 //! The `PackedEntries` values of one log. A `PackedEntries` may hold several entries.
+//!
+//! It takes 24 bytes, and is several consecutive text lines or one other entry: its pid, status and name number, or for a
+//! note an index into a vector (`NoteSpan`).
+//!
+//! For every eighth one, `checkpoints` has the number of entries before it. A search starts at a checkpoint at or before the
+//! entry and counts from there. If each one before that checkpoint is a single entry, its position is known; otherwise binary
+//! search finds it. The contract says only that checkpoints are correct. Which one is chosen needs no proof: a checkpoint
+//! past the entry is never used.
 ghost use Rattle.std.specs.Prelude.{◌≡◌, ◌≤◌, ◌<◌, ◌*◌, ◌^◌, ◌⊎◌, ◌++◌, [], ◌∷◌, length, take, IfSome, IfNone, OnOk, OnErr, OnSome};
 ghost use Rattle.redo_logs.specs.Private.PackedLog.{AddsCheckpoint, IsBefore, IsLocated, count_of};
 

@@ -1,4 +1,14 @@
 //! Storage that the entries of all logs share: their texts, contiguous in blocks, and their names, each once.
+//!
+//! Texts are contiguous in one byte vector, block 0, each with a line feed, so consecutive lines are one slice. If the texts
+//! of a batch have at least 1,024 bytes and fill half of their buffer, the table takes ownership of it as another block
+//! (`taken`). This saves the collector the copying, and the senders are the first to touch the memory. Smaller texts are
+//! copied: a block costs 24 bytes and may be half empty.
+//!
+//! Every name that a record mentions, and every log's own target, is in an `indexmap` set. A name's number is its position;
+//! `places` maps it to the number of the target's log, if there is one. A name is first compared with the last one found,
+//! which costs a tenth of a hash look-up and often succeeds. Offsets and numbers of names are as wide as an address, so
+//! memory runs out before one overflows.
 ghost use Rattle.std.specs.Prelude.{◌≡◌, ◌+◌, ◌<◌, ◌≤◌, ◌^◌, ◌++◌, [], ◌∷◌, Some, nat_eq, length, drop, position, slice_get, IfOk, IfSome};
 ghost use Rattle.std.specs.List.{AllByRecursion, flat_map};
 ghost use Rattle.std.specs.Cmp.Lexicographic.{pointwise};

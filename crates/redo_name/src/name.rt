@@ -171,6 +171,7 @@ fn begins_with_slash(name: &[u8]) -> bool
     !name.is_empty() && name[0] == b'/'
 }
 
+// Names are compared and hashed by their bytes.
 impl PartialEq for TargetName {
     ghost eq = { λ a b. pointwise nat_eq a b };
 

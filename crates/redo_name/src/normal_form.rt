@@ -1,5 +1,13 @@
 //! Builds a normal form from the front. A path holds the segments kept so far, each after a slash;
 //! a relative path has no slash before its first segment.
+//!
+//! The definition `normal` is a recursion that in effect works from the last segment. This code works from the first one: it
+//! appends a segment after a slash, and removes one by truncating at the last slash. `Path` relates the two: for all
+//! segments that follow, the path and the segments so far give the same normal form.
+//!
+//! The path reserves capacity for directory and name first, so a name allocates once. For `..`, a list of segment offsets
+//! would need a second allocation. Names are split by `find_byte` of `bstr`. Its search for substrings starts from scratch
+//! for each name, which took a fifth of the time for many records.
 ghost use Rattle.std.specs.Prelude.{◌≡◌, ℕ, ◌↔◌, ◌<◌, ◌≤◌, List, [], ◌∷◌, ◌++◌, IsTrue, IfNone, IfSome, OnOk, length, take};
 ghost use Rattle.redo_name.specs.Names.{slash, segment_kind, Skipped, Upward, segments, HasNoSlash};
 ghost use Rattle.redo_name.specs.Private.Path.{Adds, CanPop, with_separator};

@@ -1,3 +1,4 @@
+//! The plan of a run. It needs nothing from gathering, so its mutants are tried in seconds here. `redo_gather` re-exports it.
 ghost use Rattle.std.specs.Prelude.{◌≡◌, ◌↔◌, Err, IfOk};
 ghost use Rattle.redo_options.specs.Limits.{IsSenderCount, IsCapacity};
 ghost use Rattle.redo_options.specs.Plan.{IsByteLimit};
@@ -48,6 +49,7 @@ impl Plan {
     /// 1,099,511,627,776 bytes for each stream.
     pub fn new(senders: u32, capacity: u32, max_bytes: u64) -> Result<Plan, PlanFault>
         ensures plan { IfOk result (λ plan. plan ≡ record { senders = senders; capacity = capacity; max_bytes = max_bytes }) }
+        // The fault is the first number out of range, and there is none otherwise.
         ensures senders { (result ≡ Err PlanFault.Senders) ↔ (IsSenderCount senders → ⊥) }
         ensures capacity { (result ≡ Err PlanFault.Capacity) ↔ (IsSenderCount senders × (IsCapacity capacity → ⊥)) }
         ensures max_bytes { (result ≡ Err PlanFault.MaxBytes)

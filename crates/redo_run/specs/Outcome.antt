@@ -12,7 +12,7 @@ use Rattle.redo_index.specs.Index.{must_close_flags}
 use Rattle.redo_run.specs.declared.run_fault.RunFault.{RunFault}
 use Rattle.redo_run.specs.Run.{Request, request, result_of}
 
--- A call of `run`: what the run is asked, and what is known of its readers.
+-- A call of `run`: its request, and what is known of its readers.
 pub record Call : Type 0 where
   pub request : Request
   pub inputs : List KnownInput

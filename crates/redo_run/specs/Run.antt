@@ -15,7 +15,7 @@ use Rattle.redo_run.specs.declared.run_fault.RunFault.TheVariants as fault
 use Rattle.redo_index.specs.declared.index_entry.IndexEntry.{IndexEntry}
 use Rattle.redo_index.specs.Index.{listed_targets}
 
--- What a run is asked: all targets, the maximum number of bytes of a stream, what the text shows, and the arguments that
+-- The request of a run: all targets, the maximum number of bytes of a stream, what the text shows, and the arguments that
 -- name the requested targets.
 pub record Request : Type 0 where
   pub targets : List (List ℕ)

@@ -10,7 +10,7 @@ ghost use Rattle.redo_run.specs.Run.{Request, result_of};
 
 use redo_gather::logs_unless_fault;
 
-/// Every run has a result, whatever its streams are: a text, or the fault that is returned instead.
+/// Every run has a result, for any streams: a text, or the fault that is returned instead.
 pub fn run_has_a_result()
     ensures { (request : Request) (streams : List (StreamInput Stream)) → IsSome (result_of request streams) }
 {

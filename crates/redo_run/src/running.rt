@@ -1,3 +1,8 @@
+//! The result of a run is a function of the request and the streams (`result_of`): the first unknown target, otherwise the
+//! first fault of a stream, otherwise the text. `run` is `run_as` with plain text, and its proof needs no file: each of its
+//! clauses is a clause of `run_as`, by the definitions. Targets are looked up in the index. The table will have the same
+//! ones, as `Render::render` requires. `run` calls the law `logs_unless_fault`. At run time this does nothing; it is how a
+//! proof uses another crate's law.
 ghost use Rattle.std.specs.Prelude.{◌≡◌, ◌≢◌, ◌<◌, ◌⊎◌, true, None, Err, IfOk, IfErr, OnOk, length, map};
 ghost use Rattle.std.specs.List.{list_all};
 ghost use Rattle.redo_line.specs.declared.stream_fault.StreamFault.TheVariants as stream;
@@ -59,7 +64,8 @@ pub fn run<T: Threads + Wait + Sync, R: Feed + Send, W: Sink, G: Gate>(
     ensures ok { IfOk result (λ _. WritesSomeText (call R.contents index.now readers.items plan.now.max_bytes options.now arguments.now)
         (W.written out.old) (W.written out.new)) }
 
-    // An argument is unknown, or a stream has a fault: the fault says which one, and nothing was written.
+    // An argument is unknown, or a stream has a fault, and nothing was written. An argument is unknown if it is empty or names no target of
+    // the index; the fault has the lowest position of such an argument. Without one, it has the lowest-numbered stream with a fault.
     ensures fault { IfNoText result
         (IsSomeResultFault (call R.contents index.now readers.items plan.now.max_bytes options.now arguments.now)) }
     ensures nothing_written { IfNoText result (λ _. W.written out.new ≡ W.written out.old) }
@@ -105,7 +111,8 @@ pub fn run_as<T: Threads + Wait + Sync, R: Feed + Send, V: Render, W: Sink, G: G
         (render_call (V.text renderer.now) R.contents index.now readers.items plan.now.max_bytes arguments.now)
         (WroteAll (W.written out.old) (W.written out.new))) }
 
-    // An argument is unknown, or a stream has a fault: the fault says which one, and nothing was written.
+    // An argument is unknown, or a stream has a fault, and nothing was written. An argument is unknown if it is empty or names no target of
+    // the index; the fault has the lowest position of such an argument. Without one, it has the lowest-numbered stream with a fault.
     ensures fault { IfNoText result (IsSomeRenderedFault
         (render_call (V.text renderer.now) R.contents index.now readers.items plan.now.max_bytes arguments.now)) }
     ensures nothing_written { IfNoText result (λ _. WroteNothing (W.written out.old) (W.written out.new)) }

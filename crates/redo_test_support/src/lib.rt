@@ -1,6 +1,11 @@
 //! Fixtures of tests, measurements and single calls: targets, their streams, readers that cut the
 //! streams, and a writer that counts bytes; senders and a collector that drive a mailbox; and the
 //! text forms of entries, logs and items.
+//!
+//! A test iterates over a `static` table by reference and passes each case to a short function, because proofs grow faster
+//! than functions. A `const` is rebuilt wherever it is named. Functions that own a table or readers, also outside tests,
+//! should only create them and lend them out: each exit drops what it owns, and each drop is proved. So `LogTable` and
+//! `Index` implement `Drop` by hand.
 #![tactic(auto)]
 
 mod counter;

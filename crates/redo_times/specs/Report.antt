@@ -12,7 +12,7 @@ use Rattle.redo_times.specs.declared.report.Stage.{Stage}
 use Rattle.redo_times.specs.declared.report.Stage.TheVariants.{Began, EndedInOwnLog, EndedInOtherLog}
 use Rattle.redo_times.specs.Time.{time_value}
 
--- A log of which times are read: its target, and the bytes of its stream.
+-- A log whose times are read: its target, and the bytes of its stream.
 pub record TimedLog : Type 0 where
   pub target : List ℕ
   pub bytes : List ℕ

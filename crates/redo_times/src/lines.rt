@@ -1,4 +1,7 @@
 //! What the lines of a chunk of a log report.
+//!
+//! A line is skipped unless it begins with `@@REDO:`. Only `do` and `done` records are resolved and looked up. A record that
+//! is not valid is skipped, because a run reports it. So a stream with a fault has times too.
 ghost use Rattle.std.specs.Prelude.{◌≡◌, ◌≤◌, ℕ, List, ◌++◌, ◌∷◌, [], drop, length, IfOk, OnOk};
 ghost use Rattle.redo_index.specs.Index.{listed_targets, IsIndex};
 ghost use Rattle.redo_line.specs.Lines.{ended, rest};

@@ -1,4 +1,6 @@
 //! Reads the stream of one log.
+//!
+//! The line that a chunk ends in is stored until it ends, even if it is text. So the longest line determines the memory.
 ghost use Rattle.std.specs.Prelude.{◌≡◌, ◌<◌, List, ◌++◌, [], IsOk, OnOk, Some, length};
 ghost use Rattle.redo_device.specs.Feed.{SomeStream, Stream};
 ghost use Rattle.redo_index.specs.Index.{listed_targets, IsIndex};

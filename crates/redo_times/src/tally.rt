@@ -18,7 +18,7 @@ pub struct Tally {
 }
 
 impl Tally {
-    /// Creates the tally of a target of which nothing was found.
+    /// Creates the tally of a target without any report.
     pub fn empty() -> Tally
         ensures { (target : _) → result ≡ tally_of [] target }
     {

@@ -1,4 +1,6 @@
 //! The value of a record's time.
+//!
+//! Only seconds from 1,000,000,000 to 9,999,999,999 are a time, because a clock that is not set would stretch a timeline.
 ghost use Rattle.std.specs.Prelude.{◌≡◌, ◌-◌, ◌<◌, ◌≤◌, IfSome, slice_index_or};
 ghost use Rattle.redo_times.specs.Time as spec;
 

@@ -1,3 +1,6 @@
+//! The definition collects what all logs report (`reports_of`), and takes the first beginning and the last end of a target
+//! from it. The code keeps one tally for each target. Nothing is proved about two readings of one file: it may change between
+//! `read_times` and a run.
 ghost use Rattle.std.specs.Prelude.{◌≡◌, ◌<◌, [], IfOk, OnOk, length, map};
 ghost use Rattle.std.specs.List.{AllByRecursion};
 ghost use Rattle.redo_index.specs.Index.{listed_targets, IsIndex};
@@ -42,6 +45,7 @@ pub fn read_times<R: Feed>(
     max_bytes: u64,
 ) -> Result<Vec<Times>, AllocError>
     requires { length readers.items ≡ length index.now }
+    // These are the times of the streams that the readers give; for an opaque reader, of some stream.
     ensures times { IfOk result (λ times.
         AreTimesOfReaders max_bytes (listed_targets index.now) (map R.contents readers.items) times.items) }
     ensures in_range { IfOk result (λ times. AllByRecursion AreInRange times.items) }
@@ -82,7 +86,7 @@ fn read_tallies<R: Feed>(
     Ok(tallies)
 }
 
-// Returns a tally for each target, of which nothing is known.
+// Returns an empty tally for each target.
 fn empty_tallies(alloc: Global, index: &Index) -> Result<Vec<Tally>, AllocError>
     ensures tallies { IfOk result (λ tallies. AreTallies (listed_targets index.now) [] tallies.items) }
     ensures index { IsIndex index.now }
@@ -91,7 +95,7 @@ fn empty_tallies(alloc: Global, index: &Index) -> Result<Vec<Tally>, AllocError>
     Ok(tallies)
 }
 
-// Adds what all logs report to tallies of which nothing is known.
+// Adds what all logs report to empty tallies.
 fn add_streams<R: Feed>(
     alloc: Global,
     index: &Index,

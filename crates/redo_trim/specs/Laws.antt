@@ -64,7 +64,7 @@ abbrev pub after_head : ℕ → List (List ℕ) → List (List ℕ)
 after_head bytes [] = []
 after_head bytes (line ∷ lines) = if nat_le (line_size line) bytes then after_head (bytes - line_size line) lines else line ∷ lines
 
--- Of lines of which the first one begins at byte `begin`, those that begin at byte `tail` or after it.
+-- The lines that begin at byte `tail` or after it, if the first one begins at byte `begin`.
 abbrev pub lines_from : ℕ → ℕ → List (List ℕ) → List (List ℕ)
 lines_from tail begin [] = []
 lines_from tail begin (line ∷ lines) = if nat_le tail begin then line ∷ lines else lines_from tail (begin + line_size line) lines

@@ -87,7 +87,7 @@ abbrev pub after_end : List Gauge → List Gauge
 after_end [] = []
 after_end (gauge ∷ outer) = outer
 
--- These events, of which none opens a log, and what follows them.
+-- These events, none of which opens a log, and what follows them.
 abbrev pub with_shown_all : List Event → Contents → Contents
 with_shown_all [] rest = rest
 with_shown_all (event ∷ events) rest = Shown event (with_shown_all events rest)

@@ -1,4 +1,7 @@
 //! The gauges of the logs that are open.
+//!
+//! A line that begins at the end of the head or before it, and isn't kept, is the first one that is left out. So no gauge
+//! stores whether a marker was shown.
 ghost use Rattle.std.specs.Prelude.{◌≡◌, ◌<◌, ◌∷◌, [], OnOk};
 ghost use Rattle.redo_view.specs.EventRef.{IsWrittenAlone, event_value};
 ghost use Rattle.redo_trim.specs.Trim.{after_end, gauge_of, gauges_after, innermost, showing_in, with_opened, with_text};

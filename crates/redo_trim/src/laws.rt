@@ -1,4 +1,7 @@
 //! Laws about the definitions alone: their contracts are theorems, and their bodies are empty.
+//!
+//! The tree of what is shown is defined twice: as the tree of the trimmed events, and as the trimmed tree (`trim`). A law
+//! says that both are the same, so what is proved of trees holds for what is shown.
 ghost use Rattle.std.specs.Prelude.{◌≡◌, ◌≤◌, ◌+◌, ◌-◌, ◌++◌, ◌∷◌, [], ℕ, List};
 ghost use Rattle.redo_view.specs.Event.{Event};
 ghost use Rattle.redo_view.specs.Form.{bytes_of, state_after, text_events};
@@ -39,7 +42,7 @@ pub fn unlimited_logs_are_whole()
 
 /// Of a log, only lines in the middle are left out: its head and its tail are kept, unchanged and in order. One marker is shown
 /// between them, if any line is left out. At most as many bytes are kept as the head may have, and as there are at the limit's `tail` and
-/// after it.
+/// after it. The two numbers of the limit must fit into 64 bits.
 pub fn head_and_tail_are_kept()
     ensures parts { (limit : Limit) (lines : List (List ℕ)) →
         lines ≡ head_lines limit.head lines ++ (left_out limit lines ++ tail_lines limit lines) }
@@ -52,7 +55,7 @@ pub fn head_and_tail_are_kept()
         text_size (head_and_tail limit lines) ≤ limit.head + (text_size lines - limit.tail) }
 {}
 
-/// What the adapter writes for events is what its form writes for what is shown of them. So it is with the form's state.
+/// What the adapter writes for events is what its form writes for the events that are left. The same holds for the form's state.
 pub fn trimmed_form_writes<F: Form>()
     ensures bytes { (form : Trimmed F) (events : List Event) →
         bytes_of (form_bytes F.bytes F.after) (form_after F.after) form events

@@ -1,4 +1,9 @@
 //! Limits of logs, and what becomes of a text line.
+//!
+//! A limit is two numbers: where the head of a log ends and where its tail begins. So what becomes of a line depends only on
+//! its own bytes and on those before it, and the events are walked once. A caller has to know how long the logs are to set
+//! limits; a page takes this from its outline. A count that is saturated at 2^64 - 1 decides as the exact count does, because
+//! a tail begins before that (`FitsInto64Bits`). The laws about lines use the exact count.
 ghost use Rattle.std.specs.Prelude.{◌≡◌, ◌<◌};
 ghost use Rattle.redo_trim.specs.Trim.{showing_of};
 

@@ -1,4 +1,8 @@
 //! The adapter.
+//!
+//! The marker is a note of an empty kind. No log has one, because the kind of a record has at least one byte. So no new event
+//! was needed, and each form can show the marker. Lines that are stored together are passed on together as soon as none is
+//! left out any more. Before that they are passed one by one.
 ghost use Rattle.std.specs.Prelude.{◌≡◌, ◌<◌, ◌^◌, true, [], length, OnOk};
 ghost use Rattle.redo_line.specs.Lines.{ended, rest};
 ghost use Rattle.redo_view.specs.EventRef.{IsWrittenAlone, event_value};
@@ -57,7 +61,7 @@ impl<'a, F: Form> Trimmed<'a, F> {
         form
     }
 
-    // Passes on text lines, at least one, of which none is left out.
+    // Passes on text lines, at least one. None is left out.
     fn pass_on<W: Sink>(&mut self, depth: usize, lines: &[u8], out: &mut W) -> Result<(), FormFault>
         requires depth { depth < 2 ^ 60 }
         requires complete { rest lines.now ≡ [] }

@@ -1,4 +1,4 @@
--- What an event is modelled as that a form is passed.
+-- The model of an event that is passed to a form.
 use Rattle.std.specs.Prelude.{◌<◌, ◌^◌, ⊤}
 use Rattle.redo_line.specs.declared.entry.Entry.{Entry}
 use Rattle.redo_line.specs.declared.entry.Entry.TheVariants as entry

@@ -1,4 +1,7 @@
 //! Shows one entry of a log: its own line, and which log it opens.
+//!
+//! It marks the target that the entry mentions, and returns the log to open. Apart from the form, it neither hashes nor
+//! allocates.
 ghost use Rattle.std.specs.Prelude.{◌≡◌, ◌<◌, ◌^◌, Some, false, length, IfOk, OnOk};
 ghost use Rattle.redo_logs.specs.declared.numbered.NumberedEntry.TheVariants.{Mention};
 ghost use Rattle.redo_view.specs.Expansion.{is_mention};

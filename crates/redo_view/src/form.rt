@@ -1,4 +1,9 @@
 //! The form in which events are written.
+//!
+//! Its ghost members `bytes` and `after` give the bytes of an event and the state after it, so a form can count, or collect
+//! facts and write nothing. Text lines that are stored together are one call of `write_texts`, with all their bytes, so
+//! nothing is allocated or copied per line. By definition each is an event (`text_events`). `AreLinesAt` states that these
+//! lines are the log's texts.
 ghost use Rattle.std.specs.Prelude.{◌≡◌, ◌<◌, ◌^◌, ℕ, List, [], OnOk};
 ghost use Rattle.redo_line.specs.Lines.{ended, rest};
 ghost use Rattle.redo_view.specs.declared.form.FormFault.TheVariants.{Write, OutOfMemory};

@@ -1,4 +1,10 @@
 //! Laws about the definitions alone: their contracts are theorems, and their bodies are empty.
+//!
+//! The list of opened logs grows without a test, so that it is a theorem that no log is opened twice. Other laws are about
+//! the events, because a definition that shows a log again without recording it would satisfy this theorem. `named_once` says
+//! which targets are named, not which bytes are written: a text line may look like a redo line. That logs are nested needs an
+//! invariant: with `recursive`, a named target's log was opened, if it has one (`Settled`). Otherwise a mention without a
+//! line could open a log.
 ghost use Rattle.std.specs.Prelude.{◌≡◌, ℕ, false, List, [], nat_eq};
 ghost use Rattle.std.specs.Cmp.Lexicographic.{pointwise};
 ghost use Rattle.std.specs.List.{IsDistinct};
@@ -34,7 +40,7 @@ pub fn entries_in_order()
     ensures concatenation { (logs : List Log) (options : Options) (show : ShowLog) → PartsAreShownInOrder logs options show }
 {}
 
-/// What a log adds follows everything shown before it, and doesn't depend on that. So it is with the text.
+/// What a log adds follows everything shown before it, and doesn't depend on that. The same holds for the text.
 pub fn text_is_append_only()
     ensures events { (logs : List Log) (options : Options) → IsAppendOnly logs options (show_log logs options) }
     ensures text { (logs : List Log) (options : Options) → TextIsAppendOnly logs options (show_log logs options) }
@@ -55,6 +61,7 @@ pub fn each_log_once()
 pub fn at_first_mention()
     ensures mentioned { (logs : List Log) (options : Options) (how : How) (name : List ℕ) → MentionedFirst logs options how name }
     ensures mentioned_again { (logs : List Log) (options : Options) (how : How) (name : List ℕ) → MentionedAgain logs options how name }
+    // If no log is to be opened, the mention's line comes alone.
     ensures mentioned_unopened { (logs : List Log) (options : Options) (how : How) (name : List ℕ) →
         MentionedUnopened logs options how name }
     ensures requested { (logs : List Log) (options : Options) (requested : List (List ℕ)) → RequestedFirst logs options requested }

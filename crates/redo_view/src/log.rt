@@ -1,4 +1,13 @@
 //! Shows a whole log, with the logs that it mentions.
+//!
+//! `show_log` doesn't recurse. A frame is the number of a log and its next entry. The current frame is a local variable, the
+//! enclosing ones are in a vector, and the depth is their number plus one:
+//!
+//!     log 0: A, mention of 1, B           outer: (0, 2)    current: (1, 1)     remaining: D at depth 2, then B at depth 1
+//!     log 1: C, mention of 0, D
+//!
+//! The invariant is that what remains of the frames, after what was shown, gives the whole (`Walking`: `finished`). There are
+//! never more frames than logs. A frame takes 16 bytes of heap and no stack.
 ghost use Rattle.std.specs.Prelude.{◌≡◌, ◌<◌, ◌^◌, [], ◌∷◌, false, length};
 ghost use Rattle.redo_line.specs.Lines.{ended, rest};
 ghost use Rattle.redo_view.specs.Event.Event.{LogEnds};

@@ -1,4 +1,6 @@
 //! Writes the texts of entries, part by part.
+//!
+//! Indents are written 4,096 spaces at once: the text of a million nested logs has 10^12 bytes, nearly all spaces.
 ghost use Rattle.std.specs.Prelude.{◌≡◌, ◌<◌, ◌^◌, ◌++◌, [], Some, codes, decimal, if◌then◌else◌};
 ghost use Rattle.redo_line.specs.Lines.{with_line_feed};
 ghost use Rattle.redo_device.specs.Sink.{Writes};

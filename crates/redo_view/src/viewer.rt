@@ -1,3 +1,11 @@
+//! A `Viewer` borrows the numbered logs, the flags (`Visited`), the form and the writer. The flags are two vectors: which
+//! names were named, and which logs were opened. They represent the lists of the definition (`MatchesFlags`), whose order
+//! doesn't affect what is shown. They are plain vectors, because a type for them would have to know the names. If a viewer
+//! owned its flags, its borrow of the writer would not end for the prover, and nothing would be known of the writer
+//! afterwards.
+//!
+//! The viewer returns `ViewFault`, though never `Unknown`; `show_event` and `show_lines` convert the faults of a form.
+//! `view_known` has one clause, `RenderedOrFailed`, from which the prover finds the clauses of `view_as`.
 ghost use Rattle.std.specs.Prelude.{◌≡◌, ◌↔◌, ℕ, true, not, None, Some, Err, OnOk};
 ghost use Rattle.std.specs.List.{list_all};
 ghost use Rattle.redo_logs.specs.Logs.{has_ended, targets_of};
@@ -152,7 +160,7 @@ pub fn view_as<F: Form, W: Sink>(
     view_known(alloc, table, options, form, requested, out)
 }
 
-// The same, if each requested target has a log.
+// Shows the requested targets as [`view_as`] does, if each of them has a log.
 fn view_known<F: Form, W: Sink>(
     alloc: Global,
     table: &LogTable,

@@ -1,4 +1,5 @@
--- An example of the mailbox as a machine, computed: two ends, and room for one item. Then steps that are impossible.
+-- An example of the mailbox as a machine, computed: two ends, and room for one item. Then steps that are impossible,
+-- such as a post by an end that isn't made yet, or was met.
 use Rattle.std.proofs.Common.{◌≡◌, ℕ, zero, suc, ◌+◌, ◌<◌, ◌≤◌, List, [], ◌∷◌, ◌++◌, length, refl, ap, ◌∙◌, inl, inr, arith}
 use Rattle.std.proofs.lemmas.List.{length-append}
 use Rattle.redo_wire.specs.declared.item.Item.{Item}

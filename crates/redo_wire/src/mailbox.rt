@@ -1,3 +1,12 @@
+//! A mailbox is a bounded channel of `crossbeam_channel` that maintains the rule of `rule.rt`. `post` blocks while it is
+//! full, `take` while it is empty. Both return when the other side is gone. Only `open` allocates.
+//!
+//! The rule is about schedules of the machine, so that there is only one definition to believe. `post`, `take` and `rest` say
+//! which step the machine took. `open` and `meet` can't, because the channel's `Split` and `Join` only make views. The take
+//! end holds no sending half of the channel. So `take` returns `None` instead of blocking forever when all ends are gone.
+//!
+//! `meet` takes the runtime although it doesn't block: an implementation that does could have the same signature. `post` and
+//! `take` block as the channel does. Yielding first was measured (bench/README.md).
 ghost use Rattle.std.specs.Prelude.{◌≡◌, ◌<◌, ◌≤◌, ◌^◌, true, ◌↔◌, IfOk, IfErr, OnOk, IfSome, IfNone};
 ghost use Rattle.std.specs.List.{list_all};
 ghost use Rattle.redo_wire.specs.Machine.{FindsEmpty, Takes};
@@ -59,7 +68,9 @@ pub fn open(
 ) -> Result<(TakeEnd, Vec<PostEnd>), AllocError>
     requires capacity { (1 ≤ capacity) × (capacity ≤ 2 ^ 16) }
     requires senders { (1 ≤ senders) × (senders ≤ 64) }
+    // The mailbox has this capacity and this number of post ends. Nothing was taken, and no end was met.
     ensures take_end { IfOk result (λ ends. IsOpened capacity senders ends.0) }
+    // The end at index i has number i, is of this mailbox, and posted nothing.
     ensures post_ends { IfOk result (λ ends. AreEndsOf ends.0.mailbox ends.1.items) }
 {
     open_sized::<Brand>(alloc, capacity, senders)

@@ -1,4 +1,14 @@
 //! The rule of the mailbox: what its passes know, and the steps that they take.
+//!
+//! Each caller of the channel holds a *pass*, a token without bytes. Its ghost view is what its holder knows (`View`): for a
+//! post end, its number and what it posted; for the take end, what it took and which ends it met. The rule (`Invariant`) says
+//! that a schedule of the machine leads to a state with this queue, and that every view is true of it. Each call is one step,
+//! and is allowed only if it keeps the rule for any items in the channel and any views of the others; a lemma says so for each
+//! (`Moves`). For each met end, the items taken and queued are all that it posted. So a take knows that what was taken is a
+//! prefix of that, and all of it if the channel is empty. Items of different senders have no known order.
+//!
+//! A rule is a type and can't name the numbers of a run. So the first pass learns them by a step that is generic in a type
+//! with these ghosts (`InitStep`).
 ghost use Rattle.std.specs.Prelude.{ℕ};
 
 use crate::item::Item;

@@ -1,4 +1,7 @@
 //! The items taken from a mailbox are the items posted, in order for each sender.
+//!
+//! They arrive from two ends on the collector's thread, from 1, 2 and 64 parallel senders with capacities from 1 to 65,536,
+//! and from 4 senders a hundred times. An item comes back if nobody can take it, and none comes once all ends are gone.
 ghost use Rattle.std.specs.Prelude.{◌≡◌, IfOk};
 
 use redo_line::{Entries, Entry};

@@ -1,4 +1,4 @@
--- How the items that were taken are stored in a table, whatever the order in which senders post.
+-- How the items that were taken are stored in a table, in any order in which senders post.
 use Rattle.std.specs.Prelude.{◌≡◌, ◌≢◌, ℕ, ◌<◌, Bool, false, List, [], ◌∷◌, Option, length, map}
 use Rattle.std.specs.List.{AllByRecursion}
 use Rattle.redo_line.specs.declared.stream_fault.StreamFault.TheVariants.{OutOfMemory}
@@ -65,7 +65,7 @@ pub record AllExpected (max_bytes : ℕ) (names : List (List ℕ)) (known : List
   pub expected : AllByRecursion (PostedExpected max_bytes collector.take_end.mailbox.senders (sources names known)) collector.take_end.met
   pub holds : StoresAllTaken names collector.take_end.taken collector.table collector.out_of_memory
 
--- The same, and all that was posted was taken.
+-- The streams were distributed as in `AllExpected`, and all that was posted was taken.
 pub record AllTaken (max_bytes : ℕ) (names : List (List ℕ)) (known : List KnownInput) (collector : LogCollector) : Type 0 where
   pub expected : AllExpected max_bytes names known collector
   pub met : AreAllMet collector.take_end

@@ -23,7 +23,7 @@ pub record Represents (absolute : Bool) (path : List ℕ) (parts : List (List �
   pub left : IsReduced absolute parts ups kept
   pub bytes : path ≡ built absolute parts
 
--- The path represents segments that have the same normal form as `before` followed by `more`, whatever segments follow.
+-- The path represents segments that have the same normal form as `before` followed by `more`, for all segments that follow.
 pub record RepresentsExtended (absolute : Bool) (before more : List (List ℕ)) (path : List ℕ) : Type 0 where
   pub parts : List (List ℕ)
   pub stands : Represents absolute path parts
@@ -44,6 +44,6 @@ abbrev pub CanPop : List ℕ → Option ℕ → Type 0
 CanPop path above = (absolute : Bool) (parts : List (List ℕ)) (stands : Represents absolute path parts)
     → MatchOption above (stands.kept ≡ []) (λ n. (kept : List (List ℕ)) × (last : List ℕ) × (stands.kept ≡ kept ++ last ∷ []) × (take n path ≡ built absolute (replicate stands.ups dot_dot ++ kept)))
 
--- Processing these segments gives the same state as processing the others, whatever segments follow.
+-- Processing these segments gives the same state as processing the others, for all segments that follow.
 abbrev pub LeavesSame : List (List ℕ) → List (List ℕ) → Type 0
 LeavesSame segments others = (behind : List (List ℕ)) → reduce_suffix (segments ++ behind) ≡ reduce_suffix (others ++ behind)
