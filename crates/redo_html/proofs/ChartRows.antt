@@ -1,7 +1,7 @@
 -- Rows of charts: the chart, its HTML, its text and its tags. An independent program in Python computed the values.
 use Rattle.std.proofs.Common.{◌≡◌, ℕ, Bool, true, false, List, [], ◌∷◌, ◌++◌, Option, None, Some, Bor, refl}
 use Rattle.std.specs.Char.{encode_utf8}
-use Rattle.std.specs.Prelude.{bytes_eq, codes}
+use Rattle.std.specs.Prelude.{bytes_eq, codes, map}
 use Rattle.std.specs.Fmt.{digits}
 use Rattle.std.specs.List.{AllByRecursion, list_all, list_any}
 use Rattle.redo_html.specs.declared.chart.Anchor.TheVariants as anchor
@@ -13,7 +13,7 @@ use Rattle.redo_html.specs.declared.chart.GroupKind.{GroupKind}
 use Rattle.redo_html.specs.declared.chart.GroupKind.TheVariants.{Axis, Callers, Recipes, Untimed}
 use Rattle.redo_html.specs.declared.markup.Markup.TheVariants.{EndCell}
 use Rattle.redo_html.specs.declared.piece.Piece.TheVariants as piece
-use Rattle.redo_html.specs.Chart.{Drawing, drawing_links, drawing_of, layer_nodes, layer_of, nodes_html, percent_text, shape_nodes, shape_of}
+use Rattle.redo_html.specs.Chart.{Drawing, drawing_links, drawing_of, lanes_word, layer_nodes, layer_of, nodes_html, percent_text, shape_nodes, shape_of}
 use Rattle.redo_html.specs.Html.{start_name, svg_elements, tags_of}
 use Rattle.redo_html.specs.Laws.{has_bytes, markup_tag, reworded}
 use Rattle.redo_html.specs.Parts.{Part, part_html, part_of, part_text, part_tokens}
@@ -229,3 +229,7 @@ svg_elements_are_used :
     (tags_of (part_tokens (part_of (piece.Chart full))))) svg_elements ≡ true
 unfolding symbols_after first_symbol symbol_len is_sequence sequence_len sequence_numbers first_code_point code_point_len is_unprintable notation unprintable_text number_text encode_utf8 digits
 svg_elements_are_used = refl
+
+lane_words : map lanes_word (0 ∷ 1 ∷ 2 ∷ 11 ∷ 21 ∷ [])
+    ≡ codes " lanes" ∷ codes " lane" ∷ codes " lanes" ∷ codes " lanes" ∷ codes " lanes" ∷ []
+lane_words = refl

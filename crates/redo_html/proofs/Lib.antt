@@ -2,7 +2,11 @@ mod ChartReading
 mod ChartRows
 mod ChartTags
 mod ChartWriting
+pub mod CutLemmas
+mod CutRows
 mod HtmlRows
+mod IdLemmas
+mod LaneLemmas
 mod LargeRows
 mod LawRows
 mod CodePointRows

@@ -1,7 +1,8 @@
 -- Lemmas about sequences that follow each other, and about the shortest ones.
-use Rattle.std.proofs.Common.{◌≡◌, ℕ, None, ◌+◌, ◌<◌, ◌≤◌, true, false, List, [], ◌∷◌, length, take, drop, slice_index, refl, sym, ◌∙◌, ap, arith}
+use Rattle.std.proofs.Common.{◌≡◌, ℕ, zero, suc, None, ◌+◌, ◌<◌, ◌≤◌, true, false, List, [], ◌∷◌, ◌++◌, length, take, drop, slice_index, refl, sym, ◌∙◌, ap, arith}
 use Rattle.std.specs.Prelude.{◌==◌, ◌||◌, ◌&&◌, if◌then◌else◌}
-use Rattle.std.proofs.lemmas.List.{drop-drop, length-drop}
+use Rattle.std.specs.List.{prefix_len}
+use Rattle.std.proofs.lemmas.List.{drop-drop, get_or-drop, length-drop}
 use Rattle.std.proofs.lemmas.List.Sums.{prefix_len-drop_no}
 use Rattle.redo_html.specs.declared.text_kind.TextKind.{TextKind}
 use Rattle.redo_html.specs.declared.text_kind.TextKind.TheVariants.{Log, Monochrome, Title}
@@ -15,21 +16,44 @@ use Rattle.redo_html.proofs.PassageLemmas.{sequence_step}
 use Rattle.redo_html.proofs.StyleLemmas.{sequence_style}
 use Rattle.redo_html.proofs.SymbolLemmas.{all_parts, sequence_parts, sequence_symbol, sequence_found}
 
+-- A sequence with `count` bytes of parameters.
+pub known_sequence : (bytes : List ℕ) (final count : ℕ) → slice_index bytes 0 ≡ 27 → slice_index bytes 1 ≡ 91
+    → parameter_count bytes ≡ count → slice_index bytes (2 + count) ≡ final → (final == 109 || final == 75) ≡ true
+    → (3 + count ≡ sequence_len bytes)
+    × (sequence_numbers bytes ≡ (if final == 109 then numbers_from 0 (take count (drop 2 bytes)) else []))
+unfolding sequence_numbers
+known_sequence bytes final count escape bracket size at ends =
+    let final_is : final_byte bytes ≡ final = ap (λ (n : ℕ). slice_index bytes (2 + n)) size ∙ at in (
+      ap (λ (n : ℕ). 3 + n) (sym size) ∙ all_parts bytes escape bracket (ap (λ (b : ℕ). b == 109 || b == 75) final_is ∙ ends),
+      ap (λ (b : ℕ). if b == 91 && final_byte bytes == 109 then numbers_from 0 (take (parameter_count bytes) (drop 2 bytes)) else [])
+          bracket
+          ∙ ap (λ (f : ℕ). if f == 109 then numbers_from 0 (take (parameter_count bytes) (drop 2 bytes)) else []) final_is
+          ∙ ap (λ (n : ℕ). if final == 109 then numbers_from 0 (take n (drop 2 bytes)) else []) size,
+    )
+
 -- A sequence without parameters.
 pub short_sequence : (bytes : List ℕ) (final : ℕ) → 3 ≤ length bytes → slice_index bytes 0 ≡ 27 → slice_index bytes 1 ≡ 91
     → slice_index bytes 2 ≡ final → is_parameter final ≡ false → (final == 109 || final == 75) ≡ true
     → (3 ≡ sequence_len bytes) × (sequence_numbers bytes ≡ (if final == 109 then 0 ∷ [] else []))
-unfolding sequence_numbers
 short_sequence bytes final within escape bracket at other ends =
-    let none : parameter_count bytes ≡ 0 = prefix_len-drop_no is_parameter bytes 2 0 (omega (arith, within)) (ap is_parameter at ∙ other) in
-    let index : 2 + parameter_count bytes ≡ 2 = omega (arith, none) in
-    let final_is : final_byte bytes ≡ final = ap (slice_index bytes) index ∙ at in
-    let size : 3 ≡ 3 + parameter_count bytes = omega (arith, none) in (
-      size ∙ all_parts bytes escape bracket (ap (λ (b : ℕ). b == 109 || b == 75) final_is ∙ ends),
-      ap (λ (b : ℕ). if b == 91 && final_byte bytes == 109 then numbers_from 0 (take (parameter_count bytes) (drop 2 bytes)) else [])
-          bracket
-          ∙ ap (λ (f : ℕ). if f == 109 then numbers_from 0 (take (parameter_count bytes) (drop 2 bytes)) else []) final_is
-          ∙ ap (λ (n : ℕ). if final == 109 then numbers_from 0 (take n (drop 2 bytes)) else []) none,
+    known_sequence bytes final 0 escape bracket (prefix_len-drop_no is_parameter bytes 2 0 (omega (arith, within))
+    (ap is_parameter at ∙ other)) at ends
+
+-- A sequence whose first `count` bytes after `ESC [` were read as parameters, and whose next byte ends it.
+pub read_to_end : (bytes parameters : List ℕ) (final count : ℕ) → parameters ≡ drop 2 bytes → slice_index bytes 0 ≡ 27
+    → slice_index bytes 1 ≡ 91 → count < length parameters
+    → prefix_len is_parameter parameters ≡ count + prefix_len is_parameter (drop count parameters)
+    → slice_index parameters count ≡ final → is_parameter final ≡ false → (final == 109 || final == 75) ≡ true
+    → (count + 3 ≡ sequence_len bytes)
+    × (sequence_numbers bytes ≡ (if final == 109 then numbers_from 0 (take count parameters) else []))
+read_to_end bytes parameters final count is escape bracket inside counted at other ends =
+    let none = prefix_len-drop_no is_parameter parameters count 0 inside (ap is_parameter at ∙ other) in
+    let size : parameter_count bytes ≡ count =
+    ap (prefix_len is_parameter) (sym is) ∙ counted ∙ ap (λ (n : ℕ). count + n) none ∙ omega arith in
+    let known = known_sequence bytes final count escape bracket size
+    (sym (get_or-drop 2 bytes count 0) ∙ ap (λ (l : List ℕ). slice_index l count) (sym is) ∙ at) ends in (
+      omega (arith, known.0),
+      known.1 ∙ ap (λ (l : List ℕ). if final == 109 then numbers_from 0 (take count l) else []) (sym is),
     )
 
 pub none_skipped : (style : Style) (bytes : List ℕ) → SkipsSequences style bytes style 0
@@ -81,3 +105,13 @@ pub log_only : (kind : TextKind) → has_colours kind ≡ true → kind ≡ Log
 log_only Log has = refl
 log_only Monochrome has = absurd (cc)
 log_only Title has = absurd (cc)
+
+taken : (xs rest : List ℕ) (n : ℕ) → n < length xs → take n xs ++ slice_index xs n ∷ rest ≡ take (suc n) xs ++ rest
+taken [] rest n inside = absurd (omega (arith, inside))
+taken (x ∷ xs) rest zero inside = refl
+taken (x ∷ xs) rest (suc n) inside = ap (λ (l : List ℕ). x ∷ l) (taken xs rest n (omega (arith, inside)))
+
+pub one_more_taken : (xs rest : List ℕ) (n : ℕ) → n < length xs → take n xs ++ slice_index xs n ∷ rest ≡ take (n + 1) xs ++ rest
+one_more_taken xs rest n inside =
+    let next : suc n ≡ n + 1 = omega arith in
+    taken xs rest n inside ∙ ap (λ (k : ℕ). take k xs ++ rest) next

@@ -1,6 +1,8 @@
 -- Definitions that state the laws about reading.
-use Rattle.std.specs.Prelude.{◌≡◌, ◌⊎◌, ℕ, Bool, true, ◌==◌, ◌||◌, ◌&&◌, not, nat_lt, nat_le, List, [], ◌∷◌, ◌++◌, map, option_map, codes}
-use Rattle.std.specs.List.{list_all}
+use Rattle.std.specs.Prelude.{◌≡◌, ◌≢◌, ◌⊎◌, ℕ, ◌<◌, Bool, true, ◌==◌, ◌||◌, ◌&&◌, not, nat_eq, nat_lt, nat_le, List, [], ◌∷◌, ◌++◌, drop, length, map, option_map, codes, if◌then◌else◌}
+use Rattle.std.specs.List.{list_all, starts_with}
+use Rattle.redo_html.specs.declared.markup.Markup.{Markup}
+use Rattle.redo_html.specs.declared.markup.Markup.TheVariants.{TargetItem, Details, OpenDetails, Article}
 use Rattle.redo_html.specs.declared.text_kind.TextKind.{TextKind}
 use Rattle.redo_html.specs.declared.style.Style.{Style}
 use Rattle.redo_html.specs.Chart.{Shape, Layer, Drawing, Node, drawing_nodes}
@@ -78,6 +80,35 @@ markup_tag (TitlePart title) = []
 markup_tag StylePart = []
 markup_tag (ChartPart drawing) = []
 markup_tag (MeterPart width) = []
+
+-- The bytes before the first quotation mark.
+abbrev pub until_quote : List ℕ → List ℕ
+until_quote [] = []
+until_quote (byte ∷ bytes) = if byte == 34 then [] else byte ∷ until_quote bytes
+
+-- The value of the first attribute of a tag that begins like this: with a space, its name, and `="`.
+abbrev pub value_after : List ℕ → List ℕ → List ℕ
+value_after start [] = []
+value_after start (byte ∷ bytes) =
+    if starts_with nat_eq (byte ∷ bytes) start then until_quote (drop (length start) (byte ∷ bytes)) else value_after start bytes
+
+abbrev pub id_of : Markup → List ℕ
+id_of markup = value_after (codes " id=\"") (markup_text markup)
+
+abbrev pub href_of : Markup → List ℕ
+href_of markup = value_after (codes " href=\"") (markup_text markup)
+
+-- A link leads to an element of this page.
+abbrev pub LeadsTo : Markup → Markup → Type 0
+LeadsTo link element = href_of link ≡ 35 ∷ id_of element
+
+-- The elements of targets and of articles have these ids, and elements of other numbers have other ids.
+pub record HasOwnId (number : ℕ) : Type 0 where
+  pub closed : id_of (Details number) ≡ id_of (TargetItem number)
+  pub opened : id_of (OpenDetails number) ≡ id_of (TargetItem number)
+  pub targets : (other : ℕ) → other < 0x10000000000000000 → id_of (TargetItem number) ≡ id_of (TargetItem other) → number ≡ other
+  pub articles : (other : ℕ) → other < 0x10000000000000000 → id_of (Article number) ≡ id_of (Article other) → number ≡ other
+  pub apart : (other : ℕ) → id_of (Article number) ≢ id_of (TargetItem other)
 
 -- A chart with other texts.
 module _ (replace : List ℕ → List ℕ) where

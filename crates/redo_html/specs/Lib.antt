@@ -1,4 +1,5 @@
 pub mod Chart
+pub mod Cut
 pub mod Html
 pub mod Laws
 pub mod Lines

@@ -1,15 +1,16 @@
 //! Laws, which are theorems about the definitions alone: each contract is a theorem, and the bodies are empty.
-ghost use Rattle.std.specs.Prelude.{◌≡◌, ◌++◌, ℕ, true, [], List, IsUtf8};
+ghost use Rattle.std.specs.Prelude.{◌≡◌, ◌++◌, ◌<◌, ℕ, true, [], List, IsUtf8};
 ghost use Rattle.std.specs.List.{flat_map, list_all};
 ghost use Rattle.redo_line.specs.Lines.{with_line_feed};
 ghost use Rattle.redo_html.specs.declared.text_kind.TextKind.{TextKind};
 ghost use Rattle.redo_html.specs.declared.text_kind.TextKind.TheVariants.{Log, Title};
+ghost use Rattle.redo_html.specs.declared.markup.Markup.TheVariants.{Article, OutputLink, TargetItem, TargetLink};
 ghost use Rattle.redo_html.specs.declared.style.Style.{Style};
 ghost use Rattle.redo_html.specs.Style.{plain_style};
 ghost use Rattle.redo_html.specs.Passage.{passage_html, passage_tokens};
 ghost use Rattle.redo_html.specs.Chart.{Drawing};
 ghost use Rattle.redo_html.specs.Html.{nests_in, text_of, tags_of};
-ghost use Rattle.redo_html.specs.Laws.{IsLink, ReadsAs, IsReadAsShown, has_bytes, is_byte, is_plain, markup_tag, reworded};
+ghost use Rattle.redo_html.specs.Laws.{HasOwnId, IsLink, LeadsTo, ReadsAs, IsReadAsShown, has_bytes, is_byte, is_plain, markup_tag, reworded};
 ghost use Rattle.redo_html.specs.Lines.{is_no_escape, line_parts, lines_html, style_after, style_after_lines};
 ghost use Rattle.redo_html.specs.Parts.{Part, part_html, part_tokens, part_text};
 ghost use Rattle.redo_html.specs.Parts.Part.{ChartPart};
@@ -26,7 +27,7 @@ pub fn titles_have_no_tags()
     ensures { (style : Style) (bytes : List ℕ) → tags_of (passage_tokens Title style bytes) ≡ [] }
 {}
 
-/// Printable ASCII is shown as it is, and, without `&`, `<` and `>`, written as it is.
+/// Printable ASCII without `&`, `<` and `>`, tabs and line feeds are shown and written unchanged.
 pub fn plain_text_is_unchanged()
     ensures shown { (kind : TextKind) (bytes : List ℕ) → list_all is_plain bytes ≡ true → shown_text kind bytes ≡ bytes }
     ensures written { (kind : TextKind) (bytes : List ℕ) → list_all is_plain bytes ≡ true → passage_html kind plain_style bytes ≡ bytes }
@@ -45,6 +46,13 @@ pub fn links_show_nothing()
 /// The parts of a page are read as what they are: each tag as itself, and text as characters.
 pub fn parts_are_read()
     ensures { (parts : List Part) → ReadsAs (flat_map part_html parts) (flat_map part_tokens parts) }
+{}
+
+/// A link to the target or the output with a number leads to the element that has this number. No two numbers have the same id.
+pub fn links_lead_to_their_numbers()
+    ensures target { (number : ℕ) → LeadsTo (TargetLink number) (TargetItem number) }
+    ensures output { (number : ℕ) → LeadsTo (OutputLink number) (Article number) }
+    ensures own_ids { (number : ℕ) → number < 0x10000000000000000 → HasOwnId number }
 {}
 
 /// Lines show what all their bytes show, and the style at their end is the style after all their bytes.

@@ -58,13 +58,14 @@
 //! computes, from the context before an element, the context after it (`next_context`). The laws also state that the tags of a
 //! chart stay the same with other texts, and that only the markup of a page decides whether its tags nest.
 //!
-//! **Speed.** A stretch of code points that are written as they are (`verbatim_len`) is one write. A table tells the first plain bytes
-//! of a stretch. Further ones are tested in strides, without a branch for each byte, so that the compiler can test several at once.
-//! Ranges of bytes tell the letters of most scripts, and only other characters are decoded. The sequences before a stretch are read
-//! in a row. Every other code point is a write of its own, and so is each number and each fixed text of a chart.
+//! **Speed.** A stretch of code points that are written as they are (`verbatim_len`) is one write. Sixteen bytes at once are tested
+//! for plain ones, and a table says which of the last bytes are plain. Ranges of bytes tell the letters of most scripts, and only other
+//! characters are decoded. Each sequence is read in one pass, and the sequences before a stretch are read in a row. Every other code
+//! point is a write of its own, and so is each number and each fixed text of a chart.
 #![tactic(auto)]
 
 mod chart;
+mod cut;
 mod laws;
 mod lines;
 mod look;
@@ -78,11 +79,12 @@ mod symbol;
 mod text_kind;
 
 pub use chart::{Anchor, Bar, Chart, ChartGroup, ChartItem, GroupKind, write_chart, write_meter};
+pub use cut::cut_len;
 pub use laws::{
-    charts_have_no_text_in_tags, html_is_utf8, lines_show_their_text, links_show_nothing,
-    only_markup_decides_nesting, parts_are_read, parts_show_their_text, passages_are_read_as_shown,
-    plain_lines_are_one_text, plain_text_is_unchanged, style_sheet_is_harmless,
-    titles_have_no_tags,
+    charts_have_no_text_in_tags, html_is_utf8, lines_show_their_text, links_lead_to_their_numbers,
+    links_show_nothing, only_markup_decides_nesting, parts_are_read, parts_show_their_text,
+    passages_are_read_as_shown, plain_lines_are_one_text, plain_text_is_unchanged,
+    style_sheet_is_harmless, titles_have_no_tags,
 };
 pub use lines::write_log_lines;
 pub use markup::{Markup, write_markup, write_number};

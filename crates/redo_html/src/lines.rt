@@ -9,11 +9,10 @@ ghost use Rattle.redo_html.specs.declared.style.Style.{Style};
 
 use crate::passage::write_passage;
 use crate::style::{Style, has_own_element};
+use crate::symbol::ESCAPE;
 use crate::text_kind::TextKind;
 use memchr::{memchr, memrchr};
 use redo_device::{Broken, Sink};
-
-const ESCAPE: u8 = 27;
 
 /// Writes lines of a log, which are passed with their line feeds. `style` is the style at their start, and becomes the style at
 /// their end. If a write fails, a prefix of their HTML was written, no write followed, and `style` stays the same.

@@ -15,7 +15,7 @@ ghost use Rattle.redo_html.specs.Private.Writing.{WrotePassage, WroteSomeOrFaile
 use crate::look::{Look, at_start, with_code_point, with_style};
 use crate::notation::write_unprintable;
 use crate::style::{Hue, Style, after_sequence, after_sequences, has_own_element, is_same};
-use crate::symbol::{is_log, is_unprintable_code_point, symbol_at, verbatim_len};
+use crate::symbol::{ESCAPE, is_log, is_unprintable_code_point, symbol_at, verbatim_len};
 use crate::text_kind::TextKind;
 use redo_device::{Broken, Sink, push_all};
 
@@ -79,18 +79,20 @@ fn write_some<W: Sink>(
     requires { 0 < length bytes.now }
     ensures { WroteSomeOrFailed (W.written out.old) (W.written out.new) kind look bytes.now result }
 {
-    if is_log(kind) {
+    let first = bytes[0];
+    if has_reference(first) {
+        return write_visible(kind, look, u32::from(first), bytes, 1, out);
+    }
+    if first != ESCAPE {
+        let verbatim = verbatim_len(bytes);
+        if verbatim > 0 {
+            return write_verbatim(kind, look, bytes, verbatim, out);
+        }
+    } else if is_log(kind) {
         let (style, len) = after_sequences(look.wanted, bytes);
         if len > 0 {
             return write_after_sequences(kind, look, style, bytes, len, out);
         }
-    }
-    let verbatim = verbatim_len(bytes);
-    if verbatim > 0 {
-        return write_verbatim(kind, look, bytes, verbatim, out);
-    }
-    if has_reference(bytes[0]) {
-        return write_visible(kind, look, u32::from(bytes[0]), bytes, 1, out);
     }
     let (symbol, len) = symbol_at(kind, bytes);
     match symbol {

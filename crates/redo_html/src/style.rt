@@ -1,11 +1,11 @@
 //! The styles that compilers set.
-ghost use Rattle.std.specs.Prelude.{◌≡◌, ◌≤◌};
+ghost use Rattle.std.specs.Prelude.{◌≡◌, ◌≤◌, length, slice_index};
 ghost use Rattle.redo_html.specs.Passage.{hue_number, is_same_style, has_element};
 ghost use Rattle.redo_html.specs.Style.{digit_hue, attribute_added, setting_after, restyled};
 ghost use Rattle.redo_html.specs.Symbols.{sequence_numbers, numbers_from};
 ghost use Rattle.redo_html.specs.Private.Writing.{IsSequence, ReadsParameter, ReadsSequence, SkipsSequences};
 
-use crate::symbol::sequence_size;
+use crate::symbol::{is_parameter_byte, sequence_size};
 
 /// A hue. `Plain` is the colour of the page's text.
 #[derive(Clone, Copy, Debug, PartialEq, Eq)]
@@ -97,6 +97,7 @@ fn read_sequence(style: Style, bytes: &[u8]) -> (Style, usize)
         if bytes[2] == b'm' {
             return (Style::PLAIN, 3);
         }
+        return read_parameters(style, bytes);
     }
     let len = sequence_size(bytes);
     if len == 0 {
@@ -104,6 +105,31 @@ fn read_sequence(style: Style, bytes: &[u8]) -> (Style, usize)
     } else {
         (after_sequence(style, bytes, len), len)
     }
+}
+
+// Returns the same for bytes that begin with `ESC [`, by one pass over the parameters.
+fn read_parameters(style: Style, bytes: &[u8]) -> (Style, usize)
+    requires some { 3 ≤ length bytes.now }
+    requires escape { slice_index bytes.now 0 ≡ 27 }
+    requires bracket { slice_index bytes.now 1 ≡ 91 }
+    ensures { ReadsSequence style bytes.now result.0 result.1 }
+{
+    let mut setting = Setting { style, ahead: 0 };
+    let mut value = 0;
+    let parameters = &bytes[2..];
+    for (at, byte) in parameters.iter().enumerate() {
+        if *byte == b'm' {
+            return (after_number(setting, value).style, at + 3);
+        }
+        if *byte == b'K' {
+            return (style, at + 3);
+        }
+        if !is_parameter_byte(*byte) {
+            return (style, 0);
+        }
+        (setting, value) = after_byte(setting, value, *byte);
+    }
+    (style, 0)
 }
 
 /// Returns the style after the sequence at the start of `bytes`, which has `len` bytes.

@@ -1,14 +1,15 @@
 //! The symbols of a text: code points, and sequences that set colours.
-ghost use Rattle.std.specs.Prelude.{◌≡◌, ◌≤◌, ◌<◌, ◌==◌, ◌||◌, ◌&&◌, true, length, take, slice_index};
+ghost use Rattle.std.specs.Prelude.{◌≡◌, ◌≤◌, ◌<◌, ◌+◌, ◌==◌, ◌||◌, ◌&&◌, true, length, take, slice_index};
 ghost use Rattle.std.specs.List.{list_all, list_any, prefix_len};
 ghost use Rattle.redo_html.specs.Laws.{is_plain};
 ghost use Rattle.redo_html.specs.Shown.{is_unprintable, is_control, ends_plane, is_between, unseen_ranges};
 ghost use Rattle.redo_html.specs.Symbols.{first_code_point, code_point_len, is_parameter, is_link_byte, begins_link_text, end_len, link_len, sequence_len, has_colours, first_symbol, symbol_len};
-ghost use Rattle.redo_html.specs.Private.Writing.{IsVerbatim, is_pair, is_triple, unprintable_bit_if, symbol_code_point};
+ghost use Rattle.redo_html.specs.Private.Writing.{ArePlain, IsVerbatim, first_set, is_pair, is_triple, symbol_code_point};
 ghost use Rattle.bstr.specs.Utf8.{continues};
 
 use crate::text_kind::TextKind;
 use bstr::decode_utf8;
+use std::simd::prelude::*;
 
 // Characters that can't be seen or that a browser rejects, by their first and last numbers, and bytes that are no part of a
 // character. The ranges are in order.
@@ -52,10 +53,13 @@ const Y: bool = true;
 
 const N: bool = false;
 
-// The number of bytes that are tested at once.
-const STRIDE: usize = 32;
+/// The byte at the start of each sequence.
+pub const ESCAPE: u8 = 27;
 
-// The number of bytes after which a search for letters looks for a stride of plain bytes again.
+// The number of bytes that are tested at once.
+const LANES: usize = 16;
+
+// The number of bytes after which a search for letters looks for plain bytes again.
 const WINDOW: usize = 64;
 
 /// Returns the number of bytes at the start that are code points which are written as they are.
@@ -169,27 +173,45 @@ fn plain_len(bytes: &[u8]) -> usize
     ensures within { result ≤ length bytes.now }
     ensures plain { list_all is_plain (take result bytes.now) ≡ true }
 {
-    let near = plain_bytes_len(&bytes[..bytes.len().min(STRIDE)]);
-    if near < STRIDE {
-        return near;
+    let mut len = 0;
+    while bytes.len() - len >= LANES {
+        let run = plain_run(bytes, len);
+        len += run;
+        if run < LANES {
+            return len;
+        }
     }
-    let len = STRIDE + plain_strides_len(&bytes[STRIDE..]);
     len + plain_bytes_len(&bytes[len..])
 }
 
-// Returns the number of bytes in the strides at the start that consist of plain bytes.
-fn plain_strides_len(bytes: &[u8]) -> usize
-    ensures within { result ≤ length bytes.now }
-    ensures plain { list_all is_plain (take result bytes.now) ≡ true }
+// Returns the number of bytes from `at` on that are plain, of as many bytes as are tested at once.
+#[inline(always)]
+fn plain_run(bytes: &[u8], at: usize) -> usize
+    requires { at + LANES ≤ length bytes.now }
+    ensures { ArePlain bytes.now at LANES result }
 {
-    let mut len = 0;
-    while bytes.len() - len >= STRIDE {
-        if !are_plain(&bytes[len..len + STRIDE]) {
-            return len;
-        }
-        len += STRIDE;
+    let lanes = u8x16::from_slice(&bytes[at..]);
+    let no_letter = (lanes - u8x16::splat(b' ')).simd_ge(u8x16::splat(95));
+    let control = no_letter
+        & lanes.simd_ne(u8x16::splat(b'\t'))
+        & lanes.simd_ne(u8x16::splat(b'\n'));
+    let other = control
+        | lanes.simd_eq(u8x16::splat(b'&'))
+        | lanes.simd_eq(u8x16::splat(b'<'))
+        | lanes.simd_eq(u8x16::splat(b'>'));
+    first_set(other.to_bitmask(), LANES)
+}
+
+// Returns the place of the lowest bit that is set, or `count` if none is.
+#[inline(always)]
+fn first_set(mask: u64, count: usize) -> usize
+    ensures { result ≡ first_set mask count }
+{
+    if mask == 0 {
+        count
+    } else {
+        mask.trailing_zeros() as usize
     }
-    len
 }
 
 // Returns the number of bytes at the start that are plain, byte by byte.
@@ -209,32 +231,6 @@ fn is_plain_by_table(byte: u8) -> bool
     ensures { result ≡ is_plain byte }
 {
     PLAIN[byte as usize]
-}
-
-// Returns whether all bytes are plain. The loop has no branch, so the compiler tests several bytes at once.
-fn are_plain(bytes: &[u8]) -> bool
-    ensures { result ≡ list_all is_plain bytes.now }
-{
-    let mut unprintable = 0;
-    for byte in bytes {
-        unprintable = unprintable | unprintable_bit(*byte);
-    }
-    unprintable == 0
-}
-
-// Returns 0 for a plain byte, and 1 for any other.
-fn unprintable_bit(byte: u8) -> u8
-    ensures { result ≡ unprintable_bit_if (is_plain byte) }
-{
-    if is_plain_byte(byte) { 0 } else { 1 }
-}
-
-fn is_plain_byte(byte: u8) -> bool
-    ensures { result ≡ is_plain byte }
-{
-    (32 <= byte && byte < 127 && !(byte == b'&' || byte == b'<' || byte == b'>'))
-        || byte == b'\t'
-        || byte == b'\n'
 }
 
 /// Returns the code point that is the first symbol of `bytes`, or `None` if that is a sequence; and the number of its bytes.
@@ -384,7 +380,8 @@ fn parameters_len(bytes: &[u8]) -> usize
     bytes.len()
 }
 
-fn is_parameter_byte(byte: u8) -> bool
+/// Returns whether a byte may be in the parameters of a sequence.
+pub fn is_parameter_byte(byte: u8) -> bool
     ensures { result ≡ is_parameter byte }
 {
     (b'0' <= byte && byte <= b'9') || byte == b';'

@@ -1,5 +1,6 @@
 -- What writers in parts ensure.
 use Rattle.std.specs.Prelude.{◌≡◌, ⊤, ℕ, ◌-◌, fold, ◌<◌, ◌≤◌, Bool, true, false, ◌==◌, ◌||◌, ◌&&◌, not, nat_le, encode_utf8, List, [], ◌∷◌, ◌++◌, map, Option, None, Some, length, take, drop, replicate, slice_index, Result, Ok, Err, if◌then◌else◌}
+use Rattle.std.specs.Int.{w64, trailing_zeros}
 use Rattle.std.specs.List.{flat_map, list_all}
 use Rattle.bstr.specs.Utf8.{continues}
 use Rattle.redo_device.specs.declared.feed.Broken.{Broken}
@@ -8,6 +9,7 @@ use Rattle.redo_html.specs.declared.text_kind.TextKind.{TextKind}
 use Rattle.redo_html.specs.declared.look.Look.{Look}
 use Rattle.redo_html.specs.declared.text_kind.TextKind.TheVariants.{Log}
 use Rattle.redo_html.specs.declared.style.Style.{Style}
+use Rattle.redo_html.specs.Laws.{is_plain}
 use Rattle.redo_html.specs.Lines.{style_after_symbol, style_after, style_after_lines, lines_html}
 use Rattle.redo_html.specs.Passage.{has_highlights, html_from, passage_html, with_wanted}
 use Rattle.redo_line.specs.Lines.{ended, rest}
@@ -119,6 +121,10 @@ pub record ReadsParameter (before after : Setting) (value byte next : ℕ) : Typ
   pub bound : next ≤ 999
   pub same : (rest : List ℕ) → fold setting_after after (numbers_from next rest) ≡ fold setting_after before (numbers_from value (byte ∷ rest))
 
--- 0 if bytes are plain, and 1 otherwise.
-abbrev pub unprintable_bit_if : Bool → ℕ
-unprintable_bit_if plain = if plain then 0 else 1
+-- The first `run` of the `count` bytes from `at` on are plain.
+abbrev pub ArePlain : List ℕ → ℕ → ℕ → ℕ → Type 0
+ArePlain bytes at count run = (run ≤ count) × (list_all is_plain (take run (drop at bytes)) ≡ true)
+
+-- The place of the lowest bit that is set, or `count` if none is.
+abbrev pub first_set : ℕ → ℕ → ℕ
+first_set mask count = if mask == 0 then count else trailing_zeros w64 mask

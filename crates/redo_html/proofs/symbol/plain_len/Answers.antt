@@ -1,30 +1,27 @@
-use Rattle.std.proofs.Common.{◌≡◌, ◌+◌, ◌≤◌, List, ℕ, true, length, take, drop, subst, sym, ◌∙◌, ap, arith}
-use Rattle.std.specs.Prelude.{min}
+use Rattle.std.proofs.Common.{◌≡◌, List, ℕ, true, take, drop, subst, arith}
 use Rattle.std.specs.List.{list_all}
-use Rattle.std.proofs.lemmas.List.{take_rest, take_all, length-take}
+use Rattle.std.proofs.lemmas.List.{take_rest}
 use Rattle.redo_html.specs.Laws.{is_plain}
 use Rattle.redo_html.proofs.VerbatimLemmas.{plain_more}
 use Rattle.redo_html.proofs.symbol.plain_len.Goals as goal
 
--- All of the first bytes that are tested one by one are plain.
-all_near : (bytes : List ℕ) (near limit : ℕ) → limit ≡ min (length bytes) 32 → near ≤ length (take limit bytes) → 32 ≤ near
-    → list_all is_plain (take near (take limit bytes)) ≡ true → list_all is_plain (take 32 bytes) ≡ true
-all_near bytes near limit is within many plain =
-    let size = length-take limit bytes in
-    let all : limit ≡ 32 = omega (arith, is, within, many, size) in
-    let past : length (take limit bytes) ≤ near = omega (arith, within, many, size, is) in
-    ap (λ (n : ℕ). list_all is_plain (take n bytes)) (sym all) ∙ ap (list_all is_plain) (sym (take_all near (take limit bytes) past))
-    ∙ plain
+pub loop-len-preserved : goal.loop-len-preserved
+loop-len-preserved c =
+    let bytes = c.args.bytes.now in
+    let len = c.loop-len.len in (
+      omega (arith, c.loop-len-test.true, c.loop-len.invariant.0, c.plain_run-run.ensures.0),
+      plain_more len c.plain_run-run.result bytes c.loop-len.invariant.1 c.plain_run-run.ensures.1,
+    )
+
+pub returns-then-run-lt-LANES-clause-plain : goal.returns-then-run-lt-LANES-clause-plain
+returns-then-run-lt-LANES-clause-plain c =
+    plain_more c.loop-len.len c.plain_run-run.result c.args.bytes.now c.loop-len.invariant.1 c.plain_run-run.ensures.1
 
 pub returns-clause-plain : goal.returns-clause-plain
 returns-clause-plain c =
     let bytes = c.args.bytes.now in
-    let len = c.plain_strides_len-len.result in
-    let more = c.plain_bytes_len.result in
-    let near = all_near bytes c.plain_bytes_len-near.result c.min.result c.min.ensures c.plain_bytes_len-near.ensures.within
-    c.if-near-lt-STRIDE.false c.plain_bytes_len-near.ensures.plain in
-    let strides : list_all is_plain (take len (drop 32 bytes)) ≡ true =
-    subst (λ (b : List ℕ). list_all is_plain (take len b) ≡ true) (take_rest bytes 32) c.plain_strides_len-len.ensures.plain in
-    let last : list_all is_plain (take more (drop (32 + len) bytes)) ≡ true =
-    subst (λ (b : List ℕ). list_all is_plain (take more b) ≡ true) (take_rest bytes (32 + len)) c.plain_bytes_len.ensures.plain in
-    plain_more (32 + len) more bytes (plain_more 32 len bytes near strides) last
+    let len = c.loop-len.len in
+    let last : list_all is_plain (take c.plain_bytes_len.result (drop len bytes)) ≡ true =
+    subst (λ (b : List ℕ). list_all is_plain (take c.plain_bytes_len.result b) ≡ true) (take_rest bytes len)
+    c.plain_bytes_len.ensures.plain in
+    plain_more len c.plain_bytes_len.result bytes c.loop-len.invariant.1 last

@@ -1,7 +1,7 @@
 use Rattle.std.proofs.Common.{◌≡◌, ◌≤◌, ◌-◌, true, take, length}
 use Rattle.std.specs.List.{list_all}
 use Rattle.redo_html.specs.Laws.{is_plain}
-use Rattle.redo_html.proofs.symbol.plain_strides_len.Given as goal
+use Rattle.redo_html.proofs.symbol.plain_len.Given as goal
 
 -- The bytes so far are plain.
 abbrev pub invariant-loop-len : goal.invariant-loop-len
