@@ -1,5 +1,6 @@
 mod CollectingLemmas
 mod ContentsLemmas
+mod CountLemmas
 mod FactsLemmas
 mod LargeRows
 mod LawLemmas

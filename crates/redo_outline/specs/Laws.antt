@@ -1,6 +1,8 @@
 -- What the laws state.
-use Rattle.std.specs.Prelude.{◌≡◌, ℕ, ◌+◌, ◌≤◌, ◌&&◌, not, Bool, List, [], ◌∷◌, ◌++◌, None, length, take}
-use Rattle.std.specs.List.{list_any, sum_by}
+use Rattle.std.specs.Prelude.{◌≡◌, ℕ, suc, ◌+◌, ◌≤◌, ◌&&◌, not, Bool, List, [], ◌∷◌, ◌++◌, None, Some, length, slice_get, take, if◌then◌else◌}
+use Rattle.std.specs.List.{count_by, list_any, sum_by}
+use Rattle.redo_line.specs.declared.entry.Entry.{Entry}
+use Rattle.redo_line.specs.declared.entry.Entry.TheVariants.{Text}
 use Rattle.redo_logs.specs.Logs.{Log}
 use Rattle.redo_options.specs.declared.options.Options.{Options}
 use Rattle.redo_view.specs.Event.{Event}
@@ -10,7 +12,7 @@ use Rattle.redo_view.specs.View.{find_unknown}
 use Rattle.redo_outline.specs.declared.node.Node.{Node}
 use Rattle.redo_outline.specs.Contents.{Contents, contents_of}
 use Rattle.redo_outline.specs.Contents.Contents.{Nothing, Shown, Opened}
-use Rattle.redo_outline.specs.Facts.{is_failure, saturated}
+use Rattle.redo_outline.specs.Facts.{is_failure, is_number, is_warning, saturated}
 
 -- The events of some contents, in order. `depth` logs are open around them.
 abbrev pub events_of : ℕ → Contents → List Event
@@ -30,6 +32,30 @@ is_failed node = is_failure node.status
 -- Whether a target failed, and none below it.
 abbrev pub fails_first : Node → Bool
 fails_first node = is_failed node && not node.fails_below
+
+-- What is counted of a text line. Other entries count nothing.
+abbrev pub counted : (List ℕ → ℕ) → Entry → ℕ
+counted count (Text line) = count line
+counted count entry = 0
+
+-- The numbers of a node are sums over all entries of a log. Each text line has a line feed.
+pub record CountsEntries (node : Node) (entries : List Entry) : Type 0 where
+  pub lines : node.lines ≡ saturated (sum_by (counted (λ line. 1)) entries)
+  pub bytes : node.bytes ≡ saturated (sum_by (counted (λ line. length line + 1)) entries)
+  pub warnings : node.warnings ≡ saturated (sum_by (counted (λ line. if is_warning line then 1 else 0)) entries)
+
+-- A node has the numbers of lines, bytes and warnings of the log with its number.
+abbrev pub CountsLog : List Log → Node → Type 0
+CountsLog logs node = (log : Log) → slice_get logs node.number ≡ Some log → CountsEntries node log.entries
+
+-- Whether the log of a node is opened directly in the log of the node at this position.
+abbrev pub is_child_of : ℕ → Node → Bool
+is_child_of position node = is_number position node.parent
+
+-- The first of these nodes has this position. Each one has as many children as later nodes have it as their parent.
+abbrev pub AllCountChildren : ℕ → List Node → Type 0
+AllCountChildren position [] = Unit {0}
+AllCountChildren position (node ∷ nodes) = (node.children ≡ count_by (is_child_of position) nodes) × AllCountChildren (suc position) nodes
 
 -- The logs below a node have the first of the nodes that follow it, as many as the node says. It says whether one of them failed, and how
 -- many warnings all of them have. If one failed, then one failed that has no failure below it.

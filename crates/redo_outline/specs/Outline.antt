@@ -12,14 +12,13 @@ use Rattle.redo_outline.specs.Contents.{Contents, contents_of}
 use Rattle.redo_outline.specs.Contents.Contents.{Nothing, Shown, Opened}
 use Rattle.redo_outline.specs.Facts.{entries_at, is_failure, is_warning, saturated, target_status, text_size, texts_of}
 
--- Whether something is to be seen of an entry that is no mention. Nothing is to be seen of a closing record, and of another target that
--- is done with status 0.
+-- Whether an entry that is no mention is visible. A closing record is not, and neither is another target that is done with status 0.
 abbrev pub is_visible_entry : Entry → Bool
 is_visible_entry (Done pid status name) = is_failure (Some status)
 is_visible_entry (Closing pid status) = false
 is_visible_entry entry = true
 
--- Whether something is to be seen of an event that opens no log.
+-- Whether an event that opens no log is visible.
 abbrev pub is_visible : Event → Bool
 is_visible (Requested name opening) = true
 is_visible (Mentioned depth pid how name opening) = true
@@ -38,7 +37,7 @@ child_count Nothing = 0
 child_count (Shown event rest) = child_count rest
 child_count (Opened event number inside rest) = suc (child_count rest)
 
--- Whether anything else than logs is to be seen directly in some contents.
+-- Whether anything but logs is visible directly in some contents.
 abbrev pub has_others : Contents → Bool
 has_others Nothing = false
 has_others (Shown event rest) = is_visible event || has_others rest
@@ -67,7 +66,7 @@ module _ (logs : List Log) (status : ℕ → Option ℤ) where
   has_failures (Shown event rest) = has_failures rest
   has_failures (Opened event number inside rest) = has_failed number || (has_failures inside || has_failures rest)
 
-  -- Whether only logs are to be seen in some contents, at any depth, and no target failed there.
+  -- Whether only logs are visible in some contents, at any depth, and no target failed there.
   abbrev pub is_silent : Contents → Bool
   is_silent Nothing = true
   is_silent (Shown event rest) = not (is_visible event) && is_silent rest

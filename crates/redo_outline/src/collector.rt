@@ -1,4 +1,8 @@
 //! Collects from events what an outline needs.
+//!
+//! It is a form that writes nothing. Each of its steps is total, so what it has collected can be stated for any list of
+//! events. It stores the opened logs with their parents, the first status of each target, and *brackets*: the beginnings and
+//! ends of logs, and whether anything else is visible between them.
 ghost use Rattle.std.specs.Prelude.{◌≡◌, ℕ, [], IfOk, OnOk};
 ghost use Rattle.redo_outline.specs.Private.Collecting.{after_event, entry_shown, initial, line_shown, log_begun, log_ended, parent_of, with_status};
 ghost use Rattle.redo_outline.specs.Private.Sweeping.{collected_nodes};
@@ -24,11 +28,11 @@ pub struct OpenedLog {
 #[derive(Clone, Copy)]
 pub struct Bracket {
     pub opens: bool,
-    /// Whether anything else than logs is to be seen between the bracket before it and this one.
+    /// Whether anything but logs is visible between the bracket before it and this one.
     pub after_others: bool,
 }
 
-/// A form that writes nothing, and collects which logs are opened, how they are nested, what else is to be seen between them,
+/// A form that writes nothing, and collects which logs are opened, how they are nested, what else is visible between them,
 /// and which statuses other logs have for their targets.
 #[derive(Drop)]
 pub struct Collector<'a> {
@@ -37,7 +41,7 @@ pub struct Collector<'a> {
     // The position of the log that was opened last of those that are open.
     innermost: Option<usize>,
     brackets: Vec<Bracket>,
-    // Whether anything else than logs is to be seen after the last bracket.
+    // Whether anything but logs is visible after the last bracket.
     after_others: bool,
     // The first status of each target that another log has, by the number of the target's log.
     statuses: Vec<Option<i32>>,

@@ -1,4 +1,7 @@
 //! Facts of a single log.
+//!
+//! Warnings are searched in whole stretches of stored lines, not line by line. An occurrence lies in one line, because the
+//! searched text has no line feed; the search goes on after the end of this line.
 ghost use Rattle.std.specs.Prelude.{◌≡◌, [], count_by};
 ghost use Rattle.redo_line.specs.Lines.{ended, rest};
 ghost use Rattle.redo_logs.specs.EntryRef.{entry_value};

@@ -1,8 +1,9 @@
 //! Laws about the definitions alone: their contracts are theorems, and their bodies are empty.
 ghost use Rattle.std.specs.Prelude.{ℕ, List};
+ghost use Rattle.std.specs.List.{AllByRecursion};
 ghost use Rattle.redo_logs.specs.Logs.{Log};
 ghost use Rattle.redo_options.specs.declared.options.Options.{Options};
-ghost use Rattle.redo_outline.specs.Laws.{AllSumUp, AreInContents};
+ghost use Rattle.redo_outline.specs.Laws.{AllCountChildren, AllSumUp, AreInContents, CountsLog};
 ghost use Rattle.redo_outline.specs.Outline.{outline_of};
 ghost use Rattle.redo_view.specs.Event.{Event};
 
@@ -19,4 +20,14 @@ pub fn events_are_in_contents()
 /// then one failed that has no failure below it.
 pub fn nodes_sum_up_logs_below()
     ensures { (logs : List Log) (events : List Event) → AllSumUp (outline_of logs events) }
+{}
+
+/// The numbers of lines, bytes and warnings of a node are sums over all entries of the log that has its number.
+pub fn nodes_count_logs()
+    ensures { (logs : List Log) (events : List Event) → AllByRecursion (CountsLog logs) (outline_of logs events) }
+{}
+
+/// A node has as many children as there are nodes that have it as their parent. They follow it.
+pub fn nodes_count_children()
+    ensures { (logs : List Log) (events : List Event) → AllCountChildren 0 (outline_of logs events) }
 {}

@@ -19,6 +19,8 @@ mod positions;
 mod sweep;
 
 pub use facts::target_at;
-pub use laws::{events_are_in_contents, nodes_sum_up_logs_below};
+pub use laws::{
+    events_are_in_contents, nodes_count_children, nodes_count_logs, nodes_sum_up_logs_below,
+};
 pub use node::{Node, RunTimes};
 pub use outline::Outline;

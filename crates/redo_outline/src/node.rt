@@ -1,4 +1,7 @@
 //! What is known of a log that is opened.
+//!
+//! It says how long its target took, and when it ended, if `set_times` was called. `Outline::new` can't know this, because
+//! entries have no times.
 
 /// What is known of a log that is opened, and of the logs in it. A count that exceeds 2^64 - 1 is 2^64 - 1.
 #[derive(Clone, Copy, Debug, PartialEq, Eq)]
@@ -19,13 +22,13 @@ pub struct Node {
     pub below: usize,
     /// The number of logs that are opened directly in it.
     pub children: usize,
-    /// Whether anything else than logs is to be seen directly in it.
+    /// Whether anything but logs is visible directly in it.
     pub others: bool,
     /// The number of warnings of all logs that are opened in it.
     pub warnings_below: u64,
     /// Whether the target of a log that is opened in it failed.
     pub fails_below: bool,
-    /// The number of silent logs in a row, of which this one is the first. It is 0 if this one isn't silent.
+    /// The number of silent logs in a row that begins with this one. It is 0 if this one isn't silent.
     pub silent: usize,
     /// How long the target took, in milliseconds, if it was set ([`Outline::set_times`](crate::Outline::set_times)).
     pub took: Option<u64>,
@@ -33,7 +36,7 @@ pub struct Node {
     pub ended: Option<u64>,
 }
 
-/// What is known of when a target ran.
+/// When a target ran, as far as this is known.
 #[derive(Clone, Copy, Debug, PartialEq, Eq)]
 pub struct RunTimes {
     /// How long the target took, in milliseconds.

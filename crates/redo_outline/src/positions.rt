@@ -1,4 +1,6 @@
 //! The positions of nodes, by the numbers of their logs.
+//!
+//! The list is filled from the first node on, and grows to the largest number of an opened log.
 ghost use Rattle.std.specs.Prelude.{◌≡◌, ◌<◌, ◌≤◌, ◌^◌, ℕ, None, IfOk, OnOk, length, slice_index_or};
 ghost use Rattle.redo_outline.specs.Private.Positions.{AreNodePositions, IsPositionSet};
 

@@ -1,4 +1,7 @@
 //! From brackets to nodes: adds brackets from the last one to the first, so that what a log contains is known before its opening.
+//!
+//! So its node is complete then, and so is what follows it. The time is linear, however logs are nested. The number of nodes
+//! bounds each count that isn't saturated (`AreCounted`), so no sum overflows.
 ghost use Rattle.std.specs.Prelude.{◌≡◌, ◌+◌, ◌<◌, ◌^◌, None, OnOk, reverse, slice_index_or};
 ghost use Rattle.redo_outline.specs.Facts.{is_failure};
 ghost use Rattle.redo_outline.specs.Private.Sweeping.{bracket_added, end_added, node_from, nothing_left, opening_added};
@@ -18,13 +21,13 @@ pub struct Summary {
     pub below: usize,
     /// The number of logs that are opened there directly.
     pub children: usize,
-    /// Whether anything else than logs is to be seen there directly.
+    /// Whether anything but logs is visible there directly.
     pub others: bool,
     /// The number of warnings of the logs that are opened there.
     pub warnings: u64,
     /// Whether a target failed whose log is opened there.
     pub fails: bool,
-    /// Whether only silent logs are to be seen there.
+    /// Whether only silent logs are visible there.
     pub silent: bool,
     /// The number of silent logs with which it begins.
     pub silent_logs: usize,
@@ -46,7 +49,7 @@ impl Summary {
         }
     }
 
-    // Adds before it something else than logs, if it is to be seen.
+    // Adds something else than logs before it, if it is visible.
     fn add_others(&mut self, visible: bool)
         ensures { self.new ≡ with_others_if visible self.old }
     {

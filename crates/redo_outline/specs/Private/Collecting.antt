@@ -29,7 +29,7 @@ initial logs = record {
   statuses = replicate (length logs) None;
 }
 
--- After something else than a log is to be seen, if it is.
+-- Adds something else than a log, if it is visible.
 abbrev pub other_shown : Bool → Collected → Collected
 other_shown visible collected = record collected { after_others = visible || collected.after_others }
 

@@ -27,14 +27,14 @@ pub record Swept : Type 0 where
 abbrev pub nothing_left : Summary
 nothing_left = record { below = 0; children = 0; others = false; warnings = 0; fails = false; silent = true; silent_logs = 0 }
 
--- The same, if something else than logs is to be seen before.
+-- The summary after something visible that is no log was added before it.
 abbrev pub with_others : Summary → Summary
 with_others rest = record rest { others = true; silent = false; silent_logs = 0 }
 
 abbrev pub with_others_if : Bool → Summary → Summary
 with_others_if visible rest = if visible then with_others rest else rest
 
--- Whether a log is silent: its target did not fail, and nothing but silent logs is to be seen in it.
+-- Whether a log is silent: its target did not fail, and nothing but silent logs is visible in it.
 abbrev pub is_silent_log : Option ℤ → Summary → Bool
 is_silent_log status inside = not (is_failure status) && inside.silent
 
