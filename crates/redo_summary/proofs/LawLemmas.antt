@@ -1,5 +1,5 @@
 -- What the laws state.
-use Rattle.std.proofs.Common.{◌≡◌, ℕ, zero, suc, ◌+◌, ◌<◌, ◌≤◌, Bool, true, false, cond, ltb, List, [], ◌∷◌, ◌++◌, Option, None, Some, filter, filter_map, length, map, not, option_map, take, refl, ◌∙◌, ap, subst, arith}
+use Rattle.std.proofs.Common.{◌≡◌, ℕ, zero, suc, ◌+◌, ◌<◌, ◌≤◌, Bool, true, false, cond, ltb, List, [], ◌∷◌, ◌++◌, Option, None, Some, inl, inr, filter, filter_map, length, map, not, option_map, take, refl, ◌∙◌, ap, subst, arith}
 use Rattle.std.specs.Prelude.{◌-◌, IfSome, slice_get}
 use Rattle.std.specs.declared.cmp.Ordering.{Ordering}
 use Rattle.std.specs.List.{AllByRecursion, cons_option}
@@ -10,9 +10,10 @@ use Rattle.redo_timeline.specs.declared.span.Span.{Span}
 use Rattle.redo_timeline.specs.Order.{insert_sorted, sort}
 use Rattle.redo_times.specs.declared.times.Times.{Times}
 use Rattle.redo_outline.specs.declared.node.Node.{Node}
+use Rattle.redo_outline.specs.Facts.{is_failure}
 use Rattle.redo_summary.specs.declared.rank.Rank.{Rank}
 use Rattle.redo_summary.specs.declared.target.Target.{Target}
-use Rattle.redo_summary.specs.Laws.{AreInOrderOfPosition, AreOfNodes, AreRisingFrom, AreSplit, HasDuration, HasWarnings}
+use Rattle.redo_summary.specs.Laws.{AreInOrderOfPosition, AreOfNodes, AreRisingFrom, AreSplit, HasDuration, HasWarnings, IsMarkOf, IsOfTarget, IsSpanOf}
 use Rattle.redo_summary.specs.Callers.{ran_others, recipes_of, spans_of}
 use Rattle.redo_summary.specs.Ranks.{first_ranks, rank_cmp, rank_of, warnings_from}
 use Rattle.redo_summary.specs.Summary.{summary_of}
@@ -258,3 +259,65 @@ warned_are nodes times =
     all_taken (HasWarnings nodes) 10 (sort rank_cmp ranks)
     (all_sorted (HasWarnings nodes) rank_cmp ranks
     (all_passed (HasWarnings nodes) (λ (rank : Rank). ltb 0 rank.value) (warnings_from 0 nodes) (warnings_are nodes [] nodes 0 refl refl)))
+
+-- ---- the targets of spans
+
+module _ (nodes : List Node) (times : List Times) where
+  -- A target at a position, with its times and its status.
+  abbrev IsShown : Target → Type 0
+  IsShown target =
+      (node : Node) × (slice_get nodes target.position ≡ Some node) × (times_of times node.number ≡ target.times)
+      × (target.failed ≡ is_failure node.status)
+
+  shown_from : (before rest : List Node) (position : ℕ) → before ++ rest ≡ nodes → length before ≡ position
+      → AllByRecursion IsShown (targets_from times position rest)
+  shown_from before [] position split place = tt
+  shown_from before (node ∷ rest) position split place = (
+    (node, found_in nodes before node rest position split place, refl, refl),
+    shown_from (before ++ (node ∷ [])) rest (position + 1) (append_assoc before (node ∷ []) rest ∙ split)
+        (next_place nodes before node position place),
+  )
+
+  shown_span : (target : Target) → IsShown target → IfSome (span_of target) (IsOfTarget IsSpanOf nodes times)
+  shown_span target (node, at, same, status) =
+      by target.times.began target.times.ended (ap (λ (known : Times). known.began) same) (ap (λ (known : Times). known.ended) same)
+    where
+      by : (began ended : Option ℕ) → (times_of times node.number).began ≡ began → (times_of times node.number).ended ≡ ended
+          → IfSome (span_if target began ended) (IsOfTarget IsSpanOf nodes times)
+      by None None first last = tt
+      by None (Some ended) first last = tt
+      by (Some began) None first last = tt
+      by (Some began) (Some ended) first last = (node, at, record { began = first; ended = last; failed = status })
+
+  shown_mark : (target : Target) → IsShown target → IfSome (mark_of target) (IsOfTarget IsMarkOf nodes times)
+  shown_mark target (node, at, same, status) =
+      by target.parent target.times.began target.times.ended (ap (λ (known : Times). known.began) same)
+      (ap (λ (known : Times). known.ended) same)
+    where
+      by : (parent began ended : Option ℕ) → (times_of times node.number).began ≡ began → (times_of times node.number).ended ≡ ended
+          → IfSome (option_map (λ time. span_between target time time) (only_time parent began ended)) (IsOfTarget IsMarkOf nodes times)
+      by None None None first last = tt
+      by (Some parent) None None first last = tt
+      by None (Some began) None first last = (node, at, record { time = inl first; moment = refl; failed = status })
+      by (Some parent) (Some began) None first last = (node, at, record { time = inl first; moment = refl; failed = status })
+      by None None (Some ended) first last = tt
+      by (Some parent) None (Some ended) first last = (node, at, record { time = inr last; moment = refl; failed = status })
+      by None (Some began) (Some ended) first last = tt
+      by (Some parent) (Some began) (Some ended) first last = tt
+
+  spans_are_shown : AllByRecursion (IsOfTarget IsSpanOf nodes times) (spans_of (targets_of nodes times))
+  spans_are_shown =
+      all_chosen IsShown (IsOfTarget IsSpanOf nodes times) span_of shown_span (targets_of nodes times) (shown_from [] nodes 0 refl refl)
+
+  pub callers_are_shown : AllByRecursion (IsOfTarget IsSpanOf nodes times) (summary_of nodes times).callers
+  callers_are_shown =
+      all_passed (IsOfTarget IsSpanOf nodes times) (ran_others (targets_of nodes times)) (spans_of (targets_of nodes times)) spans_are_shown
+
+  pub recipes_are_shown : AllByRecursion (IsOfTarget IsSpanOf nodes times) (summary_of nodes times).recipes
+  recipes_are_shown =
+      all_passed (IsOfTarget IsSpanOf nodes times) (λ (span : Span). not (ran_others (targets_of nodes times) span))
+      (spans_of (targets_of nodes times)) spans_are_shown
+
+  pub marks_are_shown : AllByRecursion (IsOfTarget IsMarkOf nodes times) (summary_of nodes times).marks
+  marks_are_shown =
+      all_chosen IsShown (IsOfTarget IsMarkOf nodes times) mark_of shown_mark (targets_of nodes times) (shown_from [] nodes 0 refl refl)

@@ -1,12 +1,14 @@
 -- What the laws state.
-use Rattle.std.specs.Prelude.{◌≡◌, ℕ, ◌+◌, ◌-◌, ◌<◌, ◌≤◌, ◌⊎◌, max, min, ltb, List, [], ◌∷◌, ◌++◌, length, filter, Option, Some, slice_get}
+use Rattle.std.specs.Prelude.{◌≡◌, ℕ, ◌+◌, ◌-◌, ◌<◌, ◌≤◌, ◌⊎◌, max, min, ltb, List, [], ◌∷◌, ◌++◌, length, filter, Option, Some, slice_get, sum_by}
 use Rattle.std.specs.List.{AllByRecursion, Contains}
 use Rattle.std.specs.List.Sorted.{IsPermutation}
 use Rattle.redo_timeline.specs.declared.span.Span.{Span}
 use Rattle.redo_timeline.specs.declared.span.Window.{Window}
+use Rattle.redo_timeline.specs.Parallelism.{most_of}
 use Rattle.redo_times.specs.declared.times.Times.{Times}
 use Rattle.redo_times.specs.Laws.{IsFirst, IsLast}
 use Rattle.redo_outline.specs.declared.node.Node.{Node}
+use Rattle.redo_outline.specs.Facts.{is_failure, saturated}
 use Rattle.redo_summary.specs.declared.rank.Rank.{Rank}
 use Rattle.redo_summary.specs.Callers.{spans_of}
 use Rattle.redo_summary.specs.Ranks.{warnings_from}
@@ -71,6 +73,30 @@ HasTime known time = (known.began ≡ Some time) ⊎ (known.ended ≡ Some time)
 
 abbrev pub IsKnown : List Node → List Times → ℕ → Type 0
 IsKnown nodes times time = (node : Node) × Contains nodes node × HasTime (times_of times node.number) time
+
+-- A span has both times of a target, and says whether the target failed.
+pub record IsSpanOf (known : Times) (node : Node) (span : Span) : Type 0 where
+  pub began : known.began ≡ Some span.began
+  pub ended : known.ended ≡ Some span.ended
+  pub failed : span.failed ≡ is_failure node.status
+
+-- A mark is at a time of a target, and says whether the target failed.
+pub record IsMarkOf (known : Times) (node : Node) (mark : Span) : Type 0 where
+  pub time : HasTime known mark.began
+  pub moment : mark.ended ≡ mark.began
+  pub failed : mark.failed ≡ is_failure node.status
+
+-- A span is of the target at its position.
+abbrev pub IsOfTarget : (Times → Node → Span → Type 0) → List Node → List Times → Span → Type 0
+IsOfTarget IsOf nodes times span =
+    (node : Node) × (slice_get nodes span.position ≡ Some node) × IsOf (times_of times node.number) node span
+
+-- The totals are over all recipes, and over all shown targets.
+pub record AreTotals (nodes : List Node) (facts : Facts) : Type 0 where
+  pub sum : facts.sum ≡ saturated (sum_by (λ (span : Span). cut (span.ended - span.began)) facts.recipes)
+  pub most : facts.most ≡ most_of facts.recipes
+  pub warnings : facts.warnings ≡ saturated (sum_by (λ (node : Node). node.warnings) nodes)
+  pub bytes : facts.bytes ≡ saturated (sum_by (λ (node : Node). node.bytes) nodes)
 
 -- A window begins at the first known time, and `took` is how long it is from there to the last one. The window is this long, but at least
 -- one millisecond.

@@ -28,7 +28,7 @@ rank_of span = record { value = duration span; position = span.position }
 abbrev pub longest_of : List Span → List Rank
 longest_of recipes = first_ranks (map rank_of recipes)
 
--- The number of warnings of each of some nodes, of which the first one has this position.
+-- The number of warnings of each of some nodes. The first node has this position.
 abbrev pub warnings_from : ℕ → List Node → List Rank
 warnings_from position [] = []
 warnings_from position (node ∷ nodes) = record { value = node.warnings; position = position } ∷ warnings_from (position + 1) nodes

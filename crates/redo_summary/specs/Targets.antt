@@ -6,7 +6,7 @@ use Rattle.redo_outline.specs.declared.node.Node.{Node}
 use Rattle.redo_outline.specs.Facts.{is_failure}
 use Rattle.redo_summary.specs.declared.target.Target.{Target}
 
--- The times of a target of which nothing is known.
+-- The times of a target without any known time.
 abbrev pub no_times : Times
 no_times = record { began = None; ended = None }
 
@@ -32,7 +32,7 @@ target_of times position node = record {
   times = times_of times node.number;
 }
 
--- The targets of some nodes, of which the first one has this position.
+-- The targets of some nodes. The first node has this position.
 abbrev pub targets_from : List Times → ℕ → List Node → List Target
 targets_from times position [] = []
 targets_from times position (node ∷ nodes) = target_of times position node ∷ targets_from times (position + 1) nodes

@@ -1,4 +1,7 @@
 //! Which targets ran others.
+//!
+//! A target ran others if its span contains the span of a target whose log is opened directly in its log. The code iterates
+//! over the targets once, and marks the parent of each, so this takes linear time.
 ghost use Rattle.std.specs.Prelude.{◌≡◌, ◌<◌, IfOk, length};
 ghost use Rattle.redo_summary.specs.Callers.{is_in};
 ghost use Rattle.redo_summary.specs.Private.Marking.{AreMarked, ArePositioned, IsMarked};

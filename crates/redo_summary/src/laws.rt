@@ -3,7 +3,7 @@ ghost use Rattle.std.specs.Prelude.{◌≡◌, ℕ, List, map, None, Some};
 ghost use Rattle.std.specs.List.{AllByRecursion};
 ghost use Rattle.redo_outline.specs.declared.node.Node.{Node};
 ghost use Rattle.redo_times.specs.declared.times.Times.{Times};
-ghost use Rattle.redo_summary.specs.Laws.{AllRanOthers, AreInOrderOfPosition, AreOfNodes, AreSplit, HasDuration, HasFirstTen, HasWarnings, IsKnown, IsOverTimes, IsTable, NoneRanOthers, warning_ranks};
+ghost use Rattle.redo_summary.specs.Laws.{AllRanOthers, AreInOrderOfPosition, AreOfNodes, AreSplit, AreTotals, HasDuration, HasFirstTen, HasWarnings, IsKnown, IsMarkOf, IsOfTarget, IsOverTimes, IsSpanOf, IsTable, NoneRanOthers, warning_ranks};
 ghost use Rattle.redo_summary.specs.Ranks.{rank_of};
 ghost use Rattle.redo_summary.specs.Summary.{summary_of};
 ghost use Rattle.redo_timeline.specs.declared.span.Window.{Window};
@@ -21,6 +21,22 @@ pub fn spans_are_in_order_of_position()
 /// The span of each shown target whose times are known is in exactly one of the lists of callers and recipes.
 pub fn spans_are_callers_or_recipes()
     ensures { (nodes : List Node) (times : List Times) → AreSplit nodes times (summary_of nodes times) }
+{}
+
+/// Each caller and each recipe has both times of the target at its position, and each mark has one of them. They say whether this target
+/// failed.
+pub fn spans_are_of_targets()
+    ensures callers { (nodes : List Node) (times : List Times) →
+        AllByRecursion (IsOfTarget IsSpanOf nodes times) (summary_of nodes times).callers }
+    ensures recipes { (nodes : List Node) (times : List Times) →
+        AllByRecursion (IsOfTarget IsSpanOf nodes times) (summary_of nodes times).recipes }
+    ensures marks { (nodes : List Node) (times : List Times) →
+        AllByRecursion (IsOfTarget IsMarkOf nodes times) (summary_of nodes times).marks }
+{}
+
+/// The totals are over all recipes, and over all shown targets.
+pub fn totals_are_over_all()
+    ensures { (nodes : List Node) (times : List Times) → AreTotals nodes (summary_of nodes times) }
 {}
 
 /// The window runs from the first known time of a shown target to the last one, and is at least one millisecond wide. There is none only if

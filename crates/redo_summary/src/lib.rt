@@ -7,7 +7,7 @@
 //! - *Shown target*: the target of a node. Its *position* is the node's position.
 //! - *Span*: the time from when a target began to when it ended, if both are known.
 //! - *Mark*: the one time that is known of a target, as a span without length.
-//! - *Caller*: a span in which the span of a target lies that its target ran. All other spans are *recipes*.
+//! - *Caller*: the span of a target that ran another one, which began and ended within it. All other spans are *recipes*.
 #![tactic(auto)]
 
 mod callers;
@@ -23,8 +23,8 @@ mod window;
 
 pub use laws::{
     callers_ran_others, positions_are_of_nodes, ranks_are_in_order, ranks_have_values_of_targets,
-    spans_are_callers_or_recipes, spans_are_in_order_of_position, tables_have_first_ranks,
-    window_is_over_known_times,
+    spans_are_callers_or_recipes, spans_are_in_order_of_position, spans_are_of_targets,
+    tables_have_first_ranks, totals_are_over_all, window_is_over_known_times,
 };
 pub use rank::Rank;
 pub use summary::Summary;

@@ -1,4 +1,8 @@
 //! The recipes that took longest, and the targets with the most warnings.
+//!
+//! A table has at most ten rows, so the code never sorts all targets. It iterates over them from the last one to the first,
+//! as the definition of a sort by insertion does, and keeps the first ten so far: an insertion into a sorted list changes its
+//! first ten items in the same way as an insertion into these ten alone.
 ghost use Rattle.std.specs.Prelude.{◌≡◌, take, IfOk, OnOk};
 ghost use Rattle.std.specs.Ordering.{is_gt};
 ghost use Rattle.redo_timeline.specs.Order.{insert_sorted};

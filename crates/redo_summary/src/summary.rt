@@ -116,8 +116,8 @@ impl Summary {
         self.recipes.as_slice()
     }
 
-    /// Returns the marks of the targets of which one time is known, in order of position. A requested target of which only the end is
-    /// known has no mark, because the log of a run by make says no more.
+    /// Returns the marks of the targets with one known time, in order of position. A requested target has no mark if only its end is
+    /// known, because the log of a run by make says no more.
     pub fn marks(&self) -> &[Span]
         ensures { result.now ≡ self.now.marks }
     {

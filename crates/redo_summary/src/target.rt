@@ -5,7 +5,7 @@ ghost use Rattle.redo_summary.specs.Targets.{mark_of, span_between, span_of};
 use redo_timeline::Span;
 use redo_times::Times;
 
-/// What is known of when a shown target ran.
+/// When a shown target ran, as far as this is known.
 #[derive(Clone, Copy)]
 pub struct Target {
     pub position: usize,

@@ -1,4 +1,6 @@
 //! The time that all shown targets took together.
+//!
+//! It is at least a millisecond wide, so that a timeline can divide by its width. `took` may be 0.
 ghost use Rattle.std.specs.Prelude.{◌≡◌};
 ghost use Rattle.redo_times.specs.Times.{first_time, last_time};
 ghost use Rattle.redo_summary.specs.Window.{cut, known_times, time_over, window_over};

@@ -3,6 +3,7 @@ mod CountLemmas
 pub mod CoverLemmas
 mod LaneLemmas
 pub mod LawLemmas
+mod MostLemmas
 mod NeedLemmas
 pub mod OrderLemmas
 mod TimelineLemmas

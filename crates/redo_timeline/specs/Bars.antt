@@ -27,7 +27,7 @@ position_of (span ∷ rest) = span.position
 abbrev pub is_narrow : Window → Span → Bool
 is_narrow window span = not span.failed && ltb (units window span.ended - units window span.began) 20
 
--- Whether a span joins the bar before it, of which these are the spans: they and the span are narrow, it begins within 0.1 % of the end
+-- Whether a span joins the bar before it, which has these spans: they and the span are narrow, it begins within 0.1 % of the end
 -- of the bar, and with it the bar is narrower than 0.5 %.
 abbrev pub joins : Window → List Span → Span → Bool
 joins window bar span =

@@ -1,12 +1,13 @@
 -- What the laws state.
 use Rattle.std.specs.Prelude.{◌≡◌, ℕ, ◌+◌, ◌<◌, ◌≤◌, ◌⊎◌, true, false, List, [], ◌∷◌, length}
-use Rattle.std.specs.List.{AllByRecursion, flat_map}
+use Rattle.std.specs.List.{AllByRecursion, Contains, flat_map}
 use Rattle.std.specs.List.Sorted.{IsPermutation, IsSorted}
 use Rattle.redo_timeline.specs.declared.bar.Bar.{Bar}
 use Rattle.redo_timeline.specs.declared.span.Span.{Span}
 use Rattle.redo_timeline.specs.declared.span.Window.{Window}
 use Rattle.redo_timeline.specs.Bars.{has_failed, width_of}
 use Rattle.redo_timeline.specs.Order.{span_cmp}
+use Rattle.redo_timeline.specs.Parallelism.{count_at, most_of}
 use Rattle.redo_timeline.specs.Timeline.{Drawing}
 
 -- The spans of all bars, lane by lane.
@@ -44,3 +45,7 @@ IsInLanes max_lanes drawing =
 -- The second list has the spans of the first one, each at or after the one before.
 abbrev pub AreOrdered : List Span → List Span → Type 0
 AreOrdered spans ordered = IsPermutation spans ordered × IsSorted span_cmp ordered
+
+-- The greatest number of spans that run at once run when one of the spans begins, if there are any.
+abbrev pub IsReached : List Span → Type 0
+IsReached spans = (spans ≡ []) ⊎ ((span : Span) × Contains spans span × (most_of spans ≡ count_at spans span))

@@ -15,7 +15,7 @@ pub record Drawing : Type 0 where
 abbrev pub bars_of : Window → ℕ → List Span → List (List (List Span))
 bars_of window max_lanes spans = map (bars_in window) (lanes_of max_lanes spans)
 
--- What is drawn of the bars of some lanes, of which the first one has the number `lane`.
+-- What is drawn of the bars of some lanes. The first lane has the number `lane`.
 abbrev pub drawn_bars : Window → ℕ → List (List (List Span)) → List Bar
 drawn_bars window lane [] = []
 drawn_bars window lane (bars ∷ lanes) = map (bar_of window lane) bars ++ drawn_bars window (lane + 1) lanes

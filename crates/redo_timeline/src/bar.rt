@@ -5,7 +5,7 @@
 pub struct Bar {
     /// The lane, counted from 0.
     pub lane: usize,
-    /// Where it begins, in units from the left.
+    /// Its beginning, in units from the left.
     pub x: u64,
     /// How wide it is drawn, in units: at least 10, or 30 if its target failed.
     pub width: u64,

@@ -1,4 +1,8 @@
 //! Bars that more spans may join.
+//!
+//! By definition a bar is the list of its spans, so a law can say that the spans of all bars are a permutation of the input.
+//! The code stores a draft of the last bar instead: its times, its position, the number of its spans, and whether each of
+//! them is narrow.
 ghost use Rattle.std.specs.Prelude.{◌≡◌, ◌+◌, ◌<◌, ◌^◌, [], ◌∷◌};
 ghost use Rattle.redo_timeline.specs.Bars.{IsValidWindow, is_narrow, units};
 ghost use Rattle.redo_timeline.specs.Private.Drafting.{draft_of, drawn_draft, joined_draft, joins_draft};

@@ -1,4 +1,7 @@
 //! The lanes that spans take.
+//!
+//! A lane is free if all of its spans have ended, not only the last one. This makes a difference only in the last lane that
+//! is allowed, where spans may overlap. The code stores when each lane ended, and looks at each lane for each span.
 ghost use Rattle.std.specs.Prelude.{◌≡◌, [], IfOk, OnOk};
 ghost use Rattle.redo_timeline.specs.Lanes.{take_lanes};
 ghost use Rattle.redo_timeline.specs.Private.Placing.{lane_for, put_end, put_in_lane, spans_in};

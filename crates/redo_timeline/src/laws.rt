@@ -4,7 +4,7 @@ ghost use Rattle.std.specs.List.{count_by};
 ghost use Rattle.std.specs.List.Sorted.{IsPermutation};
 ghost use Rattle.redo_timeline.specs.declared.span.Span.{Span};
 ghost use Rattle.redo_timeline.specs.declared.span.Window.{Window};
-ghost use Rattle.redo_timeline.specs.Laws.{AreInTurn, AreOrdered, EachBar, IsAloneIfFailed, IsInLanes, IsSlimIfJoined, spans_of};
+ghost use Rattle.redo_timeline.specs.Laws.{AreInTurn, AreOrdered, EachBar, IsAloneIfFailed, IsInLanes, IsReached, IsSlimIfJoined, spans_of};
 ghost use Rattle.redo_timeline.specs.Order.{in_order};
 ghost use Rattle.redo_timeline.specs.Parallelism.{most_of, runs_at};
 ghost use Rattle.redo_timeline.specs.Timeline.{bars_of, timeline_of};
@@ -47,4 +47,9 @@ pub fn spans_are_ordered()
 /// No more spans run at any time.
 pub fn no_more_spans_run()
     ensures { (spans : List Span) (time : ℕ) → count_by (runs_at time) spans ≤ most_of spans }
+{}
+
+/// As many spans run when one of them begins.
+pub fn most_spans_run()
+    ensures { (spans : List Span) → IsReached spans }
 {}

@@ -23,7 +23,7 @@ mod timeline;
 pub use bar::Bar;
 pub use laws::{
     bars_are_in_lanes, bars_do_not_overlap, failed_spans_are_alone, joined_bars_are_narrow,
-    lanes_are_needed, no_more_spans_run, spans_are_drawn_once, spans_are_ordered,
+    lanes_are_needed, most_spans_run, no_more_spans_run, spans_are_drawn_once, spans_are_ordered,
 };
 pub use parallelism::most_at_once;
 pub use span::{Span, Window};

@@ -1,4 +1,7 @@
 //! How many spans run at once.
+//!
+//! For each span, binary search in sorted times counts how many began and how many ended until it began. A span that ended
+//! before it began counts as one without length.
 ghost use Rattle.std.specs.Prelude.{◌≡◌, IfOk, leb};
 ghost use Rattle.std.specs.List.{count_by};
 ghost use Rattle.std.specs.List.Sorted.{IsNonDecreasing};

@@ -1,4 +1,4 @@
-//! What a timeline is made from.
+//! The input of a timeline: spans and a window.
 
 /// The time from when a target began to when it ended. Spans are ordered by when they began, then by position.
 #[derive(Clone, Copy, Debug, PartialEq, Eq, PartialOrd, Ord)]

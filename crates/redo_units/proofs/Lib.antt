@@ -1,5 +1,6 @@
 mod DateLemmas
 mod DateRows
+mod DurationLemmas
 mod TickLemmas
 mod TickRows
 mod UnitRows

@@ -11,7 +11,7 @@ axis_steps =
     1 ∷ 2 ∷ 5 ∷ 10 ∷ 20 ∷ 50 ∷ 100 ∷ 200 ∷ 500 ∷ 1000 ∷ 2000 ∷ 5000 ∷ 10000 ∷ 15000 ∷ 30000 ∷ 60000 ∷ 120000 ∷ 300000 ∷ 600000 ∷ 900000 ∷ 1800000
     ∷ 3600000 ∷ 7200000 ∷ 14400000 ∷ 43200000 ∷ 86400000 ∷ []
 
--- How far they are apart on an axis of this width: the first step of which ten are at least as wide. If there is none, the axis has one step.
+-- Their distance on an axis of this width: the first step that, ten times, is at least as wide. If there is none, the axis has one step.
 unfoldable pub tick_step_of : ℕ → ℕ
 tick_step_of width = unwrap_or (find (λ step. nat_le width (step * 10)) axis_steps) width
 

@@ -1,3 +1,5 @@
+//! Dates. `httpdate` says only which second a date means. The definition finds the year and the month by their numbers of
+//! days, and the proof shows that the date of a second is the only one.
 ghost use Rattle.std.specs.Prelude.{◌≡◌};
 ghost use Rattle.redo_units.specs.Dates.{date_text_of};
 

@@ -1,4 +1,7 @@
 //! The times that an axis shows.
+//!
+//! A step is at least a tenth of an axis, so an axis has at most 11 ticks. Up to ten days it is a round time. The step
+//! decides how many decimals of a second are written, so all ticks of an axis except 0 have the same number.
 ghost use Rattle.std.specs.Prelude.{◌≡◌, ◌/◌, ◌<◌, ◌≤◌, map};
 ghost use Rattle.redo_units.specs.Ticks as spec;
 ghost use Rattle.redo_units.specs.Ticks.{tick_step_of, tick_words};

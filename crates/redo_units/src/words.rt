@@ -1,4 +1,7 @@
 //! What numbers with units are written with.
+//!
+//! A page writes words as its parts, without memory; `push_words` appends their text to a text. An array has the same number
+//! of words for each number, so some are empty.
 ghost use Rattle.std.specs.Prelude.{◌≡◌, ◌++◌, map, OnOk};
 ghost use Rattle.redo_units.specs.Words.{decimal_text, word_of, word_text, words_text};
 
