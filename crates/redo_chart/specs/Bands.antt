@@ -17,7 +17,7 @@ max_mark_lanes = 1
 abbrev pub recipe_lane_height : ℕ → ℕ
 recipe_lane_height lanes = if leb lanes 16 then 18 else if leb lanes 40 then 12 else 8
 
--- What follows a band with this number of lanes begins here.
+-- The y coordinate below a band with this number of lanes.
 abbrev pub below : Band → ℕ → ℕ
 below band lanes = 6 + band.top + band.lane_height * lanes
 

@@ -15,7 +15,7 @@ use Rattle.redo_chart.specs.Bars.{bar_layer}
 abbrev pub height_of : ℕ → ℕ → ℕ → ℕ
 height_of caller_lanes recipe_lanes mark_lanes = below (marks_band caller_lanes recipe_lanes) mark_lanes
 
--- The chart of three timelines: of recipes that ran others, of other recipes, and of recipes of which one time is unknown.
+-- The chart of three timelines: of recipes that ran others, of other recipes, and of recipes with one unknown time.
 abbrev pub drawing_of : List Log → List Node → ℕ → Timeline → Timeline → Timeline → Drawing
 drawing_of logs nodes width callers recipes marks =
     let height = height_of callers.lane_count recipes.lane_count marks.lane_count in record {

@@ -24,7 +24,7 @@ status_text None = codes ", unfinished"
 status_text (Some (pos zero)) = []
 status_text (Some status) = before_magnitude status ++ decimal_text (magnitude status)
 
--- How long the targets of a bar ran, after this word. The text is empty for targets of which only one time is known.
+-- How long the targets of a bar ran, after this word. The text is empty for targets with only one known time.
 abbrev pub duration_after : List ℕ → GroupKind → ℕ → List ℕ
 duration_after word Axis ms = []
 duration_after word Callers ms = word ++ duration_text ms

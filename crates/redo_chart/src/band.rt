@@ -1,4 +1,7 @@
 //! Where the groups of bars are in the chart.
+//!
+//! Where a group begins depends on the number of lanes above it, and the height of the chart on all three groups. So all
+//! groups are laid out before anything is written. The maximum numbers of lanes bound the height.
 ghost use Rattle.std.specs.Prelude.{◌≡◌, ◌<◌, ◌≤◌, ◌^◌};
 ghost use Rattle.redo_chart.specs.Bands as spec;
 
@@ -14,7 +17,7 @@ const GAP: u64 = 6;
 #[derive(Clone, Copy)]
 pub struct Band {
     pub kind: GroupKind,
-    /// Where the first lane begins.
+    /// The y coordinate at which the first lane begins.
     pub top: u64,
     pub lane_height: u64,
 }
@@ -56,7 +59,7 @@ impl Band {
         }
     }
 
-    /// Returns where follows what is below this band, if it has this number of lanes.
+    /// Returns the y coordinate below this band, if it has this number of lanes.
     pub fn below(&self, lanes: usize) -> u64
         requires { spec.below self.now lanes < 2 ^ 64 }
         ensures { result ≡ spec.below self.now lanes }

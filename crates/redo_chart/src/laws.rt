@@ -1,4 +1,8 @@
 //! Laws, which are theorems about the definitions alone: each contract is a theorem, and the bodies are empty.
+//!
+//! `SaysOf` states what a bar says of its spans: the target to which it leads, its beginning, width, colour, tooltip and
+//! label. It follows the bars of the layout, so the law about a group (`DrawsAll`) needs no other definition of which spans
+//! share a bar.
 ghost use Rattle.std.specs.Prelude.{◌≡◌, ◌++◌, ◌∷◌, ℕ, true, nat_lt, List, []};
 ghost use Rattle.std.specs.List.{AllByRecursion, list_all};
 ghost use Rattle.redo_html.specs.declared.chart.GroupKind.TheVariants.{Axis, Callers, Recipes, Untimed};
@@ -19,9 +23,10 @@ pub fn bars_lead_to_positions()
 {}
 
 /// Each span is in exactly one bar, and the bar says where it is: it leads to the target of its first span, begins when this one began,
-/// is as wide as the time until its last span ended, is red if its target failed, and its tooltip says so in words. If it is large enough,
-/// its label is the last part of the name of this target. Several spans have one bar only if none of them failed, and if they take less
-/// than 0.5 % of the chart together.
+/// is as wide as the time until its last span ended, but at least 0.1 %, and includes the times of all its spans. Its tooltip says this in
+/// words. It is red exactly if a span failed, and then at least 0.3 % wide. Its label, if it has one, is the last part of the name of this
+/// target; it has one if it is wide and high enough. Several spans have one bar only if none of them failed, and if they take less than
+/// 0.5 % of the chart together.
 pub fn bars_say_when_targets_ran()
     ensures callers { (logs : List Log) (nodes : List Node) (window : Window) (callers recipes marks : List Span) →
         DrawsAll logs nodes window Callers max_caller_lanes callers

@@ -5,8 +5,8 @@
 //!
 //! # Terms
 //!
-//! - *Callers*: recipes that ran others, in the upper part of the chart. *Recipes*: the others, in the middle. *Marks*: recipes of which
-//!   only one time is known, in the last row.
+//! - *Callers*: recipes that ran others, in the upper part of the chart. *Recipes*: the others, in the middle. *Marks*: recipes with
+//!   only one known time, in the last row.
 //! - *Band*: where the lanes of one of these groups are.
 #![tactic(auto)]
 

@@ -1,4 +1,7 @@
 //! The chart of the timeline of a build.
+//!
+//! A `Chart` borrows its texts, so the tooltips and the texts of the axis are made first. If memory runs out, nothing was
+//! written.
 ghost use Rattle.std.specs.Prelude.{◌≡◌, ◌<◌, ◌^◌, map};
 ghost use Rattle.redo_html.specs.Chart.{layer_of, shape_of};
 ghost use Rattle.redo_html.specs.Parts.{part_html};
@@ -30,7 +33,7 @@ const MAX_RECIPE_LANES: usize = 96;
 const MAX_MARK_LANES: usize = 1;
 
 /// Writes the chart of a timeline as one `svg` element: an axis, the recipes that ran others (`callers`), the other recipes, and the
-/// targets of which only one time is known (`marks`). A mark begins and ends at this time. Each bar leads to its target in the tree of the
+/// targets with only one known time (`marks`). A mark begins and ends at this time. Each bar leads to its target in the tree of the
 /// page, has a tooltip, and a label if it is large enough.
 ///
 /// `nodes` are the shown targets, and a span has the position of its node. A bar whose position is past the last node has an empty name and

@@ -4,7 +4,7 @@ use Rattle.redo_html.specs.Parts.Part.{TextPart}
 use Rattle.redo_logs.specs.Logs.{Log}
 use Rattle.redo_outline.specs.declared.node.Node.{Node}
 use Rattle.redo_page.specs.declared.labels.TheConstants.{MORE_ABOVE, PATH_SEPARATOR}
-use Rattle.redo_page.specs.Failed.{path_parts}
+use Rattle.redo_page.specs.Article.{path_parts}
 use Rattle.redo_page.specs.Targets.{name_parts}
 use Rattle.redo_outline.specs.Facts.{target_at}
 use Rattle.redo_page.specs.Tree.{node_at}

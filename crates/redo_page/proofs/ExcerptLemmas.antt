@@ -1,18 +1,16 @@
 -- Excerpts, line by line.
-use Rattle.std.proofs.Common.{◌≡◌, ℕ, zero, suc, ◌+◌, ◌<◌, ◌≤◌, Bool, true, false, List, [], ◌∷◌, ◌++◌, Option, None, Some, length, get_or, refl, sym, ap, ◌∙◌, arith, add-one}
+use Rattle.std.proofs.Common.{◌≡◌, ℕ, zero, suc, ◌+◌, ◌<◌, ◌≤◌, Bool, true, false, List, [], ◌∷◌, ◌++◌, Option, None, Some, length, refl, sym, ap, ◌∙◌, arith, add-one}
 use Rattle.std.specs.Prelude.{if◌then◌else◌}
 use Rattle.std.specs.List.{flat_map, position_or_len}
 use Rattle.std.proofs.lemmas.List.{append-nil, append_assoc}
-use Rattle.std.proofs.lemmas.List.Sums.{fold_more}
 use Rattle.redo_html.specs.declared.markup.Markup.TheVariants.{EndPre}
 use Rattle.redo_html.specs.Parts.{Part}
 use Rattle.redo_html.specs.Parts.Part.{MarkupPart}
-use Rattle.redo_page.specs.declared.cause.WordState.TheVariants.{Outside}
 use Rattle.redo_page.specs.declared.excerpt.OpenStretch.{OpenStretch}
 use Rattle.redo_page.specs.declared.excerpt.OpenStretch.TheVariants.{Nothing, Shown, LeftOut}
-use Rattle.redo_page.specs.Errors.{is_error, state_after}
-use Rattle.redo_page.specs.Excerpt.{Stretch, error_position, excerpt_line_parts, excerpt_parts, is_kept, last_where, left_out_parts, may_cut, state_at, stretch_parts, stretches_from, with_left_out, with_shown}
-use Rattle.redo_page.specs.Private.Excerpting.{better, end_parts, open_after, open_count, parts_from, step_parts}
+use Rattle.redo_page.specs.Errors.{is_error}
+use Rattle.redo_page.specs.Excerpt.{Stretch, error_position, excerpt_line_parts, excerpt_parts, is_kept, left_out_parts, stretch_parts, stretches_from, with_left_out, with_shown}
+use Rattle.redo_page.specs.Private.Excerpting.{end_parts, open_after, open_count, parts_from, step_parts}
 
 -- ---- the first error
 
@@ -20,27 +18,6 @@ use Rattle.redo_page.specs.Private.Excerpting.{better, end_parts, open_after, op
 abbrev pub error_from : Option ℕ → ℕ → List (List ℕ) → ℕ
 error_from (Some error) at lines = error
 error_from None at lines = at + position_or_len is_error lines
-
--- ---- cutting
-
-pub state_next : (bytes : List ℕ) (at : ℕ) → at < length bytes
-    → state_at bytes (at + 1) ≡ state_after (state_at bytes at) (get_or bytes at 0)
-state_next bytes at below = fold_more state_after Outside bytes at 0 below
-
-pub best_next : (bytes : List ℕ) (at : ℕ)
-    → better (last_where (may_cut bytes) at) (at + 1) (state_at bytes (at + 1)) (get_or bytes (at + 1) 0)
-    ≡ last_where (may_cut bytes) (at + 1)
-best_next bytes at =
-    ap (λ (n : ℕ). better (last_where (may_cut bytes) at) n (state_at bytes n) (get_or bytes n 0)) (add-one at)
-    ∙ sym (ap (last_where (may_cut bytes)) (add-one at))
-
-pub last_within : (passes : ℕ → Bool) (limit : ℕ) → last_where passes limit ≤ limit
-last_within passes zero = omega arith
-last_within passes (suc limit) = by (passes (suc limit)) (last_within passes limit)
-  where
-    by : (b : Bool) → last_where passes limit ≤ limit → (if b then suc limit else last_where passes limit) ≤ suc limit
-    by true low = omega arith
-    by false low = omega (arith, low)
 
 -- ---- stretches
 

@@ -4,6 +4,7 @@ use Rattle.std.specs.Char.{encode_utf8}
 use Rattle.std.specs.Fmt.{digits}
 use Rattle.std.specs.Prelude.{◌==◌, ◌||◌, bytes_eq, codes}
 use Rattle.std.specs.List.{AllByRecursion, filter, flat_map, range_with_len}
+use Rattle.redo_html.specs.Cut.{begins_at}
 use Rattle.redo_html.specs.declared.markup.Markup.{Markup}
 use Rattle.redo_html.specs.declared.markup.Markup.TheVariants as markup
 use Rattle.redo_html.specs.Passage.{html_from}
@@ -13,7 +14,7 @@ use Rattle.redo_html.specs.Shown.{is_unprintable, number_text, unprintable_text,
 use Rattle.redo_html.specs.Style.{plain_style}
 use Rattle.redo_html.specs.Symbols.{first_code_point, first_symbol, is_sequence, code_point_len, sequence_len, sequence_numbers, symbol_len, symbols_after}
 use Rattle.redo_page.specs.Errors.{begins_with}
-use Rattle.redo_page.specs.Excerpt.{Stretch, cut_to, error_position, excerpt_line_end, excerpt_line_parts, excerpt_parts, in_tree_parts, is_continuation, is_kept, last_where, left_out_parts, may_cut, stretch_parts, stretches_from}
+use Rattle.redo_page.specs.Excerpt.{Stretch, cut_to, error_position, excerpt_line_end, excerpt_line_parts, excerpt_parts, in_tree_parts, is_kept, left_out_parts, stretch_parts, stretches_from}
 
 -- ---- cutting
 
@@ -39,14 +40,17 @@ cuts =
     ∷ cut 3 (codes "ab" ++ 27 ∷ codes "[1mcd") (codes "ab")
     ∷ cut 5 (codes "ab" ++ 27 ∷ codes "[1mcd") (codes "ab")
     ∷ cut 6 (codes "ab" ++ 27 ∷ codes "[1mcd") (codes "ab" ++ 27 ∷ codes "[1m")
-    ∷ cut 2 (0x80 ∷ 0x80 ∷ 0x80 ∷ []) []
+    ∷ cut 2 (0x80 ∷ 0x80 ∷ 0x80 ∷ []) (0x80 ∷ 0x80 ∷ [])
+    ∷ cut 8 (codes "ab" ++ 27 ∷ codes "]8;;u" ++ 7 ∷ 99 ∷ []) (codes "ab")
+    ∷ cut 9 (codes "ab" ++ 27 ∷ codes "]8;;u" ++ 7 ∷ 99 ∷ []) (codes "ab" ++ 27 ∷ codes "]8;;u" ++ 7 ∷ [])
     ∷ cut 5 (codes "ab" ++ 27 ∷ codes "[") (codes "ab" ++ 27 ∷ codes "[")
     ∷ cut 4 (codes "ab" ++ 27 ∷ codes "[") (codes "ab" ++ 27 ∷ codes "[")
     ∷ []
 
 cuts_are : AllByRecursion (λ row. cut_to row.limit row.bytes ≡ row.result) cuts
-unfolding cut_to
-cuts_are = (refl, (refl, (refl, (refl, (refl, (refl, (refl, (refl, (refl, (refl, (refl, (refl, (refl, (refl, tt))))))))))))))
+unfolding cut_to begins_at symbol_len is_sequence sequence_len code_point_len
+cuts_are =
+    (refl, (refl, (refl, (refl, (refl, (refl, (refl, (refl, (refl, (refl, (refl, (refl, (refl, (refl, (refl, (refl, tt))))))))))))))))
 
 -- The bytes that parts show.
 abbrev bytes_of : Part → List ℕ
@@ -68,7 +72,7 @@ long_line :
     bytes_eq (bytes (excerpt_line_parts (replicate 1001 97)))
     (replicate 1000 97 ++ codes " ...\n")
     ≡ true
-unfolding excerpt_line_parts excerpt_line_end cut_to
+unfolding excerpt_line_parts excerpt_line_end cut_to begins_at symbol_len is_sequence sequence_len code_point_len
 long_line = refl
 
 -- ---- which lines an excerpt shows
@@ -118,16 +122,6 @@ tag markup = MarkupPart markup
 
 abbrev words : List ℕ → Part
 words text = TextPart text
-
--- A letter of two bytes, and a sequence of four.
-may_cut_are :
-    (map is_continuation (0x7F ∷ 0x80 ∷ 0xBF ∷ 0xC0 ∷ []) ≡ false ∷ true ∷ true ∷ false ∷ [])
-    × (map (may_cut (97 ∷ 0xC3 ∷ 0xA9 ∷ 97 ∷ [])) (1 ∷ 2 ∷ 3 ∷ []) ≡ true ∷ false ∷ true ∷ [])
-    × (map (may_cut (97 ∷ 27 ∷ codes "[1ma")) (1 ∷ 2 ∷ 3 ∷ 4 ∷ 5 ∷ []) ≡ true ∷ false ∷ false ∷ false ∷ true ∷ [])
-may_cut_are = (refl, refl, refl)
-
-last_are : (last_where (λ at. at == 2) 5 ≡ 2) × (last_where (λ at. true) 5 ≡ 5) × (last_where (λ at. at == 9) 5 ≡ 0)
-last_are = (refl, refl, refl)
 
 line_is : excerpt_line_parts (codes "x") ≡ LogPart plain_style (codes "x") ∷ words (codes "\n") ∷ []
 unfolding excerpt_line_parts excerpt_line_end cut_to

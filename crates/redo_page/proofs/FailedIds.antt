@@ -1,4 +1,4 @@
--- The ids and the links of the section on what failed.
+-- The ids and the links of articles, and the positions of targets that failed.
 use Rattle.std.proofs.Common.{◌≡◌, ℕ, zero, suc, ◌+◌, Bool, true, false, List, [], ◌∷◌, ◌++◌, Option, None, Some, refl, sym, ◌∙◌, ap, arith}
 use Rattle.std.specs.Prelude.{◌==◌, nat_lt, drop, length, take, if◌then◌else◌}
 use Rattle.std.specs.List.{flat_map, list_all}
@@ -6,26 +6,24 @@ use Rattle.std.proofs.lemmas.Bool.{and_from, and_parts, eq-eqb, lt-ltb, or_left,
 use Rattle.std.proofs.lemmas.Grind.{flat_map-append}
 use Rattle.std.proofs.lemmas.List.{append_assoc, append-nil}
 use Rattle.redo_logs.specs.Logs.{Log}
-use Rattle.redo_html.specs.declared.markup.Markup.{Markup}
 use Rattle.redo_html.specs.declared.markup.Markup.TheVariants as markup
 use Rattle.redo_html.specs.declared.style.Style.{Style}
 use Rattle.redo_html.specs.Lines.{line_parts, style_after}
-use Rattle.redo_html.specs.Parts.{Part}
-use Rattle.redo_html.specs.Parts.Part.{MarkupPart, LogPart, TextPart, NumberPart}
+use Rattle.redo_html.specs.Parts.Part.{MarkupPart, LogPart, TextPart}
 use Rattle.redo_html.specs.Style.{plain_style}
 use Rattle.redo_line.specs.Lines.{with_line_feed}
 use Rattle.redo_outline.specs.declared.node.Node.{Node}
-use Rattle.redo_page.specs.declared.labels.TheConstants.{COUNT_NOT_CLOSED, FAILED_WITH_THESE, MIDDLE_DOT, MORE_FAILED, PLACE_IN_TREE, WHAT_FAILED}
+use Rattle.redo_page.specs.declared.labels.TheConstants.{MIDDLE_DOT, PLACE_IN_TREE}
 use Rattle.redo_page.specs.Errors.{cause_of}
 use Rattle.redo_page.specs.Excerpt.{Stretch, error_position, excerpt_line_parts, excerpt_parts, in_tree_parts, is_kept, left_out_parts, stretch_parts, stretches_from}
 use Rattle.redo_page.specs.Excerpt.Stretch.{Shown, LeftOut}
 use Rattle.redo_units.specs.Durations.{duration_words}
-use Rattle.redo_page.specs.Failed.{article_of, article_parts, article_took, article_row, cause_if, cause_of_node, cause_parts, is_dependent_failure, failed_parts, is_unclosed, list_parts, max_path, max_rows, more_parts, nothing_parts, output_parts, path_parts, positions_where, printed_by, row_parts, section_parts, target_row, unlisted_parts, whole_parts}
+use Rattle.redo_page.specs.Article.{article_of, article_parts, article_took, cause_of_node, cause_parts, max_path, nothing_parts, output_parts, path_parts, printed_by, whole_parts}
+use Rattle.redo_page.specs.Failed.{positions_where}
 use Rattle.redo_page.specs.Laws.{is_among}
-use Rattle.redo_page.specs.Targets.{parts_if}
 use Rattle.redo_page.specs.Tree.{articles, is_root_failure, root_failures, root_failures_from, is_short, max_articles, node_at}
 use Rattle.redo_page.proofs.FailedOrder.{sort-passes}
-use Rattle.redo_page.proofs.Ids.{Bare, Refer, Refers, badge_bare, bare_if, bare_refers, bare_then, link_refers, article_link_refers, reference, references, refer_each, refer_if, same_refer, then_refer, words_bare}
+use Rattle.redo_page.proofs.Ids.{Bare, Refer, badge_bare, bare_refers, bare_then, link_refers, refer_each, same_refer, then_refer, words_bare}
 
 -- ---- positions
 
@@ -33,7 +31,8 @@ use Rattle.redo_page.proofs.Ids.{Bare, Refer, Refers, badge_bare, bare_if, bare_
 abbrev pub AreBelow : ℕ → List ℕ → Type 0
 AreBelow count numbers = list_all (λ number. nat_lt number count) numbers ≡ true
 
-all_take : (passes : ℕ → Bool) (count : ℕ) (numbers : List ℕ) → list_all passes numbers ≡ true → list_all passes (take count numbers) ≡ true
+pub all_take : (passes : ℕ → Bool) (count : ℕ) (numbers : List ℕ) → list_all passes numbers ≡ true
+    → list_all passes (take count numbers) ≡ true
 all_take passes zero numbers all = refl
 all_take passes (suc count) [] all = refl
 all_take passes (suc count) (number ∷ numbers) all =
@@ -178,18 +177,6 @@ module _ (count : ℕ) (listed : List ℕ) where
     sections_are = refl;
   }
 
-  rows_refer : (passes : ℕ → Bool) (row : ℕ → List Part)
-      → ((position : ℕ) → passes position ≡ true → Refer count listed (row position) [] []) → (positions : List ℕ)
-      → list_all passes positions ≡ true → Refer count listed (flat_map row positions) [] []
-  rows_refer passes row each [] all = bare_refers [] refl
-  rows_refer passes row each (position ∷ positions) all =
-      let parts = and_parts (passes position) (list_all passes positions) all in
-      then_refer (each position parts.0) (rows_refer passes row each positions parts.1)
-
-  unlisted_bare : (number : ℕ) → Bare (unlisted_parts number)
-  unfolding unlisted_parts
-  unlisted_bare number = bare_if (nat_lt max_rows number) _ refl
-
   -- ---- articles
 
   module _ (logs : List Log) (nodes : List Node) where
@@ -223,133 +210,26 @@ module _ (count : ℕ) (listed : List ℕ) where
         (record { target_ids_are = refl; article_ids_are = refl; target_links_lead = refl; article_links_lead = refl; sections_are = refl })
         (then_refer (in_tree_refers position PLACE_IN_TREE.now below) (output_refers position node below)))
 
-    articles_refer : (positions : List ℕ) → AreBelow count positions
+    pub articles_refer : (positions : List ℕ) → AreBelow count positions
         → Refer count listed (flat_map (article_parts logs nodes) positions) [] positions
     articles_refer [] below = bare_refers [] refl
     articles_refer (position ∷ positions) below =
         let parts = and_parts (nat_lt position count) (list_all (λ number. nat_lt number count) positions) below in
         then_refer (article_refers position parts.0) (articles_refer positions parts.1)
 
-    -- ---- lists
+  pub cause_of_node_refers : (logs : List Log) (node : Node) → Refer count listed (cause_of_node logs node) [] []
+  unfolding cause_of_node
+  cause_of_node_refers logs node = cause_refers (cause_of (printed_by logs node))
 
-    cause_if_refers : (causes : Bool) (node : Node) → Refer count listed (cause_if logs causes node) [] []
-    unfolding cause_of_node
-    cause_if_refers true node = cause_refers (cause_of (printed_by logs node))
-    cause_if_refers false node = bare_refers [] refl
+-- ---- lists
 
-    article_row_refers : (position : ℕ) → is_among listed position ≡ true → Refer count listed (article_row logs nodes position) [] []
-    unfolding article_row row_parts
-    article_row_refers position among =
-        let node = node_at nodes position in
-        same_refer {others = MarkupPart (markup.OutputLink position) ∷ cause_if logs true node}
-        (simp (flat_map-append, append-nil, badge_bare node.status))
-        (then_refer (article_link_refers position among) (cause_if_refers true node))
+pub others_below : (nodes : List Node) → AreBelow (length nodes) (drop max_articles (root_failures nodes))
+others_below nodes = all_drop (λ number. nat_lt number (length nodes)) max_articles (root_failures nodes) (roots_are_below nodes)
 
-    target_row_refers : (causes : Bool) (position : ℕ) → nat_lt position count ≡ true
-        → Refer count listed (target_row logs nodes causes position) [] []
-    unfolding target_row row_parts
-    target_row_refers causes position below =
-        let node = node_at nodes position in
-        same_refer {others = MarkupPart (markup.TargetLink position) ∷ cause_if logs causes node}
-        (simp (flat_map-append, append-nil, badge_bare node.status))
-        (then_refer (link_refers position below) (cause_if_refers causes node))
+pub where_are_below : (holds : Node → Bool) (nodes : List Node) → AreBelow (length nodes) (positions_where holds 0 nodes)
+where_are_below holds nodes =
+    ap (λ count. list_all (λ number. nat_lt number count) (positions_where holds 0 nodes)) (omega arith) ∙ where_below holds 0 nodes
 
-    ordered_refers : Refer count listed (MarkupPart markup.Ordered ∷ []) [] []
-    ordered_refers =
-        record { target_ids_are = refl; article_ids_are = refl; target_links_lead = refl; article_links_lead = refl; sections_are = refl }
-
-    ordered_from_refers : (first : ℕ) → Refer count listed (MarkupPart (markup.OrderedFrom first) ∷ []) [] []
-    ordered_from_refers first =
-        record { target_ids_are = refl; article_ids_are = refl; target_links_lead = refl; article_links_lead = refl; sections_are = refl }
-
-    list_refers : (positions : List ℕ) → list_all (is_among listed) positions ≡ true
-        → Refer count listed (list_parts logs nodes positions) [] []
-    unfolding list_parts
-    list_refers positions among =
-        refer_if (nat_lt 1 (length positions))
-        (same_refer {others = MarkupPart markup.Ordered ∷ flat_map (article_row logs nodes) positions} (simp (flat_map-append, append-nil))
-        (then_refer {parts = MarkupPart markup.Ordered ∷ []} ordered_refers
-        (rows_refer (is_among listed) (article_row logs nodes) article_row_refers positions among)))
-
-    more_refers : (list : Markup) (causes : Bool) → Refer count listed (MarkupPart list ∷ []) [] [] → (heading positions : List ℕ)
-        → AreBelow count positions
-        → Refer count listed (more_parts logs nodes list causes heading positions) [] []
-    unfolding more_parts
-    more_refers list causes list_is heading positions below =
-        let rows = flat_map (target_row logs nodes causes) (take max_rows positions) in
-        refer_if (nat_lt 0 (length positions))
-        (same_refer {others = MarkupPart list ∷ rows}
-        (more_same rows (unlisted_parts (length positions)) (unlisted_bare (length positions)))
-        (then_refer {parts = MarkupPart list ∷ []} list_is
-        (rows_refer (λ number. nat_lt number count) (target_row logs nodes causes) (target_row_refers causes) (take max_rows positions)
-        (all_take (λ number. nat_lt number count) max_rows positions below))))
-      where
-        more_same : (rows unlisted : List Part) → Bare unlisted
-            → references (MarkupPart markup.MoreDetails ∷ MarkupPart markup.Summary ∷ NumberPart (length positions) ∷ TextPart heading
-            ∷ MarkupPart markup.EndSummary ∷ MarkupPart list
-            ∷ (rows ++ (MarkupPart markup.EndOrdered ∷ (unlisted ++ MarkupPart markup.EndDetails ∷ []))))
-            ≡ references (MarkupPart list ∷ rows)
-        more_same rows unlisted unlisted_is =
-            let ends : references (rows ++ (MarkupPart markup.EndOrdered ∷ (unlisted ++ MarkupPart markup.EndDetails ∷ [])))
-            ≡ references rows = simp (flat_map-append, append-nil, unlisted_is) in
-            ap (λ t. reference (MarkupPart list) ++ t) ends
-
-    section_same : (a b c d e : List Part)
-        → references (MarkupPart markup.FailedSection ∷ MarkupPart markup.FailedHeading ∷ TextPart WHAT_FAILED.now
-        ∷ MarkupPart markup.EndHeading ∷ (a ++ (b ++ (c ++ (d ++ (e ++ MarkupPart markup.EndSection ∷ []))))))
-        ≡ references (MarkupPart markup.FailedSection ∷ (a ++ (b ++ (c ++ (d ++ e)))))
-    section_same a b c d e = simp (flat_map-append, append-nil)
-
-    section_refers : (shown others dependents unclosed : List ℕ) → AreBelow count shown → list_all (is_among listed) shown ≡ true
-        → AreBelow count others → AreBelow count dependents → AreBelow count unclosed
-        → Refers count listed (section_parts logs nodes shown others dependents unclosed) [] (shown ++ [])
-        (MarkupPart markup.FailedSection ∷ [])
-    unfolding section_parts
-    section_refers shown others dependents unclosed shown_below among others_below dependents_below unclosed_below =
-        let articles_shown = flat_map (article_parts logs nodes) shown in
-        let more = more_parts logs nodes (markup.OrderedFrom (suc max_articles)) true MORE_FAILED.now others in
-        let with_these = more_parts logs nodes markup.Ordered false FAILED_WITH_THESE.now dependents in
-        let not_closed = more_parts logs nodes markup.Ordered false COUNT_NOT_CLOSED.now unclosed in
-        same_refer {others = MarkupPart markup.FailedSection
-        ∷ (list_parts logs nodes shown ++ (articles_shown ++ (more ++ (with_these ++ not_closed))))}
-        (section_same (list_parts logs nodes shown) articles_shown more with_these not_closed)
-        (then_refer {parts = MarkupPart markup.FailedSection ∷ []}
-        (record { target_ids_are = refl; article_ids_are = refl; target_links_lead = refl; article_links_lead = refl; sections_are = refl })
-        (then_refer (list_refers shown among)
-        (then_refer (articles_refer shown shown_below)
-        (then_refer (more_refers (markup.OrderedFrom (suc max_articles)) true (ordered_from_refers (suc max_articles)) MORE_FAILED.now
-        others others_below)
-        (then_refer (more_refers markup.Ordered false ordered_refers FAILED_WITH_THESE.now dependents dependents_below)
-        (more_refers markup.Ordered false ordered_refers COUNT_NOT_CLOSED.now unclosed unclosed_below))))))
-
--- The section, if a target failed.
-abbrev pub failed_section : List ℕ → List Part
-failed_section first = parts_if (nat_lt 0 (length first)) (MarkupPart markup.FailedSection ∷ [])
-
-pub failed_refers : (logs : List Log) (nodes : List Node)
-    → Refers (length nodes) (articles nodes) (failed_parts logs nodes) [] (articles nodes ++ []) (failed_section (root_failures nodes))
-unfolding failed_parts
-failed_refers logs nodes = by (root_failures nodes) (roots_are_below nodes)
-  where
-    below : (holds : Node → Bool) → AreBelow (length nodes) (positions_where holds 0 nodes)
-    below holds = ap (λ count. list_all (λ number. nat_lt number count) (positions_where holds 0 nodes)) (omega arith)
-        ∙ where_below holds 0 nodes
-
-    some : (condition : Bool) → condition ≡ true → {listed ids : List ℕ} {parts sections : List Part}
-        → Refers (length nodes) listed parts [] ids sections
-        → Refers (length nodes) listed (parts_if condition parts) [] ids (parts_if condition sections)
-    some condition is refer = rw is refer
-
-    by : (first : List ℕ) → AreBelow (length nodes) first
-        → Refers (length nodes) (take max_articles first)
-        (parts_if (nat_lt 0 (length first))
-        (section_parts logs nodes (take max_articles first) (drop max_articles first) (positions_where is_dependent_failure 0 nodes)
-        (positions_where is_unclosed 0 nodes))) [] (take max_articles first ++ []) (failed_section first)
-    by [] first_are = bare_refers [] refl
-    by (position ∷ positions) first_are =
-        let first = position ∷ positions in
-        some (nat_lt 0 (length (position ∷ positions))) (lt-ltb 0 (length (position ∷ positions)) (omega arith))
-        (section_refers (length nodes) (take max_articles first) logs nodes (take max_articles first) (drop max_articles first)
-        (positions_where is_dependent_failure 0 nodes) (positions_where is_unclosed 0 nodes)
-        (all_take (λ number. nat_lt number (length nodes)) max_articles first first_are) (among_after [] (take max_articles first))
-        (all_drop (λ number. nat_lt number (length nodes)) max_articles first first_are) (below is_dependent_failure) (below is_unclosed))
+-- Each number of a list is in it.
+pub all_among : (numbers : List ℕ) → list_all (is_among numbers) numbers ≡ true
+all_among numbers = among_after [] numbers

@@ -15,7 +15,7 @@ use Rattle.redo_html.specs.Style.{plain_style}
 use Rattle.redo_outline.specs.declared.node.Node.{Node}
 use Rattle.redo_page.specs.declared.labels.TheConstants.{PLACE_IN_TREE}
 use Rattle.redo_page.specs.Excerpt.{excerpt_parts, in_tree_parts}
-use Rattle.redo_page.specs.Failed.{article_of, article_parts, max_path, nothing_parts, output_parts, printed_by, whole_parts}
+use Rattle.redo_page.specs.Article.{article_of, article_parts, max_path, nothing_parts, output_parts, printed_by, whole_parts}
 use Rattle.redo_page.specs.Laws.{log_bytes, log_text}
 use Rattle.redo_page.specs.Tree.{is_short, node_at}
 use Rattle.redo_page.proofs.Ids.{badge_bare}

@@ -1,7 +1,7 @@
 -- The names of targets in the sections before the tree.
-use Rattle.std.proofs.Common.{◌≡◌, ℕ, suc, Bool, true, false, List, [], ◌∷◌, ◌++◌, Option, None, Some, refl, sym, ◌∙◌, ap, subst, inl, inr}
-use Rattle.std.specs.Prelude.{◌==◌, ◌||◌, ◌&&◌, drop, length, map, nat_lt, not, take, if◌then◌else◌}
-use Rattle.std.specs.List.{AllByRecursion, flat_map}
+use Rattle.std.proofs.Common.{◌≡◌, ℕ, Bool, true, false, List, [], ◌∷◌, ◌++◌, Option, None, Some, refl, sym, ◌∙◌, ap, subst, inl, inr}
+use Rattle.std.specs.Prelude.{◌==◌, ◌||◌, ◌&&◌, length, map, not, take, if◌then◌else◌}
+use Rattle.std.specs.List.{AllByRecursion, flat_map, list_all}
 use Rattle.std.proofs.lemmas.Bool.{and_parts}
 use Rattle.std.proofs.lemmas.List.{append_assoc}
 use Rattle.redo_logs.specs.Logs.{Log}
@@ -15,33 +15,39 @@ use Rattle.redo_html.specs.Style.{plain_style}
 use Rattle.redo_line.specs.Lines.{with_line_feed}
 use Rattle.redo_outline.specs.declared.node.Node.{Node}
 use Rattle.redo_outline.specs.Facts.{target_at}
-use Rattle.redo_page.specs.declared.labels.TheConstants.{COUNT_NOT_CLOSED, FAILED_WITH_THESE, IN_ITS_LOG, MORE_FAILED, MORE_LINE, MORE_LINES, PLACE_IN_TREE, WHAT_FAILED}
+use Rattle.redo_page.specs.declared.labels.TheConstants.{AND, COUNT_NOT_CLOSED, FAILED_WITH_THESE, IN_ITS_LOG, MORE_IN_TREE, MORE_FAILED, MORE_LINE, MORE_LINES, PLACE_IN_TREE, WHAT_FAILED}
+use Rattle.redo_page.specs.declared.failed.TheConstants.{DEPENDENTS, LIST, OTHERS, UNCLOSED}
 use Rattle.redo_page.specs.declared.scope.Count.{Count}
-use Rattle.redo_page.specs.declared.scope.Count.TheVariants.{Value}
+use Rattle.redo_page.specs.declared.scope.Count.TheVariants.{All, Unlisted, Value}
+use Rattle.redo_page.specs.declared.scope.Listed.{Listed}
+use Rattle.redo_page.specs.declared.scope.Listed.TheVariants as listed
 use Rattle.redo_page.specs.declared.scope.Measure.{Measure}
 use Rattle.redo_page.specs.declared.scope.Measure.TheVariants.{Duration}
 use Rattle.redo_page.specs.declared.scope.Rows.{Rows}
 use Rattle.redo_page.specs.declared.scope.Rows.TheVariants.{Longest, Warned}
-use Rattle.redo_page.specs.declared.template.Around.TheVariants.{If, Unless, Each, EachTarget}
+use Rattle.redo_page.specs.declared.scope.Test.{Test}
+use Rattle.redo_page.specs.declared.scope.Test.TheVariants.{HasAny, HasFailed, HasSeveral, HasUnlisted}
+use Rattle.redo_page.specs.declared.template.Around.TheVariants.{If, Unless, Each, EachTarget, EachOf}
 use Rattle.redo_page.specs.declared.template.Item.{Item}
 use Rattle.redo_page.specs.declared.template.Item.TheVariants as item
 use Rattle.redo_page.specs.declared.timeline.TheConstants.{START, END}
 use Rattle.redo_page.specs.Errors.{cause_of}
 use Rattle.redo_page.specs.Excerpt.{Stretch, error_position, excerpt_line_parts, excerpt_parts, in_tree_parts, is_kept, left_out_parts, stretch_parts, stretches_from}
 use Rattle.redo_page.specs.Excerpt.Stretch.{Shown, LeftOut}
-use Rattle.redo_page.specs.Failed.{article_of, article_parts, article_took, article_row, cause_if, cause_of_node, cause_parts, is_dependent_failure, failed_parts, is_unclosed, list_parts, max_path, max_rows, more_parts, nothing_parts, output_parts, path_parts, positions_where, printed_by, row_parts, section_parts, target_row, unlisted_parts, whole_parts}
+use Rattle.redo_page.specs.Article.{article_of, article_parts, article_took, cause_of_node, cause_parts, max_path, nothing_parts, output_parts, path_parts, printed_by, whole_parts}
+use Rattle.redo_page.specs.Failed.{failed_parts}
 use Rattle.redo_page.specs.Laws.{BeginWith, IsList, IsRow, TellsItsTarget, list_item, target_name}
-use Rattle.redo_page.specs.Scope.{View, count_of, holds, measure_words, row_name, row_view, rows_of, target_view}
-use Rattle.redo_page.specs.Targets.{badge_parts, linked_parts, name_parts, plural}
+use Rattle.redo_page.specs.Scope.{View, count_of, holds, max_rows, measure_words, positions_of, row_name, row_view, rows_of, target_view}
+use Rattle.redo_page.specs.Targets.{badge_parts, linked_parts, name_parts, parts_if, plural}
 use Rattle.redo_page.specs.Template.{Block, Template, block_parts, parts_of_item, parts_of_items, nothing, template_parts}
 use Rattle.redo_page.specs.Timeline.{facts_drawing, timeline_if, timeline_parts}
-use Rattle.redo_page.specs.Tree.{is_short, max_articles, node_at, root_failures}
+use Rattle.redo_page.specs.Tree.{is_short, node_at}
 use Rattle.redo_page.specs.Words.{word_part, words_parts}
 use Rattle.redo_page.proofs.FailedIds.{article_took_bare, path_bare}
 use Rattle.redo_page.proofs.Ids.{Bare, badge_bare, bare_each, is_reference, is_section, word_bare}
 use Rattle.redo_page.proofs.NameLemmas.{Tells, article_link_tells, bare_tell, calm_tell, is_calm, is_calm_tag, linked_tells, log_link_tells, none_tell, place_link_tells, target_link_tells, tell_each, tell_if, then_tell}
 use Rattle.redo_page.proofs.TemplateIds.{Place, began_bare, body_bare, is_row, none_refer, only_known, only_tag}
-use Rattle.redo_page.proofs.TemplateIds.Place.{Outside, InTargets, InRows}
+use Rattle.redo_page.proofs.TemplateIds.Place.{Outside, Failing, InTargets, InRows, InList}
 use Rattle.redo_summary.specs.declared.rank.Rank.{Rank}
 use Rattle.redo_summary.specs.Summary.{is_timed}
 use Rattle.redo_summary.specs.Window.{cut}
@@ -115,10 +121,9 @@ module _ (logs : List Log) (nodes : List Node) where
   cause_tells None = none_tell logs nodes
   cause_tells (Some line) = record { before = λ rest tell. (tt, (tt, (tt, (tt, tell)))) }
 
-  cause_if_tells : (causes : Bool) (node : Node) → Telling (cause_if logs causes node)
+  cause_of_node_tells : (node : Node) → Telling (cause_of_node logs node)
   unfolding cause_of_node
-  cause_if_tells true node = cause_tells (cause_of (printed_by logs node))
-  cause_if_tells false node = none_tell logs nodes
+  cause_of_node_tells node = cause_tells (cause_of (printed_by logs node))
 
   -- ---- articles
 
@@ -157,122 +162,127 @@ module _ (logs : List Log) (nodes : List Node) where
           ∷ MarkupPart markup.EndParagraph ∷ output))))))) ++ rest
       split name badge took path output rest = simp (append_assoc)
 
-  -- ---- lists
+-- ---- lists
 
-  unlisted_tells : (count : ℕ) → Telling (unlisted_parts count)
-  unfolding unlisted_parts
-  unlisted_tells count = tell_if logs nodes (nat_lt max_rows count) (bare_tell logs nodes _ refl)
+module _ (view : View) where
+  abbrev TellingOf : List Part → Type 0
+  TellingOf parts = Tells view.logs view.nodes parts
 
-  article_row_tells : (position : ℕ) → Telling (article_row logs nodes position)
-  unfolding article_row row_parts
-  article_row_tells position =
-      let node = node_at nodes position in
-      then_tell logs nodes {parts = MarkupPart markup.Item ∷ []} (bare_tell logs nodes _ refl)
-      (then_tell logs nodes
-      {parts = MarkupPart (markup.OutputLink position) ∷ (name_parts (target_name logs nodes position) ++ MarkupPart markup.EndLink ∷ [])}
-      (article_link_tells logs nodes position)
-      (then_tell logs nodes (bare_tell logs nodes (badge_parts node.status) (badge_bare node.status))
-      (then_tell logs nodes (cause_if_tells true node) (bare_tell logs nodes (MarkupPart markup.EndItem ∷ []) refl))))
+  calm : (parts : List Part) → list_all is_calm parts ≡ true → TellingOf parts
+  calm parts is = calm_tell view.logs view.nodes parts is
 
-  target_row_tells : (causes : Bool) (position : ℕ) → Telling (target_row logs nodes causes position)
-  unfolding target_row row_parts
-  target_row_tells causes position =
-      let node = node_at nodes position in
-      then_tell logs nodes {parts = MarkupPart markup.Item ∷ []} (bare_tell logs nodes _ refl)
-      (then_tell logs nodes
-      {parts = MarkupPart (markup.TargetLink position) ∷ (name_parts (target_name logs nodes position) ++ MarkupPart markup.EndLink ∷ [])}
-      (target_link_tells logs nodes position)
-      (then_tell logs nodes (bare_tell logs nodes (badge_parts node.status) (badge_bare node.status))
-      (then_tell logs nodes (cause_if_tells causes node) (bare_tell logs nodes (MarkupPart markup.EndItem ∷ []) refl))))
+  -- Each link tells its target.
+  abbrev LinksTell : (ℕ → Markup) → Type 0
+  LinksTell link = (position : ℕ)
+      → TellingOf (MarkupPart (link position) ∷ (name_parts (target_name view.logs view.nodes position) ++ MarkupPart markup.EndLink ∷ []))
+
+  item_tells_target : (link : ℕ → Markup) (causes : Bool) → LinksTell link → (position : ℕ)
+      → TellingOf (list_item view.logs view.nodes link causes position)
+  item_tells_target link causes tells position =
+      let node = node_at view.nodes position in
+      then_tell view.logs view.nodes {parts = MarkupPart markup.Item ∷ []} (calm _ refl)
+      (then_tell view.logs view.nodes
+      {parts = MarkupPart (link position) ∷ (name_parts (target_name view.logs view.nodes position) ++ MarkupPart markup.EndLink ∷ [])}
+      (tells position)
+      (then_tell view.logs view.nodes (bare_tell view.logs view.nodes (badge_parts node.status) (badge_bare node.status))
+      (then_tell view.logs view.nodes
+      (tell_if view.logs view.nodes causes (cause_tells view.logs view.nodes (cause_of (printed_by view.logs node))))
+      (calm (MarkupPart markup.EndItem ∷ []) refl))))
+
+  rows_split : (rows others rest : List Part)
+      → (rows ++ MarkupPart markup.EndOrdered ∷ []) ++ (others ++ rest) ≡ (rows ++ (MarkupPart markup.EndOrdered ∷ others)) ++ rest
+  rows_split rows others rest = simp (append_assoc)
 
   -- A list of targets, and what follows it.
-  module _ (link : ℕ → Markup) (causes : Bool) (row : ℕ → List Part)
-      (same : (position : ℕ) → list_item logs nodes link causes position ≡ row position)
-      (tells : (position : ℕ) → Telling (row position)) where
-    rows_same : (positions : List ℕ) → flat_map (list_item logs nodes link causes) positions ≡ flat_map row positions
-    rows_same [] = refl
-    rows_same (position ∷ positions) =
-        ap (λ (t : List Part). t ++ flat_map (list_item logs nodes link causes) positions) (same position)
-        ∙ ap (λ (t : List Part). row position ++ t) (rows_same positions)
+  list_then : (link : ℕ → Markup) (causes : Bool) → LinksTell link → (list : Markup)
+      → ((after : List Part) → IsList view.logs view.nodes link after → TellsItsTarget view.logs view.nodes list after)
+      → (positions : List ℕ) (others : List Part) → TellingOf others
+      → TellingOf (MarkupPart list
+      ∷ (flat_map (list_item view.logs view.nodes link causes) positions ++ (MarkupPart markup.EndOrdered ∷ others)))
+  list_then link causes tells list says positions others more =
+      let rows = flat_map (list_item view.logs view.nodes link causes) positions in
+      let all = then_tell view.logs view.nodes
+      (tell_each view.logs view.nodes (list_item view.logs view.nodes link causes) (item_tells_target link causes tells) positions)
+      (then_tell view.logs view.nodes {parts = MarkupPart markup.EndOrdered ∷ []} (calm _ refl) more) in
+      record {
+        before = λ rest tell. (
+          says ((rows ++ (MarkupPart markup.EndOrdered ∷ others)) ++ rest)
+              (causes, positions, (others ++ rest, rows_split rows others rest)),
+          all.before rest tell,
+        );
+      }
 
-    rows_split : (rows others rest : List Part)
-        → (rows ++ MarkupPart markup.EndOrdered ∷ []) ++ (others ++ rest) ≡ (rows ++ (MarkupPart markup.EndOrdered ∷ others)) ++ rest
-    rows_split rows others rest = simp (append_assoc)
+  abbrev in_list : Block (Block (Unit {0})) → List Part
+  in_list list = block_parts (block_parts nothing) list view
 
-    list_then : (list : Markup) → ((after : List Part) → IsList logs nodes link after → TellsItsTarget logs nodes list after)
-        → (positions : List ℕ) (others : List Part) → Telling others
-        → Telling (MarkupPart list ∷ (flat_map row positions ++ (MarkupPart markup.EndOrdered ∷ others)))
-    list_then list says positions others more =
-        let all = then_tell logs nodes (tell_each logs nodes row tells positions)
-        (then_tell logs nodes {parts = MarkupPart markup.EndOrdered ∷ []} (bare_tell logs nodes _ refl) more) in
-        record {
-          before = λ rest tell. (
-            says ((flat_map row positions ++ (MarkupPart markup.EndOrdered ∷ others)) ++ rest) (
-              causes,
-              positions,
-              (
-                others ++ rest,
-                ap (λ (t : List Part). (t ++ MarkupPart markup.EndOrdered ∷ []) ++ (others ++ rest)) (rows_same positions)
-                    ∙ rows_split (flat_map row positions) others rest,
-              ),
-            ),
-            all.before rest tell,
-          );
-        }
+  abbrev listed_of : Listed → List ℕ
+  listed_of these = take max_rows (positions_of view these)
 
-  article_row_same : (position : ℕ)
-      → list_item logs nodes (λ position. markup.OutputLink position) true position ≡ article_row logs nodes position
-  unfolding article_row row_parts cause_of_node
-  article_row_same position = refl
+  list_tells : TellingOf (in_list LIST)
+  unfolding cause_of_node
+  list_tells =
+      list_then (λ position. markup.OutputLink position) true (article_link_tells view.logs view.nodes) markup.Ordered (λ after is. inl is)
+      (listed_of listed.Articles) [] (none_tell view.logs view.nodes)
 
-  target_row_same : (causes : Bool) (position : ℕ)
-      → list_item logs nodes (λ position. markup.TargetLink position) causes position ≡ target_row logs nodes causes position
-  unfolding target_row row_parts cause_of_node
-  target_row_same true position = refl
-  target_row_same false position = refl
+  -- How many targets aren't listed, and what ends more targets.
+  abbrev unlisted : Listed → List Part
+  unlisted these =
+      MarkupPart markup.QuietParagraph ∷ TextPart AND.now ∷ NumberPart (count_of view (Unlisted these)) ∷ TextPart MORE_IN_TREE.now
+      ∷ MarkupPart markup.EndParagraph ∷ []
 
-  list_tells : (positions : List ℕ) → Telling (list_parts logs nodes positions)
-  unfolding list_parts
-  list_tells positions =
-      tell_if logs nodes (nat_lt 1 (length positions))
-      (list_then (λ position. markup.OutputLink position) true (article_row logs nodes) article_row_same article_row_tells markup.Ordered
-      (λ after is. inl is) positions [] (none_tell logs nodes))
+  abbrev more_end : Listed → List Part
+  more_end these = parts_if (holds view (HasUnlisted these)) (unlisted these) ++ MarkupPart markup.EndDetails ∷ []
 
-  abbrev IsOfLinks : Markup → Type 0
-  IsOfLinks list = (after : List Part) → IsList logs nodes (λ position. markup.TargetLink position) after
-      → TellsItsTarget logs nodes list after
+  more_end_tells : (these : Listed) → TellingOf (more_end these)
+  more_end_tells these =
+      then_tell view.logs view.nodes {parts = parts_if (holds view (HasUnlisted these)) (unlisted these)}
+      (tell_if view.logs view.nodes (holds view (HasUnlisted these)) (calm (unlisted these) refl))
+      (calm (MarkupPart markup.EndDetails ∷ []) refl)
 
-  more_tells : (list : Markup) (causes : Bool) → IsOfLinks list → (heading positions : List ℕ)
-      → Telling (more_parts logs nodes list causes heading positions)
-  unfolding more_parts
-  more_tells list causes says heading positions =
-      tell_if logs nodes (nat_lt 0 (length positions))
-      (then_tell logs nodes
-      {parts = MarkupPart markup.MoreDetails ∷ MarkupPart markup.Summary ∷ NumberPart (length positions) ∷ TextPart heading
-      ∷ MarkupPart markup.EndSummary ∷ []} (bare_tell logs nodes _ refl)
-      (list_then (λ position. markup.TargetLink position) causes (target_row logs nodes causes) (target_row_same causes)
-      (target_row_tells causes) list says (take max_rows positions) (unlisted_parts (length positions) ++ MarkupPart markup.EndDetails ∷ [])
-      (then_tell logs nodes (unlisted_tells (length positions)) (bare_tell logs nodes (MarkupPart markup.EndDetails ∷ []) refl))))
+  more_tell : (list : Markup) (causes : Bool)
+      → ((after : List Part) → IsList view.logs view.nodes (λ position. markup.TargetLink position) after
+      → TellsItsTarget view.logs view.nodes list after)
+      → (these : Listed) (heading : List ℕ)
+      → TellingOf (MarkupPart markup.MoreDetails ∷ MarkupPart markup.Summary ∷ NumberPart (count_of view (All these)) ∷ TextPart heading
+      ∷ MarkupPart markup.EndSummary ∷ MarkupPart list
+      ∷ (flat_map (list_item view.logs view.nodes (λ position. markup.TargetLink position) causes) (listed_of these)
+      ++ (MarkupPart markup.EndOrdered ∷ more_end these)))
+  more_tell list causes says these heading =
+      then_tell view.logs view.nodes
+      {parts = MarkupPart markup.MoreDetails ∷ MarkupPart markup.Summary ∷ NumberPart (count_of view (All these)) ∷ TextPart heading
+      ∷ MarkupPart markup.EndSummary ∷ []} (calm _ refl)
+      (list_then (λ position. markup.TargetLink position) causes (target_link_tells view.logs view.nodes) list says (listed_of these)
+      (more_end these) (more_end_tells these))
 
-  section_tells : (shown others dependents unclosed : List ℕ) → Telling (section_parts logs nodes shown others dependents unclosed)
-  unfolding section_parts
-  section_tells shown others dependents unclosed =
-      then_tell logs nodes
-      {parts = MarkupPart markup.FailedSection ∷ MarkupPart markup.FailedHeading ∷ TextPart WHAT_FAILED.now ∷ MarkupPart markup.EndHeading
-      ∷ []} (calm_tell logs nodes _ refl)
-      (then_tell logs nodes (list_tells shown)
-      (then_tell logs nodes (tell_each logs nodes (article_parts logs nodes) article_tells shown)
-      (then_tell logs nodes (more_tells (markup.OrderedFrom (suc max_articles)) true (λ after is. is) MORE_FAILED.now others)
-      (then_tell logs nodes (more_tells markup.Ordered false (λ after is. inr is) FAILED_WITH_THESE.now dependents)
-      (then_tell logs nodes (more_tells markup.Ordered false (λ after is. inr is) COUNT_NOT_CLOSED.now unclosed)
-      (bare_tell logs nodes (MarkupPart markup.EndSection ∷ []) refl))))))
+  others_tell : TellingOf (in_list OTHERS)
+  unfolding cause_of_node
+  others_tell = more_tell (markup.OrderedFrom 11) true (λ after is. is) listed.Others MORE_FAILED.now
 
-  pub failed_tells : Telling (failed_parts logs nodes)
+  dependents_tell : TellingOf (in_list DEPENDENTS)
+  dependents_tell = more_tell markup.Ordered false (λ after is. inr is) listed.Dependents FAILED_WITH_THESE.now
+
+  unclosed_tell : TellingOf (in_list UNCLOSED)
+  unclosed_tell = more_tell markup.Ordered false (λ after is. inr is) listed.Unclosed COUNT_NOT_CLOSED.now
+
+  pub failed_tells : TellingOf (failed_parts view)
   unfolding failed_parts
   failed_tells =
-      tell_if logs nodes (nat_lt 0 (length (root_failures nodes)))
-      (section_tells (take max_articles (root_failures nodes)) (drop max_articles (root_failures nodes))
-      (positions_where is_dependent_failure 0 nodes) (positions_where is_unclosed 0 nodes))
+      let some = λ (test : Test) (parts : List Part) (tells : TellingOf parts).
+      tell_if view.logs view.nodes (holds view test) {parts = parts} tells in
+      then_tell view.logs view.nodes
+      (tell_if view.logs view.nodes (holds view HasFailed)
+      (then_tell view.logs view.nodes
+      {parts = MarkupPart markup.FailedSection ∷ MarkupPart markup.FailedHeading ∷ TextPart WHAT_FAILED.now ∷ MarkupPart markup.EndHeading
+      ∷ []} (calm _ refl)
+      (then_tell view.logs view.nodes (some (HasSeveral listed.Articles) (in_list LIST) list_tells)
+      (then_tell view.logs view.nodes
+      (tell_each view.logs view.nodes (article_parts view.logs view.nodes) (article_tells view.logs view.nodes)
+      (positions_of view listed.Articles))
+      (then_tell view.logs view.nodes (some (HasAny listed.Others) (in_list OTHERS) others_tell)
+      (then_tell view.logs view.nodes (some (HasAny listed.Dependents) (in_list DEPENDENTS) dependents_tell)
+      (then_tell view.logs view.nodes (some (HasAny listed.Unclosed) (in_list UNCLOSED) unclosed_tell)
+      (calm (MarkupPart markup.EndSection ∷ []) refl))))))))
+      (none_tell view.logs view.nodes)
 
 -- ---- templates
 
@@ -291,6 +301,8 @@ HasValues view = (rows : Rows) → AllByRecursion (IsRank view rows) (rows_of vi
 abbrev IsNamedRow : Place → View → Type 0
 IsNamedRow (InRows rows) view =
     (node_at view.nodes view.rank.position ≡ view.node) × IsValueOf rows (node_at view.nodes view.rank.position) view.rank.value
+IsNamedRow Failing view = ⊥
+IsNamedRow (InList these) view = ⊥
 IsNamedRow place view = Unit {0}
 
 -- ---- the items of rows
@@ -373,17 +385,20 @@ pub record TellsOfViews {B : Type 0} (parts : B → View → List Part) (only : 
       → Tells view.logs view.nodes (parts block view)
 
 -- A tag outside of loops is a link or an id of a section, or none.
-tag_calm : (place : Place) (tag : Markup) → only_tag place tag ≡ true → is_row tag ≡ false → is_calm_tag tag ≡ true
-tag_calm place tag is plain = by tag (outside place is)
+tag_calm : (place : Place) (view : View) → IsNamedRow place view → (tag : Markup) → only_tag place tag ≡ true → is_row tag ≡ false
+    → is_calm_tag tag ≡ true
+tag_calm place view row tag is plain = by tag (outside place row is)
   where
     no_row : (reference : Bool) → (not reference || is_row tag) ≡ true → not reference ≡ true
     no_row false is = refl
     no_row true is = absurd (cc)
 
-    outside : (place : Place) → only_tag place tag ≡ true → only_tag Outside tag ≡ true
-    outside Outside is = is
-    outside InTargets is = ap (λ b. b || is_section tag) is
-    outside (InRows rows) is = ap (λ b. b || is_section tag) (no_row (is_reference tag) is)
+    outside : (place : Place) → IsNamedRow place view → only_tag place tag ≡ true → only_tag Outside tag ≡ true
+    outside Outside row is = is
+    outside InTargets row is = ap (λ b. b || is_section tag) is
+    outside Failing row is = absurd row
+    outside (InList these) row is = absurd row
+    outside (InRows rows) row is = ap (λ b. b || is_section tag) (no_row (is_reference tag) is)
 
     by : (tag : Markup) → only_tag Outside tag ≡ true → is_calm_tag tag ≡ true
     by (markup.TargetLink number) is = absurd (cc)
@@ -569,7 +584,7 @@ module _ {B : Type 0} (inner : B → View → List Part) (only : Place → B →
 
   item_tells : {T : Type 0} (text_of : T → List ℕ) (place : Place) (item : Item T B) → only_known only place item ≡ true
       → is_heading item ≡ false → IsNamedRow place view → Here (parts_of_item text_of inner view item)
-  item_tells text_of place (item.Tag tag) is plain row = tag_tells view.logs view.nodes tag (tag_calm place tag is plain)
+  item_tells text_of place (item.Tag tag) is plain row = tag_tells view.logs view.nodes tag (tag_calm place view row tag is plain)
   item_tells text_of place item.Body is plain row = bare _ (body_bare view.verdict)
   item_tells text_of place item.TabTitle is plain row = bare _ refl
   item_tells text_of place item.StyleSheet is plain row = bare _ refl
@@ -586,6 +601,17 @@ module _ {B : Type 0} (inner : B → View → List Part) (only : Place → B →
       (ap (λ (node : Node). target_at view.logs node.number) row.0)
   item_tells text_of Outside item.Link is plain row = absurd (cc)
   item_tells text_of InTargets item.Link is plain row = absurd (cc)
+  item_tells text_of Failing item.Link is plain row = absurd row
+  item_tells text_of (InList these) item.Link is plain row = absurd row
+  item_tells text_of Outside item.ArticleLink is plain row = absurd (cc)
+  item_tells text_of Failing item.ArticleLink is plain row = absurd row
+  item_tells text_of InTargets item.ArticleLink is plain row = absurd (cc)
+  item_tells text_of (InRows rows) item.ArticleLink is plain row = absurd (cc)
+  item_tells text_of (InList these) item.ArticleLink is plain row = absurd row
+  item_tells text_of place item.Cause is plain row = cause_of_node_tells view.logs view.nodes view.node
+  item_tells text_of place item.Articles is plain row =
+      tell_each view.logs view.nodes (article_parts view.logs view.nodes) (article_tells view.logs view.nodes)
+      (positions_of view listed.Articles)
   item_tells text_of place item.Badge is plain row = bare _ (badge_bare view.node.status)
   item_tells text_of place item.Meter is plain row = bare _ refl
   item_tells text_of place (item.In (If test) block) is plain row =
@@ -595,6 +621,11 @@ module _ {B : Type 0} (inner : B → View → List Part) (only : Place → B →
   item_tells text_of place (item.In (Each rows) block) is plain row =
       ranks_tell rows block is (rows_of view rows) (rows_of view rows) (values rows)
   item_tells text_of place (item.In EachTarget block) is plain row = targets_tell block is view.nodes
+  item_tells text_of Outside (item.In (EachOf these) block) is plain row = absurd (cc)
+  item_tells text_of Failing (item.In (EachOf these) block) is plain row = absurd row
+  item_tells text_of InTargets (item.In (EachOf these) block) is plain row = absurd (cc)
+  item_tells text_of (InRows rows) (item.In (EachOf these) block) is plain row = absurd (cc)
+  item_tells text_of (InList these) (item.In (EachOf named) block) is plain row = absurd row
 
   items_tell : {T : Type 0} (text_of : T → List ℕ) (place : Place) (items : List (Item T B))
       → only_rows only place items ≡ true → IsNamedRow place view → Here (parts_of_items text_of inner view items)
@@ -609,6 +640,8 @@ module _ {B : Type 0} (inner : B → View → List Part) (only : Place → B →
           → IsRow view.logs view.nodes (parts_of_items text_of inner view items ++ rest)
       here (InRows rows) is row rest = row_shown text_of inner view rows items is row rest
       here Outside is row rest = absurd (cc)
+      here Failing is row rest = absurd row
+      here (InList these) is row rest = absurd row
       here InTargets is row rest = absurd (cc)
 
       by : (heading : Bool) → is_heading item ≡ heading → only_known only place item ≡ true

@@ -1,14 +1,15 @@
 -- Rows of the section of targets that failed, as HTML.
-use Rattle.std.proofs.Common.{◌≡◌, ℕ, Bool, true, false, List, [], ◌∷◌, ◌++◌, Option, None, Some, ℤ, pos, length, replicate, refl}
+use Rattle.std.proofs.Common.{◌≡◌, ℕ, ◌+◌, Bool, true, false, List, [], ◌∷◌, ◌++◌, Option, None, Some, ℤ, pos, length, replicate, refl}
 use Rattle.std.specs.Char.{encode_utf8}
-use Rattle.std.specs.Prelude.{bytes_eq, codes, take}
+use Rattle.std.specs.Prelude.{◌==◌, bytes_eq, codes, drop, take}
 use Rattle.std.specs.Fmt.{digits}
-use Rattle.std.specs.List.{flat_map, range_with_len}
+use Rattle.std.specs.List.{flat_map, list_all, range_with_len}
 use Rattle.redo_line.specs.declared.entry.Entry.{Entry}
 use Rattle.redo_line.specs.declared.entry.Entry.TheVariants.{Text, Mention, Closing}
 use Rattle.redo_line.specs.declared.entry.How.TheVariants.{Made}
 use Rattle.redo_logs.specs.declared.log_state.LogState.TheVariants.{Ended}
 use Rattle.redo_logs.specs.Logs.{Log}
+use Rattle.redo_html.specs.Cut.{begins_at}
 use Rattle.redo_html.specs.declared.markup.Markup.TheVariants as markup
 use Rattle.redo_html.specs.Passage.{html_from}
 use Rattle.redo_html.specs.Parts.{Part, part_html}
@@ -20,8 +21,14 @@ use Rattle.redo_page.specs.Errors.{begins_with}
 use Rattle.redo_page.specs.Excerpt.{cut_to, excerpt_line_end, excerpt_line_parts, excerpt_parts, in_tree_parts, left_out_parts}
 use Rattle.redo_page.specs.declared.failed.Failures.{Failures}
 use Rattle.redo_page.specs.declared.labels.TheConstants.{MORE_ABOVE, PATH_SEPARATOR}
-use Rattle.redo_page.specs.Failed.{AreFailures, article_of, article_parts, article_row, article_took, cause_of_node, cause_parts, is_dependent_failure, failed_parts, is_unclosed, list_parts, more_parts, nothing_parts, output_parts, path_parts, positions_where, row_parts, section_parts, target_row, unlisted_parts, whole_parts}
+use Rattle.redo_page.specs.Article.{article_of, article_parts, article_took, cause_of_node, cause_parts, nothing_parts, output_parts, path_parts, whole_parts}
+use Rattle.redo_page.specs.Private.PageTexts.{AreFailures}
+use Rattle.redo_page.specs.Failed.{is_dependent_failure, failed_parts, is_unclosed, positions_where}
+use Rattle.redo_page.specs.declared.failed.TheConstants.{DEPENDENTS, OTHERS, UNCLOSED}
 use Rattle.redo_page.specs.Laws.{target_links}
+use Rattle.redo_page.specs.Page.{build_view}
+use Rattle.redo_page.specs.Scope.{View}
+use Rattle.redo_page.specs.Template.{Block, block_parts, nothing}
 use Rattle.redo_units.specs.Durations.{duration_words}
 use Rattle.redo_page.specs.Tree.{no_node}
 
@@ -63,71 +70,92 @@ c = node 2 (Some 0) (Some (pos 2)) 0 0 false
 abbrev html : List Part → List ℕ
 html parts = flat_map part_html parts
 
+-- What a page without times says of some targets.
+abbrev view : List Log → List Node → View
+view some nodes = build_view [] [] [] some nodes
+    (record {
+      window = None;
+      took = 0;
+      callers = [];
+      recipes = [];
+      marks = [];
+      sum = 0;
+      most = 0;
+      warnings = 0;
+      bytes = 0;
+      longest = [];
+      warned = [];
+    })
+
+abbrev failed : List Log → List Node → List Part
+failed some nodes = failed_parts (view some nodes)
+
+-- A list of the section.
+abbrev in_list : Block (Block (Unit {0})) → View → List Part
+in_list list view = block_parts (block_parts nothing) list view
+
 -- ` › ` in UTF-8.
 abbrev then : List ℕ → List ℕ
 then text = 0x20 ∷ 0xE2 ∷ 0x80 ∷ 0xBA ∷ 0x20 ∷ text
 
 -- ---- no failure, and one
 
-no_failure : failed_parts logs (node 0 None (Some (pos 0)) 0 1 false ∷ node 1 (Some 0) None 2 0 false ∷ []) ≡ []
+no_failure : failed logs (node 0 None (Some (pos 0)) 0 1 false ∷ node 1 (Some 0) None 2 0 false ∷ []) ≡ []
 unfolding failed_parts
 no_failure = refl
 
 -- A target that isn't closed makes no section.
-no_section : take 1 (failed_parts logs (node 0 None (Some (pos 0)) 0 1 false ∷ node 1 (Some 0) None 2 0 false ∷ [])) ≡ []
-unfolding failed_parts section_parts
+no_section : take 1 (failed logs (node 0 None (Some (pos 0)) 0 1 false ∷ node 1 (Some 0) None 2 0 false ∷ [])) ≡ []
+unfolding failed_parts
 no_section = refl
 
 one_failure :
-    bytes_eq (html (failed_parts logs (node 0 None (Some (pos 3)) 0 1 true ∷ b ∷ [])))
+    bytes_eq (html (failed logs (node 0 None (Some (pos 3)) 0 1 true ∷ b ∷ [])))
     (codes "<section id=\"failed\" aria-labelledby=\"h-failed\"><h2 id=\"h-failed\">What failed</h2><article id=\"f1\"><h3><bdi>b</bdi> <strong class=\"x\">exit 1</strong></h3><p class=\"meta\"><bdi>all</bdi>"
     ++ then (codes "<a href=\"#t1\">its place in the tree</a></p><pre>\ncc b.c\nb.c:1: error: x\n</pre></article><details class=\"more\"><summary>1 failed because of these</summary><ol class=\"list\"><li><a href=\"#t0\"><bdi>all</bdi></a> <strong class=\"x\">exit 3</strong></li></ol></details></section>"))
     ≡ true
-unfolding failed_parts section_parts list_parts more_parts target_row row_parts unlisted_parts cause_of_node cause_parts cut_to begins_with article_parts article_of path_parts output_parts whole_parts in_tree_parts symbols_after first_symbol symbol_len is_sequence sequence_len sequence_numbers first_code_point code_point_len is_unprintable notation unprintable_text number_text encode_utf8 digits html_from
+unfolding failed_parts cause_of_node cause_parts cut_to begins_with article_parts article_of path_parts output_parts whole_parts in_tree_parts symbols_after first_symbol symbol_len is_sequence sequence_len sequence_numbers first_code_point code_point_len is_unprintable notation unprintable_text number_text encode_utf8 digits html_from
 one_failure = refl
 
 -- Below the article, there is a list of those above, and then one of those that aren't closed.
 one_unclosed :
-    bytes_eq (html (failed_parts logs (node 0 None (Some (pos 3)) 0 2 true ∷ b ∷ node 3 (Some 0) None 2 0 false ∷ [])))
+    bytes_eq (html (failed logs (node 0 None (Some (pos 3)) 0 2 true ∷ b ∷ node 3 (Some 0) None 2 0 false ∷ [])))
     (codes "<section id=\"failed\" aria-labelledby=\"h-failed\"><h2 id=\"h-failed\">What failed</h2><article id=\"f1\"><h3><bdi>b</bdi> <strong class=\"x\">exit 1</strong></h3><p class=\"meta\"><bdi>all</bdi>"
     ++ then (codes "<a href=\"#t1\">its place in the tree</a></p><pre>\ncc b.c\nb.c:1: error: x\n</pre></article><details class=\"more\"><summary>1 failed because of these</summary><ol class=\"list\"><li><a href=\"#t0\"><bdi>all</bdi></a> <strong class=\"x\">exit 3</strong></li></ol></details><details class=\"more\"><summary>1 unfinished</summary><ol class=\"list\"><li><a href=\"#t2\"><bdi>d</bdi></a> <strong class=\"o\">unfinished</strong></li></ol></details></section>"))
     ≡ true
-unfolding failed_parts section_parts list_parts more_parts article_row target_row row_parts unlisted_parts cause_of_node cause_parts cut_to begins_with article_parts article_of path_parts output_parts whole_parts in_tree_parts symbols_after first_symbol symbol_len is_sequence sequence_len sequence_numbers first_code_point code_point_len is_unprintable notation unprintable_text number_text encode_utf8 digits html_from
+unfolding failed_parts cause_of_node cause_parts cut_to begins_with article_parts article_of path_parts output_parts whole_parts in_tree_parts symbols_after first_symbol symbol_len is_sequence sequence_len sequence_numbers first_code_point code_point_len is_unprintable notation unprintable_text number_text encode_utf8 digits html_from
 one_unclosed = refl
 
 -- ---- lists
 
+-- After the heading, the list of those with articles has 32 parts.
 two_failures :
-    bytes_eq (html (list_parts logs (node 0 None None 0 2 true ∷ b ∷ c ∷ []) (1 ∷ 2 ∷ [])))
+    bytes_eq (html (take 32 (drop 4 (failed logs (node 0 None None 0 2 true ∷ b ∷ c ∷ [])))))
     (codes "<ol class=\"list\"><li><a href=\"#f1\"><bdi>b</bdi></a> <strong class=\"x\">exit 1</strong> <code>b.c:1: error: x</code></li><li><a href=\"#f2\"><bdi>c</bdi></a> <strong class=\"x\">exit 2</strong></li></ol>")
     ≡ true
-unfolding list_parts article_row row_parts cause_of_node cause_parts cut_to begins_with symbols_after first_symbol symbol_len is_sequence sequence_len sequence_numbers first_code_point code_point_len is_unprintable notation unprintable_text number_text encode_utf8 digits html_from
+unfolding failed_parts cause_of_node cause_parts cut_to begins_with symbols_after first_symbol symbol_len is_sequence sequence_len sequence_numbers first_code_point code_point_len is_unprintable notation unprintable_text number_text encode_utf8 digits html_from
 two_failures = refl
 
-one_is_no_list : html (list_parts logs (b ∷ []) (0 ∷ [])) ≡ []
-unfolding list_parts article_row row_parts cause_of_node cause_parts cut_to begins_with symbols_after first_symbol symbol_len is_sequence sequence_len sequence_numbers first_code_point code_point_len is_unprintable notation unprintable_text number_text encode_utf8 digits html_from
-one_is_no_list = refl
-
 more_with_causes :
-    bytes_eq (html (more_parts logs (b ∷ []) (markup.OrderedFrom 11) true (codes " more") (0 ∷ [])))
-    (codes "<details class=\"more\"><summary>1 more</summary><ol class=\"list\" start=\"11\"><li><a href=\"#t0\"><bdi>b</bdi></a> <strong class=\"x\">exit 1</strong> <code>b.c:1: error: x</code></li></ol></details>")
+    bytes_eq (html (in_list OTHERS (record (view logs (b ∷ [])) { roots = replicate 11 0 })))
+    (codes "<details class=\"more\"><summary>1 more that failed</summary><ol class=\"list\" start=\"11\"><li><a href=\"#t0\"><bdi>b</bdi></a> <strong class=\"x\">exit 1</strong> <code>b.c:1: error: x</code></li></ol></details>")
     ≡ true
-unfolding more_parts target_row row_parts unlisted_parts cause_of_node cause_parts cut_to begins_with symbols_after first_symbol symbol_len is_sequence sequence_len sequence_numbers first_code_point code_point_len is_unprintable notation unprintable_text number_text encode_utf8 digits html_from
+unfolding cause_of_node cause_parts cut_to begins_with symbols_after first_symbol symbol_len is_sequence sequence_len sequence_numbers first_code_point code_point_len is_unprintable notation unprintable_text number_text encode_utf8 digits html_from
 more_with_causes = refl
 
 more_without_causes :
-    bytes_eq (html (more_parts logs (b ∷ []) markup.Ordered false (codes " more") (0 ∷ [])))
-    (codes "<details class=\"more\"><summary>1 more</summary><ol class=\"list\"><li><a href=\"#t0\"><bdi>b</bdi></a> <strong class=\"x\">exit 1</strong></li></ol></details>")
+    bytes_eq (html (in_list DEPENDENTS (record (view logs (b ∷ [])) { dependents = 0 ∷ [] })))
+    (codes "<details class=\"more\"><summary>1 failed because of these</summary><ol class=\"list\"><li><a href=\"#t0\"><bdi>b</bdi></a> <strong class=\"x\">exit 1</strong></li></ol></details>")
     ≡ true
-unfolding more_parts target_row row_parts unlisted_parts cause_of_node cause_parts cut_to begins_with symbols_after first_symbol symbol_len is_sequence sequence_len sequence_numbers first_code_point code_point_len is_unprintable notation unprintable_text number_text encode_utf8 digits html_from
+unfolding cause_of_node cause_parts cut_to begins_with symbols_after first_symbol symbol_len is_sequence sequence_len sequence_numbers first_code_point code_point_len is_unprintable notation unprintable_text number_text encode_utf8 digits html_from
 more_without_causes = refl
 
 -- Each row has the link, the name and the status of its own target.
 more_than_one :
-    bytes_eq (html (more_parts logs (node 0 None None 0 2 true ∷ b ∷ c ∷ []) markup.Ordered false (codes " more") (1 ∷ 2 ∷ [])))
-    (codes "<details class=\"more\"><summary>2 more</summary><ol class=\"list\"><li><a href=\"#t1\"><bdi>b</bdi></a> <strong class=\"x\">exit 1</strong></li><li><a href=\"#t2\"><bdi>c</bdi></a> <strong class=\"x\">exit 2</strong></li></ol></details>")
+    bytes_eq (html (in_list UNCLOSED (record (view logs (node 0 None None 0 2 true ∷ b ∷ c ∷ [])) { unclosed = 1 ∷ 2 ∷ [] })))
+    (codes "<details class=\"more\"><summary>2 unfinished</summary><ol class=\"list\"><li><a href=\"#t1\"><bdi>b</bdi></a> <strong class=\"x\">exit 1</strong></li><li><a href=\"#t2\"><bdi>c</bdi></a> <strong class=\"x\">exit 2</strong></li></ol></details>")
     ≡ true
-unfolding more_parts target_row row_parts unlisted_parts cause_of_node cause_parts cut_to begins_with symbols_after first_symbol symbol_len is_sequence sequence_len sequence_numbers first_code_point code_point_len is_unprintable notation unprintable_text number_text encode_utf8 digits html_from
+unfolding cause_of_node cause_parts cut_to begins_with symbols_after first_symbol symbol_len is_sequence sequence_len sequence_numbers first_code_point code_point_len is_unprintable notation unprintable_text number_text encode_utf8 digits html_from
 more_than_one = refl
 
 -- The starts of articles and of lists, and the links to articles.
@@ -152,18 +180,18 @@ abbrev cs : ℕ → List Node
 cs count = replicate count c
 
 eleven_failures :
-    bytes_eq (marks (failed_parts logs (cs 11)))
+    bytes_eq (marks (failed logs (cs 11)))
     (codes "<ol class=\"list\">" ++ (outputs (range_with_len 0 10)
     ++ (articles (range_with_len 0 10) ++ codes "<details class=\"more\"><ol class=\"list\" start=\"11\">")))
     ≡ true
-unfolding failed_parts section_parts list_parts more_parts article_row target_row row_parts unlisted_parts article_parts article_of path_parts output_parts nothing_parts in_tree_parts cause_of_node cause_parts number_text digits
+unfolding failed_parts article_parts article_of path_parts output_parts nothing_parts in_tree_parts cause_of_node cause_parts number_text digits
 eleven_failures = refl
 
 ten_failures :
-    bytes_eq (marks (failed_parts logs (cs 10)))
+    bytes_eq (marks (failed logs (cs 10)))
     (codes "<ol class=\"list\">" ++ (outputs (range_with_len 0 10) ++ articles (range_with_len 0 10)))
     ≡ true
-unfolding failed_parts section_parts list_parts more_parts article_row target_row row_parts unlisted_parts article_parts article_of path_parts output_parts nothing_parts in_tree_parts cause_of_node cause_parts number_text digits
+unfolding failed_parts article_parts article_of path_parts output_parts nothing_parts in_tree_parts cause_of_node cause_parts number_text digits
 ten_failures = refl
 
 -- Ten targets that printed nothing, then one that printed an error, then another one that printed nothing.
@@ -182,42 +210,57 @@ article position =
 
 -- The first ten have articles. The list of the others goes on with number 11, and says why they failed.
 twelve_failures :
-    bytes_eq (html (failed_parts logs twelve))
+    bytes_eq (html (failed logs twelve))
     (codes "<section id=\"failed\" aria-labelledby=\"h-failed\"><h2 id=\"h-failed\">What failed</h2><ol class=\"list\">"
     ++ (flat_map listed (range_with_len 0 10)
     ++ (codes "</ol>"
     ++ (flat_map article (range_with_len 0 10)
     ++ codes "<details class=\"more\"><summary>2 more that failed</summary><ol class=\"list\" start=\"11\"><li><a href=\"#t10\"><bdi>b</bdi></a> <strong class=\"x\">exit 1</strong> <code>b.c:1: error: x</code></li><li><a href=\"#t11\"><bdi>c</bdi></a> <strong class=\"x\">exit 2</strong></li></ol></details></section>"))))
     ≡ true
-unfolding failed_parts section_parts list_parts more_parts article_row target_row row_parts unlisted_parts cause_of_node cause_parts cut_to begins_with article_parts article_of path_parts output_parts nothing_parts in_tree_parts symbols_after first_symbol symbol_len is_sequence sequence_len sequence_numbers first_code_point code_point_len is_unprintable notation unprintable_text number_text encode_utf8 digits html_from
+unfolding failed_parts cause_of_node cause_parts cut_to begins_with article_parts article_of path_parts output_parts nothing_parts in_tree_parts symbols_after first_symbol symbol_len is_sequence sequence_len sequence_numbers first_code_point code_point_len is_unprintable notation unprintable_text number_text encode_utf8 digits html_from
 twelve_failures = refl
 
 abbrev items_of : Part → List Part
 items_of (MarkupPart markup.Item) = MarkupPart markup.Item ∷ []
 items_of part = []
 
-at_most_200 : length (flat_map items_of (more_parts logs [] markup.Ordered false [] (range_with_len 0 201))) ≡ 200
-unfolding more_parts target_row row_parts unlisted_parts
+-- More than 200 targets in each list.
+abbrev many : ℕ → View
+many count = record (view [] []) {
+  roots = range_with_len 0 (10 + count);
+  dependents = range_with_len 0 count;
+  unclosed = range_with_len 0 count;
+}
+
+abbrev lists : List (Block (Block (Unit {0})))
+lists = OTHERS ∷ DEPENDENTS ∷ UNCLOSED ∷ []
+
+at_most_200 : list_all (λ list. length (flat_map items_of (in_list list (many 201))) == 200) lists ≡ true
+unfolding cause_of_node cause_parts
 at_most_200 = refl
 
 abbrev numbers_of : Part → List ℕ
 numbers_of (NumberPart number) = number ∷ []
 numbers_of part = []
 
+abbrev numbers : ℕ → List ℕ
+numbers count = flat_map (λ list. flat_map numbers_of (in_list list (many count))) lists
+
 -- The heading counts all of them, and the end those that aren't listed.
-all_counted : flat_map numbers_of (more_parts logs [] markup.Ordered false [] (range_with_len 0 201)) ≡ 201 ∷ 1 ∷ []
-unfolding more_parts target_row row_parts unlisted_parts
+all_counted : bytes_eq (numbers 201) (201 ∷ 1 ∷ 201 ∷ 1 ∷ 201 ∷ 1 ∷ []) ≡ true
+unfolding cause_of_node cause_parts
 all_counted = refl
 
-all_listed : html (unlisted_parts 200) ≡ []
-unfolding unlisted_parts symbols_after first_symbol symbol_len is_sequence sequence_len sequence_numbers first_code_point code_point_len is_unprintable notation unprintable_text number_text encode_utf8 digits html_from
+all_listed : bytes_eq (numbers 200) (200 ∷ 200 ∷ 200 ∷ []) ≡ true
+unfolding cause_of_node cause_parts
 all_listed = refl
 
+-- What follows the items: of each one there are eleven parts.
 one_unlisted :
-    bytes_eq (html (unlisted_parts 201))
-    (codes "<p class=\"quiet\">and 1 more, in the tree</p>")
+    list_all (λ list. bytes_eq (html (drop 2206 (in_list list (many 201))))
+    (codes "</ol><p class=\"quiet\">and 1 more, in the tree</p></details>")) lists
     ≡ true
-unfolding unlisted_parts symbols_after first_symbol symbol_len is_sequence sequence_len sequence_numbers first_code_point code_point_len is_unprintable notation unprintable_text number_text encode_utf8 digits html_from
+unfolding cause_of_node cause_parts symbols_after first_symbol symbol_len is_sequence sequence_len sequence_numbers first_code_point code_point_len is_unprintable notation unprintable_text number_text encode_utf8 digits html_from
 one_unlisted = refl
 
 -- ---- which targets are named
@@ -354,5 +397,5 @@ long_cause :
     bytes_eq (html (cause_parts (Some (replicate 161 97))))
     (codes " <code>" ++ (replicate 160 97 ++ codes "</code>"))
     ≡ true
-unfolding cause_parts cut_to symbols_after first_symbol symbol_len is_sequence sequence_len sequence_numbers first_code_point code_point_len is_unprintable notation unprintable_text number_text encode_utf8 digits html_from
+unfolding cause_parts cut_to begins_at symbols_after first_symbol symbol_len is_sequence sequence_len sequence_numbers first_code_point code_point_len is_unprintable notation unprintable_text number_text encode_utf8 digits html_from
 long_cause = refl

@@ -2,12 +2,14 @@
 use Rattle.std.proofs.Common.{◌≡◌, ℕ, true, false, List, [], ◌∷◌, ◌++◌, None, Some, pos, negsuc, length, map, replicate, refl}
 use Rattle.std.specs.Fmt.{digits}
 use Rattle.std.specs.List.{filter, flat_map, range_with_len}
-use Rattle.std.specs.Prelude.{codes}
+use Rattle.std.specs.Prelude.{bytes_eq, codes}
+use Rattle.redo_html.specs.Cut.{begins_at}
 use Rattle.redo_html.specs.declared.markup.Markup.TheVariants as markup
 use Rattle.redo_html.specs.Parts.{Part}
 use Rattle.redo_html.specs.Parts.Part.{MarkupPart, LogPart, TextPart, NumberPart}
 use Rattle.redo_html.specs.Shown.{number_text}
 use Rattle.redo_html.specs.Style.{plain_style}
+use Rattle.redo_html.specs.Symbols.{is_sequence, code_point_len, sequence_len, symbol_len}
 use Rattle.redo_line.specs.declared.entry.Entry.TheVariants.{Text}
 use Rattle.redo_logs.specs.declared.log_state.LogState.TheVariants.{Ended}
 use Rattle.redo_logs.specs.Logs.{Log}
@@ -17,16 +19,21 @@ use Rattle.redo_page.specs.declared.cause.WordState.TheVariants.{Outside}
 use Rattle.redo_page.specs.declared.level.Level.{Level}
 use Rattle.redo_page.specs.declared.scope.Rows.TheVariants.{Warned}
 use Rattle.redo_page.specs.declared.template.Around.TheVariants.{Each, EachTarget}
-use Rattle.redo_page.specs.declared.scope.Count.TheVariants.{Targets, Roots, Dependents, Warnings, Most, Unknown, Known, Value}
+use Rattle.redo_page.specs.declared.scope.Count.{Count}
+use Rattle.redo_page.specs.declared.scope.Listed.{Listed}
+use Rattle.redo_page.specs.declared.scope.Count.TheVariants.{All, Unlisted, Targets, Roots, Dependents, Warnings, Most, Unknown, Known, Value}
+use Rattle.redo_page.specs.declared.scope.Listed.TheVariants as listed
+use Rattle.redo_page.specs.declared.scope.Listed.TheVariants.{Articles, Others, Unclosed}
 use Rattle.redo_page.specs.declared.scope.Measure.TheVariants.{Took, Sum, Duration}
 use Rattle.redo_page.specs.declared.scope.Test.TheVariants.{HasDependents, HasKnown, HasMarks, HasCallers}
 use Rattle.redo_page.specs.declared.verdict.Verdict.TheVariants.{Failed}
 use Rattle.redo_page.specs.Command.{command, is_safe}
 use Rattle.redo_page.specs.Errors.{begins_with, begins_with_error, cause_of, is_error, is_visible}
-use Rattle.redo_page.specs.Excerpt.{cut_to, in_tree_parts, is_continuation, left_out_parts, with_left_out}
+use Rattle.redo_page.specs.Excerpt.{cut_to, in_tree_parts, left_out_parts, with_left_out}
 use Rattle.redo_page.specs.Excerpt.Stretch.{LeftOut}
-use Rattle.redo_page.specs.Failed.{article_took, is_unclosed, more_parts, name_of, nothing_parts, output_parts, row_parts, target_row}
-use Rattle.redo_page.specs.Failed.{unlisted_parts, whole_parts}
+use Rattle.redo_page.specs.Article.{article_took, name_of, nothing_parts, output_parts}
+use Rattle.redo_page.specs.Failed.{is_unclosed}
+use Rattle.redo_page.specs.Article.{whole_parts}
 use Rattle.redo_page.specs.Page.{build_view}
 use Rattle.redo_page.specs.Scope.{View, count_of, holds, measure_words}
 use Rattle.redo_page.specs.Targets.{below_parts, exit_parts, lines_parts, plural, took_parts, warnings_below_parts, warnings_parts}
@@ -84,11 +91,8 @@ late_error = refl
 
 -- ---- what is cut
 
-continuations : filter is_continuation (range_with_len 0 256) ≡ range_with_len 128 64
-continuations = refl
-
 long_cut : length (cut_to 10 (replicate 100001 120)) ≡ 10
-unfolding cut_to
+unfolding cut_to begins_at symbol_len is_sequence sequence_len code_point_len
 long_cut = refl
 
 -- Tens of thousands of lines that are left out.
@@ -110,11 +114,6 @@ long_name = refl
 abbrev numbers_of : Part → List ℕ
 numbers_of (NumberPart number) = number ∷ []
 numbers_of part = []
-
--- Of 1,500 targets, 200 are listed.
-many_rows : flat_map numbers_of (more_parts [] [] markup.Ordered false [] (range_with_len 0 1500)) ≡ 1500 ∷ 1300 ∷ []
-unfolding more_parts target_row row_parts unlisted_parts
-many_rows = refl
 
 -- ---- the command
 
@@ -150,12 +149,27 @@ facts callers marks = record {
 }
 
 abbrev view : Facts → View
-view facts = record (build_view [] [] [] [] (replicate 12345 no_node) facts)
-    { roots = 12346; dependents = 12347; rank = record { value = 86400000; position = 0 } }
+view facts = record (build_view [] [] [] [] (replicate 12345 no_node) facts) {
+  roots = replicate 12346 0;
+  dependents = replicate 12347 0;
+  unclosed = replicate 12348 0;
+  rank = record { value = 86400000; position = 0 };
+}
 
-large_counts : map (count_of (view (facts 1000 2000))) (Targets ∷ Roots ∷ Dependents ∷ Warnings ∷ Most ∷ Unknown ∷ Known ∷ Value ∷ [])
-    ≡ 12345 ∷ 12346 ∷ 12347 ∷ 123456 ∷ 300 ∷ 2000 ∷ 3000 ∷ 86400000 ∷ []
+large_counts :
+    bytes_eq (map (count_of (view (facts 1000 2000))) (Targets ∷ Roots ∷ Dependents ∷ Warnings ∷ Most ∷ Unknown ∷ Known ∷ Value ∷ []))
+    (12345 ∷ 12346 ∷ 12347 ∷ 123456 ∷ 300 ∷ 2000 ∷ 3000 ∷ 86400000 ∷ [])
+    ≡ true
 large_counts = refl
+
+abbrev each_list : (Listed → Count) → List ℕ
+each_list count = map (λ these. count_of (view (facts 0 0)) (count these)) (Articles ∷ Others ∷ listed.Dependents ∷ Unclosed ∷ [])
+
+-- Of each list, 200 targets are listed.
+large_lists :
+    (bytes_eq (each_list (λ these. All these)) (10 ∷ 12336 ∷ 12347 ∷ 12348 ∷ []) ≡ true)
+    × (bytes_eq (each_list (λ these. Unlisted these)) (0 ∷ 12136 ∷ 12147 ∷ 12148 ∷ []) ≡ true)
+large_lists = (refl, refl)
 
 -- A week, a day and an hour, and a day.
 long_durations : map (λ measure. words_text (measure_words (view (facts 0 0)) measure)) (Took ∷ Sum ∷ Duration ∷ [])
@@ -165,7 +179,7 @@ long_durations = refl
 
 -- One is enough.
 single :
-    (holds (record (view (facts 0 0)) { dependents = 1 }) HasDependents ≡ true) × (holds (view (facts 0 1)) HasKnown ≡ true)
+    (holds (record (view (facts 0 0)) { dependents = 0 ∷ [] }) HasDependents ≡ true) × (holds (view (facts 0 1)) HasKnown ≡ true)
     × (holds (view (facts 1 0)) HasKnown ≡ true) × (holds (view (facts 0 1)) HasMarks ≡ true) × (holds (view (facts 1 0)) HasCallers ≡ true)
 single = (refl, refl, refl, refl, refl)
 

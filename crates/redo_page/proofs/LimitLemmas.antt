@@ -3,7 +3,8 @@ use Rattle.std.proofs.Common.{◌≡◌, ℕ, zero, suc, ◌+◌, ◌-◌, ◌<�
 use Rattle.std.specs.Prelude.{if◌then◌else◌}
 use Rattle.std.proofs.lemmas.Bool.{cases_lt, le-leb, leb-false, leb-true, lt-leb}
 use Rattle.redo_outline.specs.declared.node.Node.{Node}
-use Rattle.redo_page.specs.Excerpt.{last_where}
+use Rattle.redo_html.proofs.CutLemmas.{last_below}
+use Rattle.redo_html.specs.Cut.{last_where}
 use Rattle.redo_page.specs.Limits.{at_most, bytes_shown, fit_in, highest_cap, limit_if, limits_from}
 use Rattle.redo_page.specs.Tree.{Build, position_of}
 use Rattle.redo_trim.specs.declared.limit.Limit.{Limit}
@@ -22,21 +23,6 @@ more_bytes (node ∷ nodes) low high below =
 -- ---- the last number that passes a test
 
 module _ (passes : ℕ → Bool) where
-  pub last_is : (n : ℕ) → passes n ≡ true → last_where passes n ≡ n
-  last_is zero is = refl
-  last_is (suc n) is = ap (λ (b : Bool). if b then suc n else last_where passes n) is
-
-  -- If no number from `low` on passes, those numbers don't matter.
-  pub last_below : (low high : ℕ) → low ≤ high → ((n : ℕ) → low < n → passes n ≡ false) → last_where passes high ≡ last_where passes low
-  last_below low zero below none = let same : zero ≡ low = omega arith in ap (last_where passes) same
-  last_below low (suc high) below none = by (λ within. last_below low high within none) (cases_lt high low)
-    where
-      by : (low ≤ high → last_where passes high ≡ last_where passes low) → (high < low) ⊎ (low ≤ high)
-          → last_where passes (suc high) ≡ last_where passes low
-      by before (inl above) = let same : suc high ≡ low = omega arith in ap (last_where passes) same
-      by before (inr within) = ap (λ (b : Bool). if b then suc high else last_where passes high) (none (suc high) (omega arith))
-          ∙ before within
-
   -- The last one passes, if 0 does.
   pub last_passes : (n : ℕ) → passes 0 ≡ true → passes (last_where passes n) ≡ true
   last_passes zero first = first
@@ -82,7 +68,7 @@ module _ (budget : ℕ) (nodes : List Node) where
   -- If a cap fails, only lower ones count.
   pub lower_counts : (cap above : ℕ) → fits cap ≡ false → 0 < cap → cap ≤ above → last_where fits above ≡ last_where fits (cap - 1)
   lower_counts cap above fails some below =
-      last_below fits (cap - 1) above (omega arith) (λ n higher. higher_fails cap n fails (omega arith))
+      last_below fits (cap - 1) above (omega arith) (λ n higher within. higher_fails cap n fails (omega arith))
 
 no_bytes : (nodes : List Node) → bytes_shown (Some 0) nodes ≡ 0
 no_bytes [] = refl

@@ -1,8 +1,8 @@
 -- The ids and the links of a page.
 use Rattle.std.proofs.Common.{◌≡◌, ℕ, zero, suc, ◌+◌, ◌<◌, ◌≤◌, Bool, true, false, List, [], ◌∷◌, ◌++◌, map, refl, sym, ◌∙◌, ap, arith}
-use Rattle.std.specs.Prelude.{◌==◌, ◌||◌, ◌&&◌, nat_lt, length, if◌then◌else◌, is_some, None, Option, Some}
+use Rattle.std.specs.Prelude.{◌==◌, ◌||◌, ◌&&◌, nat_lt, length, take, if◌then◌else◌, is_some, None, Option, Some}
 use Rattle.std.specs.List.{flat_map, list_all}
-use Rattle.std.proofs.lemmas.Bool.{and_from, and_parts, eqb-false, ltb-true}
+use Rattle.std.proofs.lemmas.Bool.{and_from, and_parts, eqb-false, lt-ltb, ltb-true}
 use Rattle.std.proofs.lemmas.List.{append-nil, length-map}
 use Rattle.redo_logs.specs.Logs.{Log}
 use Rattle.redo_html.specs.declared.markup.Markup.{Markup}
@@ -15,19 +15,25 @@ use Rattle.redo_outline.specs.declared.node.Node.{Node}
 use Rattle.redo_outline.specs.Contents.{Contents, contents_of}
 use Rattle.redo_outline.specs.Facts.{target_status}
 use Rattle.redo_outline.specs.Outline.{log_count, outline_of, with_times}
+use Rattle.redo_page.specs.declared.failed.TheConstants.{FAILURES}
 use Rattle.redo_page.specs.declared.frame.TheConstants.{FOOTER, HEAD, HEADER}
+use Rattle.redo_page.specs.declared.scope.Listed.TheVariants.{Articles, Others, Dependents, Unclosed}
+use Rattle.redo_page.specs.declared.scope.Listed.{Listed}
+use Rattle.redo_page.specs.declared.scope.Rows.{Rows}
 use Rattle.redo_page.specs.declared.scope.Rows.TheVariants.{Longest, Warned}
 use Rattle.redo_page.specs.declared.summary.TheConstants.{SECTION}
+use Rattle.redo_page.specs.Failed.{failed_parts, is_dependent_failure, is_unclosed}
 use Rattle.redo_page.specs.Frame.{footer_parts}
 use Rattle.redo_page.specs.Laws.{article_ids, article_links, charts, is_among, numbers_from, page_chart, part_chart, section_id, section_ids, section_link, section_links, target_ids, target_links, heading_tag}
 use Rattle.redo_page.specs.Page.{Request, options_of, page_contents, page_events, page_facts, page_outline, page_parts, page_view, run_times, top_parts}
-use Rattle.redo_page.specs.Scope.{View}
+use Rattle.redo_page.specs.Scope.{View, positions_of, rows_of}
 use Rattle.redo_page.specs.Summary.{summary_parts}
 use Rattle.redo_page.specs.Template.{Template}
-use Rattle.redo_page.specs.Tree.{articles, root_failures}
+use Rattle.redo_page.specs.Tree.{articles, max_articles, root_failures}
 use Rattle.redo_page.proofs.Ids.{Refers, is_section, section, then_refer}
-use Rattle.redo_page.proofs.FailedIds.{failed_refers}
-use Rattle.redo_page.proofs.TemplateIds.{AreRows, some_if, template_only, template_refers}
+use Rattle.redo_page.proofs.FailedIds.{all_among, articles_below, others_below, where_are_below}
+use Rattle.redo_page.proofs.TemplateIds.{AreRows, is_listed, some_if, template_only, template_refers}
+use Rattle.redo_page.proofs.TemplateIds.Place.{Failing, Outside}
 use Rattle.redo_page.proofs.TimelineLemmas.{BarsLead, timeline_found, timeline_refers}
 use Rattle.redo_page.specs.Limits.{tree_limits}
 use Rattle.redo_trim.specs.declared.limit.Limit.{Limit}
@@ -100,7 +106,7 @@ links failed some timed =
 abbrev page_sections : Bool → Bool → Bool → List Part → List Part
 page_sections failed some timed timeline =
     (links failed some timed
-    ++ (parts_if failed (MarkupPart FailedSection ∷ []) ++ MarkupPart SummarySection ∷ MarkupPart DescriptionList ∷ []))
+    ++ ((parts_if failed (MarkupPart FailedSection ∷ []) ++ []) ++ MarkupPart SummarySection ∷ MarkupPart DescriptionList ∷ []))
     ++ ((timeline ++ MarkupPart TreeSection ∷ []) ++ [])
 
 chart_part : (part : Part) → flat_map part_chart (section part) ≡ part_chart part
@@ -201,7 +207,7 @@ module _ (have : HavePositions) (lead : BarsLead) (keep : KeepLogs) (request : R
   abbrev shown : Contents
   shown = page_contents request logs requested
 
-  rows_below : AreOfNodes nodes facts → AreRows (length nodes) (articles nodes) view
+  rows_below : AreOfNodes nodes facts → (rows : Rows) → AreRanksBelow (length nodes) (rows_of view rows)
   rows_below positions Longest = by (is_timed facts)
     where
       by : (timed : Bool) → AreRanksBelow (length nodes) (if timed then facts.longest else [])
@@ -209,17 +215,36 @@ module _ (have : HavePositions) (lead : BarsLead) (keep : KeepLogs) (request : R
       by false = tt
   rows_below positions Warned = positions.warned
 
-  page_refers : Refers (length nodes) (articles nodes) parts (numbers_from 0 (log_count shown) ++ []) (((articles nodes ++ []) ++ []) ++ [])
-      (view_sections view)
-  unfolding page_parts top_parts footer_parts summary_parts
+  lists_below : (these : Listed) → list_all (is_listed (length nodes) (articles nodes) these) (positions_of view these) ≡ true
+  lists_below Articles = all_among (articles nodes)
+  lists_below Others = others_below nodes
+  lists_below Dependents = where_are_below is_dependent_failure nodes
+  lists_below Unclosed = where_are_below is_unclosed nodes
+
+  -- The ids of articles, if there are any.
+  abbrev ids_of : List ℕ → List ℕ
+  ids_of roots = some_if (nat_lt 0 (length roots)) (take max_articles roots ++ [])
+
+  ids_are : (roots : List ℕ) → ids_of roots ≡ take max_articles roots
+  ids_are [] = refl
+  ids_are (position ∷ roots) = by (nat_lt 0 (length (position ∷ roots))) (lt-ltb 0 (length (position ∷ roots)) (omega arith))
+    where
+      by : (some : Bool) → some ≡ true → some_if some (take max_articles (position ∷ roots) ++ []) ≡ take max_articles (position ∷ roots)
+      by some is = rw is (append-nil (take max_articles (position ∷ roots)))
+
+  page_refers : Refers (length nodes) (articles nodes) parts (numbers_from 0 (log_count shown) ++ [])
+      (((ids_of (root_failures nodes) ++ []) ++ []) ++ []) (view_sections view)
+  unfolding page_parts top_parts failed_parts footer_parts summary_parts
   page_refers =
       let positions = have nodes request.times in
-      let rows = rows_below positions in
-      let refers = λ (template : Template) (is : template_only template ≡ true).
-      template_refers (length nodes) (articles nodes) template is view rows in
+      let rows : AreRows (length nodes) (articles nodes) view =
+      (rows_below positions, lists_below, articles_below nodes) in
+      let refers = λ (template : Template) (is : template_only Outside template ≡ true).
+      template_refers (length nodes) (articles nodes) Outside template is view tt rows in
+      let failures = template_refers (length nodes) (articles nodes) Failing FAILURES refl view tt rows in
       let timeline = timeline_refers lead (length nodes) (articles nodes) view rows positions.callers positions.recipes positions.marks in
       then_refer (then_refer (refers HEAD refl)
-      (then_refer (refers HEADER refl) (then_refer (failed_refers logs nodes) (refers SECTION refl))))
+      (then_refer (refers HEADER refl) (then_refer failures (refers SECTION refl))))
       (then_refer (then_refer timeline (tree_refers logs (options_of request) nodes shown)) (refers FOOTER refl))
 
   pub page_target_ids : target_ids parts ≡ numbers_from 0 (length nodes)
@@ -229,8 +254,10 @@ module _ (have : HavePositions) (lead : BarsLead) (keep : KeepLogs) (request : R
       ∙ sym (outline_counted request logs requested))
 
   pub page_article_ids : article_ids parts ≡ articles nodes
-  page_article_ids = page_refers.article_ids_are ∙ append-nil ((articles nodes ++ []) ++ []) ∙ append-nil (articles nodes ++ [])
-      ∙ append-nil (articles nodes)
+  page_article_ids =
+      let ids = ids_of (root_failures nodes) in
+      page_refers.article_ids_are ∙ append-nil ((ids ++ []) ++ []) ∙ append-nil (ids ++ []) ∙ append-nil ids
+      ∙ ids_are (root_failures nodes)
 
   pub page_target_links : list_all (is_among (target_ids parts)) (target_links parts) ≡ true
   page_target_links =

@@ -16,7 +16,7 @@ use Rattle.redo_options.specs.declared.options.Options.{Options}
 use Rattle.redo_outline.specs.declared.node.Node.{Node}
 use Rattle.redo_page.specs.declared.page.Texts.{Texts}
 use Rattle.redo_page.specs.Command.{command}
-use Rattle.redo_page.specs.Failed.{is_dependent_failure, positions_where}
+use Rattle.redo_page.specs.Failed.{is_dependent_failure, is_unclosed, positions_where}
 use Rattle.redo_page.specs.Page.{Request, build_view, options_of, page_outline, page_view}
 use Rattle.redo_page.specs.Private.PageTexts.{AreTexts}
 use Rattle.redo_page.specs.Scope.{View}
@@ -75,7 +75,7 @@ next_stage before middle after first second done wrote more =
 -- ---- what templates say
 
 module _ (request : Request) (options : Options) (logs : List Log) (requested : List (List ℕ)) (nodes : List Node) (texts : Texts)
-    (facts : Facts) (roots dependents : ℕ) where
+    (facts : Facts) (roots dependents unclosed : List ℕ) where
   abbrev pub view_with : View
   view_with = record {
     title = request.title;
@@ -89,15 +89,17 @@ module _ (request : Request) (options : Options) (logs : List Log) (requested : 
     facts = facts;
     roots = roots;
     dependents = dependents;
+    unclosed = unclosed;
     rank = record { value = 0; position = 0 };
     largest = 0;
     node = no_node;
   }
 
   pub view_is : options ≡ options_of request → nodes ≡ page_outline request logs requested → facts ≡ summary_of nodes request.times
-      → AreTexts request options requested nodes texts → roots ≡ length (root_failures nodes)
-      → dependents ≡ length (positions_where is_dependent_failure 0 nodes) → view_with ≡ page_view request logs requested
-  view_is options_are nodes_are facts_are are roots_are dependents_are =
+      → AreTexts request options requested nodes texts → roots ≡ root_failures nodes
+      → dependents ≡ positions_where is_dependent_failure 0 nodes → unclosed ≡ positions_where is_unclosed 0 nodes
+      → view_with ≡ page_view request logs requested
+  view_is options_are nodes_are facts_are are roots_are dependents_are unclosed_are =
       (λ i. record view_with {
         verdict = are.verdict i;
         heading = are.heading i;
@@ -106,6 +108,7 @@ module _ (request : Request) (options : Options) (logs : List Log) (requested : 
         facts = facts_are i;
         roots = roots_are i;
         dependents = dependents_are i;
+        unclosed = unclosed_are i;
       })
       ∙ (λ i. build_view request.title request.dir (command request.dir (options_are i) requested) logs (nodes_are i)
       (summary_of (nodes_are i) request.times))

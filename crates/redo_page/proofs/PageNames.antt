@@ -81,7 +81,7 @@ unfolding top_parts summary_parts
 top_tells view values =
     then_tell view.logs view.nodes (template_tells HEAD refl view values)
     (then_tell view.logs view.nodes (template_tells HEADER refl view values)
-    (then_tell view.logs view.nodes (failed_tells view.logs view.nodes) (template_tells SECTION refl view values)))
+    (then_tell view.logs view.nodes (failed_tells view) (template_tells SECTION refl view values)))
 
 -- ---- rows of tables
 

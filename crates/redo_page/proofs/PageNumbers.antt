@@ -195,7 +195,7 @@ module _ (request : Request) (logs : List Log) (requested : List (List ℕ)) whe
   unfolding top_parts
   header_has_part inner part =
       page_has inner
-      (part_later (head_parts view) (part_earlier (failed_parts view.logs view.nodes ++ summary_parts view) part))
+      (part_later (head_parts view) (part_earlier (failed_parts view ++ summary_parts view) part))
 
   page_has_heading : IsPartOf (heading_shown nodes) (page_parts request logs requested)
   page_has_heading =
@@ -207,7 +207,7 @@ module _ (request : Request) (logs : List Log) (requested : List (List ℕ)) whe
   page_has_summary =
       page_has (summary_shown nodes facts)
       (part_later (head_parts view)
-      (part_later (header_parts view) (part_later (failed_parts view.logs view.nodes) summary_has)))
+      (part_later (header_parts view) (part_later (failed_parts view) summary_has)))
 
   footer_has : IsPartOf (end_shown request requested nodes) (footer_parts view)
   unfolding footer_parts

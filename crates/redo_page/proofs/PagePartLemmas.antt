@@ -1,24 +1,25 @@
 -- The tree and the articles are parts of a page.
-use Rattle.std.proofs.Common.{◌≡◌, ℕ, suc, Bool, true, false, List, [], ◌∷◌, ◌++◌, sym, ◌∙◌, ap, inl, inr, ◌⊎◌, arith}
+use Rattle.std.proofs.Common.{◌≡◌, ℕ, Bool, true, List, [], ◌∷◌, ◌++◌, sym, ◌∙◌, ap, inl, inr, ◌⊎◌, arith}
 use Rattle.std.specs.Prelude.{◌==◌, nat_lt, drop, length, take}
 use Rattle.std.specs.List.{flat_map}
 use Rattle.std.proofs.lemmas.Bool.{eqb-true, lt-ltb, or_cases}
 use Rattle.std.proofs.lemmas.List.{append_assoc, append-nil}
 use Rattle.redo_logs.specs.Logs.{Log}
-use Rattle.redo_html.specs.declared.markup.Markup.TheVariants as markup
 use Rattle.redo_html.specs.Parts.{Part}
-use Rattle.redo_html.specs.Parts.Part.{MarkupPart, TextPart}
-use Rattle.redo_outline.specs.declared.node.Node.{Node}
-use Rattle.redo_page.specs.declared.labels.TheConstants.{COUNT_NOT_CLOSED, FAILED_WITH_THESE, MORE_FAILED, WHAT_FAILED}
-use Rattle.redo_page.specs.Failed.{article_parts, is_dependent_failure, failed_parts, is_unclosed, list_parts, more_parts, positions_where, section_parts}
+use Rattle.redo_page.specs.declared.failed.TheConstants.{LIST, SECTION}
+use Rattle.redo_page.specs.declared.scope.Listed.TheVariants.{Articles}
+use Rattle.redo_page.specs.declared.scope.Test.TheVariants.{HasFailed, HasSeveral}
+use Rattle.redo_page.specs.Article.{article_parts}
+use Rattle.redo_page.specs.Failed.{failed_parts}
 use Rattle.redo_page.specs.Frame.{footer_parts, head_parts, header_parts}
 use Rattle.redo_page.specs.Laws.{IsPartOf, is_among, page_article, page_tree}
 use Rattle.redo_page.specs.Timeline.{timeline_parts}
 use Rattle.redo_page.specs.Page.{Request, page_outline, page_parts, page_view, top_parts}
-use Rattle.redo_page.specs.Scope.{View}
+use Rattle.redo_page.specs.Scope.{View, holds, positions_of}
 use Rattle.redo_page.specs.Summary.{summary_parts}
 use Rattle.redo_page.specs.Targets.{parts_if}
-use Rattle.redo_page.specs.Tree.{articles, root_failures, max_articles}
+use Rattle.redo_page.specs.Template.{block_parts, nothing, parts_of_items}
+use Rattle.redo_page.specs.Tree.{articles, max_articles}
 
 whole_part : (parts : List Part) → IsPartOf parts parts
 whole_part parts = record { before = []; after = []; splits = append-nil parts }
@@ -51,45 +52,35 @@ part_among f (other ∷ numbers) number among = by (part_among f numbers number)
     }
     by later (inr found) = part_later (f other) (later found)
 
-section_has_article : (logs : List Log) (nodes : List Node) (shown others dependents unclosed : List ℕ) (position : ℕ)
-    → is_among shown position ≡ true → IsPartOf (article_parts logs nodes position)
-    (section_parts logs nodes shown others dependents unclosed)
-unfolding section_parts
-section_has_article logs nodes shown others dependents unclosed position among =
-    part_later (MarkupPart markup.FailedSection ∷ MarkupPart markup.FailedHeading ∷ TextPart WHAT_FAILED.now
-    ∷ MarkupPart markup.EndHeading ∷ [])
-    (part_later (list_parts logs nodes shown)
-    (part_earlier (more_parts logs nodes (markup.OrderedFrom (suc max_articles)) true MORE_FAILED.now others
-    ++ (more_parts logs nodes markup.Ordered false FAILED_WITH_THESE.now dependents
-    ++ (more_parts logs nodes markup.Ordered false COUNT_NOT_CLOSED.now unclosed ++ MarkupPart markup.EndSection ∷ [])))
-    (part_among (article_parts logs nodes) shown position among)))
+-- What the section shows after some items.
+abbrev after : View → ℕ → List Part
+after view count = parts_of_items (λ text. text.now) (block_parts (block_parts nothing)) view (drop count SECTION.now)
 
-failed_has_article : (logs : List Log) (nodes : List Node) (position : ℕ) → is_among (articles nodes) position ≡ true
-    → IsPartOf (article_parts logs nodes position) (failed_parts logs nodes)
+failed_has_article : (view : View) (position : ℕ) → is_among (take max_articles view.roots) position ≡ true
+    → IsPartOf (article_parts view.logs view.nodes position) (failed_parts view)
 unfolding failed_parts
-failed_has_article logs nodes position among = by (root_failures nodes) among
+failed_has_article view position among = part_earlier [] (some (holds view HasFailed) (has_failed view.roots among) section)
   where
+    has_failed : (roots : List ℕ) → is_among (take max_articles roots) position ≡ true → nat_lt 0 (length roots) ≡ true
+    has_failed [] is = absurd (cc)
+    has_failed (root ∷ roots) is = lt-ltb 0 (length (root ∷ roots)) (omega arith)
+
     some : (condition : Bool) → condition ≡ true → {inner parts : List Part} → IsPartOf inner parts
         → IsPartOf inner (parts_if condition parts)
     some condition is part = rw is part
 
-    by : (first : List ℕ) → is_among (take max_articles first) position ≡ true
-        → IsPartOf (article_parts logs nodes position)
-        (parts_if (nat_lt 0 (length first))
-        (section_parts logs nodes (take max_articles first) (drop max_articles first) (positions_where is_dependent_failure 0 nodes)
-        (positions_where is_unclosed 0 nodes)))
-    by [] is = absurd (cc)
-    by (other ∷ positions) is =
-        some (nat_lt 0 (length (other ∷ positions))) (lt-ltb 0 (length (other ∷ positions)) (omega arith))
-        (section_has_article logs nodes (take max_articles (other ∷ positions)) (drop max_articles (other ∷ positions))
-        (positions_where is_dependent_failure 0 nodes) (positions_where is_unclosed 0 nodes) position is)
+    section : IsPartOf (article_parts view.logs view.nodes position) (after view 0)
+    section =
+        part_later (take 4 (after view 0))
+        (part_later (parts_if (holds view (HasSeveral Articles)) (block_parts (block_parts nothing) LIST view))
+        (part_earlier (after view 6) (part_among (article_parts view.logs view.nodes) (positions_of view Articles) position among)))
 
-top_has_article : (view : View) (position : ℕ) → is_among (articles view.nodes) position ≡ true
+top_has_article : (view : View) (position : ℕ) → is_among (take max_articles view.roots) position ≡ true
     → IsPartOf (article_parts view.logs view.nodes position) (top_parts view)
 unfolding top_parts
 top_has_article view position among =
     part_later (head_parts view)
-    (part_later (header_parts view) (part_earlier (summary_parts view) (failed_has_article view.logs view.nodes position among)))
+    (part_later (header_parts view) (part_earlier (summary_parts view) (failed_has_article view position among)))
 
 module _ (request : Request) (logs : List Log) (requested : List (List ℕ)) where
   abbrev view : View

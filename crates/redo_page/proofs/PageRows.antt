@@ -26,7 +26,8 @@ use Rattle.redo_html.specs.declared.markup.Markup.TheVariants as markup
 use Rattle.redo_html.specs.Parts.{Part}
 use Rattle.redo_html.specs.Parts.Part.{MarkupPart, LogPart, TextPart, NumberPart, TitlePart, StylePart, ChartPart}
 use Rattle.redo_page.specs.Excerpt.{in_tree_parts}
-use Rattle.redo_page.specs.Failed.{article_of, article_parts, article_row, cause_of_node, cause_parts, failed_parts, list_parts, more_parts, nothing_parts, output_parts, path_parts, row_parts, section_parts, whole_parts}
+use Rattle.redo_page.specs.Article.{article_of, article_parts, cause_of_node, cause_parts, nothing_parts, output_parts, path_parts, whole_parts}
+use Rattle.redo_page.specs.Failed.{failed_parts}
 use Rattle.redo_page.specs.Command.{is_safe}
 use Rattle.redo_page.specs.Frame.{footer_parts}
 use Rattle.redo_page.specs.Summary.{summary_parts}
@@ -387,7 +388,7 @@ failed_page :
     ∷ tag markup.NoteItem ∷ tag (markup.OutputLink 0) ∷ words (codes "What it printed is shown above") ∷ tag markup.EndLink
     ∷ tag markup.EndItem ∷ tag markup.EndUnordered ∷ tag markup.EndDetails ∷ tag markup.EndItem
     ∷ footer (NumberPart 1 ∷ words (codes " log in ") ∷ end (codes "redo-log -r -u --debug-locks --dir=d a"))))))))))))))
-unfolding page_parts top_parts summary_parts size_words footer_parts failed_parts section_parts list_parts more_parts article_parts article_of path_parts in_tree_parts output_parts whole_parts is_safe number_text digits show_log show_log_within
+unfolding page_parts top_parts summary_parts size_words footer_parts failed_parts article_parts article_of path_parts in_tree_parts output_parts whole_parts is_safe number_text digits show_log show_log_within
 failed_page = refl
 
 -- The parts of these pages in short: where what begins, the title, the first words, and the command.
@@ -415,7 +416,7 @@ failed_milestones :
     flat_map milestone (page_parts (request [] true true) failed (codes "a" ∷ []))
     ≡ markup.Head ∷ markup.Header ∷ markup.Nav ∷ markup.Main ∷ markup.FailedSection ∷ markup.SummarySection ∷ markup.TreeSection
     ∷ markup.Footer ∷ markup.EndHtml ∷ []
-unfolding page_parts top_parts summary_parts size_words footer_parts failed_parts section_parts list_parts more_parts article_parts article_of path_parts in_tree_parts output_parts whole_parts is_safe number_text digits show_log show_log_within
+unfolding page_parts top_parts summary_parts size_words footer_parts failed_parts article_parts article_of path_parts in_tree_parts output_parts whole_parts is_safe number_text digits show_log show_log_within
 failed_milestones = refl
 
 -- Two targets that failed. The second one ended first.
@@ -430,7 +431,7 @@ both_ended = record (request [] false false) { times = begun ∷ ran 17958292110
 failures_in_order :
     (article_ids (page_parts both_ended both_failed (codes "a" ∷ [])) ≡ 2 ∷ 1 ∷ [])
     × (article_links (page_parts both_ended both_failed (codes "a" ∷ [])) ≡ 2 ∷ 1 ∷ [])
-unfolding page_parts top_parts summary_parts size_words tenths_words duration_words dates.date_text_of dates.date_parts dates.period_of footer_parts failed_parts section_parts list_parts more_parts article_row row_parts cause_of_node cause_parts article_parts article_of path_parts in_tree_parts output_parts nothing_parts is_safe number_text digits show_log show_log_within
+unfolding page_parts top_parts summary_parts size_words tenths_words duration_words dates.date_text_of dates.date_parts dates.period_of footer_parts failed_parts cause_of_node cause_parts article_parts article_of path_parts in_tree_parts output_parts nothing_parts is_safe number_text digits show_log show_log_within
 failures_in_order = (refl, refl)
 
 -- If most times are known, there is a timeline.
@@ -488,13 +489,13 @@ made_words = refl
 failed_words :
     take 3 (flat_map words_of (page_parts (request [] true true) failed (codes "a" ∷ [])))
     ≡ (0xE2 ∷ 0x9C ∷ 0x97 ∷ []) ∷ codes " " ∷ codes "1 of 1 target failed" ∷ []
-unfolding page_parts top_parts summary_parts size_words footer_parts failed_parts section_parts list_parts more_parts article_parts article_of path_parts in_tree_parts output_parts whole_parts is_safe number_text digits show_log show_log_within
+unfolding page_parts top_parts summary_parts size_words footer_parts failed_parts article_parts article_of path_parts in_tree_parts output_parts whole_parts is_safe number_text digits show_log show_log_within
 failed_words = refl
 
 command_is :
     filter (λ text. starts_with nat_eq text (codes "redo-log -r"))
     (flat_map words_of (page_parts (request [] true true) failed (codes "a" ∷ []))) ≡ codes "redo-log -r -u --debug-locks --dir=d a" ∷ []
-unfolding page_parts top_parts summary_parts size_words footer_parts failed_parts section_parts list_parts more_parts article_parts article_of path_parts in_tree_parts output_parts whole_parts is_safe number_text digits show_log show_log_within
+unfolding page_parts top_parts summary_parts size_words footer_parts failed_parts article_parts article_of path_parts in_tree_parts output_parts whole_parts is_safe number_text digits show_log show_log_within
 command_is = refl
 
 -- A page has the bytes of its parts.

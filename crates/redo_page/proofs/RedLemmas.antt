@@ -111,5 +111,5 @@ module _ (failed unfinished : Bool) (view : View) (rest : List Part) (verdict : 
 abbrev pub page_rest : Request → List Log → List (List ℕ) → List Part
 page_rest request logs requested =
     let view = page_view request logs requested in
-    (header_parts view ++ (failed_parts logs view.nodes ++ summary_parts view))
+    (header_parts view ++ (failed_parts view ++ summary_parts view))
     ++ (body_parts view (options_of request) request.max_bytes requested ++ footer_parts view)

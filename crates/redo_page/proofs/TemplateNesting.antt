@@ -1,6 +1,6 @@
 -- Which elements are open after a template, computed from its tags.
 use Rattle.std.proofs.Common.{◌≡◌, ℕ, ◌/◌, Bool, true, false, List, [], ◌∷◌, ◌++◌, Option, None, Some, refl, ◌∙◌, ap, subst}
-use Rattle.std.specs.Prelude.{◌==◌, ◌&&◌, bytes_eq, codes, not, if◌then◌else◌}
+use Rattle.std.specs.Prelude.{◌==◌, ◌&&◌, bytes_eq, codes, not, take, if◌then◌else◌}
 use Rattle.std.specs.List.{flat_map}
 use Rattle.redo_html.specs.Html.{after_end_tag, is_void, nests_in, start_name}
 use Rattle.redo_html.specs.Laws.{markup_tag}
@@ -8,15 +8,18 @@ use Rattle.redo_html.specs.Parts.{Part}
 use Rattle.redo_html.specs.Parts.Part.{MarkupPart}
 use Rattle.redo_html.specs.Tags.{markup_text}
 use Rattle.redo_page.specs.declared.template.Around.{Around}
-use Rattle.redo_page.specs.declared.template.Around.TheVariants.{If, Unless, Each, EachTarget}
+use Rattle.redo_page.specs.declared.template.Around.TheVariants.{If, Unless, Each, EachTarget, EachOf}
 use Rattle.redo_page.specs.declared.template.Item.{Item}
 use Rattle.redo_page.specs.declared.template.Item.TheVariants as item
+use Rattle.redo_page.specs.declared.scope.Listed.TheVariants as listed
 use Rattle.redo_page.specs.declared.verdict.Verdict.{Verdict}
 use Rattle.redo_page.specs.declared.verdict.Verdict.TheVariants.{Failed, Unfinished, Made}
-use Rattle.redo_page.specs.Scope.{View, began_parts, date_parts, holds, measure_words, row_name, row_view, rows_of, target_view}
+use Rattle.redo_page.specs.Article.{article_parts}
+use Rattle.redo_page.specs.Scope.{View, began_parts, date_parts, holds, max_rows, measure_words, position_view, positions_of, row_name, row_view, rows_of, target_view}
 use Rattle.redo_page.specs.Template.{Block, Template, around_parts, block_parts, parts_of_item, parts_of_items, nothing, template_parts, tile_end, tile_start}
 use Rattle.redo_page.specs.Verdict.{body_markup}
 use Rattle.redo_page.specs.Words.{word_part}
+use Rattle.redo_page.proofs.FailedNesting.{article_nests, cause_of_node_nests}
 use Rattle.redo_page.proofs.Nesting.{Leads, Nest, lead_in, nest_each, nest_if, then_lead}
 use Rattle.redo_page.proofs.TargetNesting.{badge_nests, linked_nests, name_nests, word_nests}
 use Rattle.redo_timeline.specs.declared.span.Window.{Window}
@@ -162,6 +165,9 @@ module _ {B : Type 0} (inner : B → View → List Part) (opened : B → Open) (
   around_nests (Each rows) block is =
       nest_each (λ rank. inner block (row_view view (rows_of view rows) rank))
       (λ rank. inner_nests.nests block is (row_view view (rows_of view rows) rank)) (rows_of view rows)
+  around_nests (EachOf these) block is =
+      nest_each (λ position. inner block (position_view view position))
+      (λ position. inner_nests.nests block is (position_view view position)) (take max_rows (positions_of view these))
 
   item_leads : {T : Type 0} (text_of : T → List ℕ) (item : Item T B) (stack next : List (List ℕ))
       → after_item opened stack item ≡ Some next → Leads stack (parts_of_item text_of inner view item) next
@@ -184,7 +190,12 @@ module _ {B : Type 0} (inner : B → View → List Part) (opened : B → Open) (
   item_leads text_of (item.Measure measure) stack next is =
       stays stack next (nest_each word_part word_nests (measure_words view measure)) is
   item_leads text_of item.Link stack next is = stays stack next (linked_nests (Some view.rank.position) (row_name view)) is
+  item_leads text_of item.ArticleLink stack next is = stays stack next (record { leads = λ around tags. refl }) is
   item_leads text_of item.Badge stack next is = stays stack next (badge_nests view.node.status) is
+  item_leads text_of item.Cause stack next is = stays stack next (cause_of_node_nests view.logs view.node) is
+  item_leads text_of item.Articles stack next is =
+      stays stack next (nest_each (article_parts view.logs view.nodes) (article_nests view.logs view.nodes)
+      (positions_of view listed.Articles)) is
   item_leads text_of (item.In around block) stack next is =
       stays stack next (around_nests around block (closed (opened block) stack next is)) (closed_stays (opened block) stack next is)
 

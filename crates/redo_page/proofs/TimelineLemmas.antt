@@ -24,6 +24,7 @@ use Rattle.redo_timeline.specs.declared.span.Window.{Window}
 use Rattle.redo_page.proofs.Ids.{Refers, bare_refers, then_refer}
 use Rattle.redo_page.proofs.Nesting.{Nest, nest_if, then_lead}
 use Rattle.redo_page.proofs.TemplateIds.{AreRows, template_refers}
+use Rattle.redo_page.proofs.TemplateIds.Place.{Outside}
 use Rattle.redo_page.proofs.TemplateNesting.{template_leads}
 
 -- ---- nesting
@@ -89,8 +90,8 @@ module _ (lead : BarsLead) (count : ℕ) (listed : List ℕ) (view : View) (rows
   refers_if : (timed : Bool) (window : Window) → are_below count spans ≡ true
       → Refers count listed (parts_if timed (timeline_section view window)) [] [] (timeline_found view timed (Some window))
   refers_if true window below =
-      then_refer (template_refers count listed START refl view rows_are)
-      (then_refer (chart_refers window below) (template_refers count listed END refl view rows_are))
+      then_refer (template_refers count listed Outside START refl view tt rows_are)
+      (then_refer (chart_refers window below) (template_refers count listed Outside END refl view tt rows_are))
   refers_if false window below = bare_refers [] refl
 
   pub timeline_refers : AreSpansBelow count view.facts.callers → AreSpansBelow count view.facts.recipes

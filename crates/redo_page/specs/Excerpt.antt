@@ -1,34 +1,18 @@
 -- Excerpts of long outputs, and how a long line is cut.
 use Rattle.std.specs.Prelude.{ℕ, zero, suc, ◌-◌, ◌||◌, ◌&&◌, not, nat_le, nat_lt, Bool, List, [], ◌∷◌, ◌++◌, length, take, fold, codes, slice_index, if◌then◌else◌}
 use Rattle.std.specs.List.{flat_map, position_or_len}
+use Rattle.redo_html.specs.Cut.{last_where, may_cut}
 use Rattle.redo_html.specs.declared.markup.Markup.TheVariants as markup
 use Rattle.redo_html.specs.Parts.{Part}
 use Rattle.redo_html.specs.Parts.Part.{MarkupPart, LogPart, TextPart, NumberPart}
 use Rattle.redo_html.specs.Style.{plain_style}
 use Rattle.redo_page.specs.declared.labels.TheConstants.{IN_ITS_LOG, MORE_LINE, MORE_LINES}
-use Rattle.redo_page.specs.declared.cause.WordState.{WordState}
-use Rattle.redo_page.specs.declared.cause.WordState.TheVariants.{Outside}
-use Rattle.redo_page.specs.Errors.{is_error, is_in_sequence, state_after}
+use Rattle.redo_page.specs.Errors.{is_error}
 use Rattle.redo_page.specs.Targets.{plural}
 
 -- ---- cutting
 
-abbrev pub is_continuation : ℕ → Bool
-is_continuation byte = nat_le 128 byte && nat_lt byte 192
-
-abbrev pub state_at : List ℕ → ℕ → WordState
-state_at bytes at = fold state_after Outside (take at bytes)
-
--- Whether a text may be cut at an index: in no letter of UTF-8, and in no sequence that sets colours.
-abbrev pub may_cut : List ℕ → ℕ → Bool
-may_cut bytes at = not (is_in_sequence (state_at bytes at)) && not (is_continuation (slice_index bytes at))
-
--- The last number up to `limit` that passes a test, or 0.
-abbrev pub last_where : (ℕ → Bool) → ℕ → ℕ
-last_where passes zero = 0
-last_where passes (suc limit) = if passes (suc limit) then suc limit else last_where passes limit
-
--- The beginning of bytes, at most `limit` of them.
+-- The beginning of a text, at most `limit` bytes of it. No character and no sequence is cut in two.
 unfoldable pub cut_to : ℕ → List ℕ → List ℕ
 cut_to limit bytes = if nat_le (length bytes) limit then bytes else take (last_where (may_cut bytes) limit) bytes
 

@@ -26,7 +26,8 @@ use Rattle.redo_outline.specs.Outline.{log_count}
 use Rattle.redo_page.specs.declared.labels.TheConstants.{AND_COUNT, AS_ONE_TEXT, AT_MOST, AT_ONCE, BUILD_TOOK, DEPENDENT, FAILED, FAILED_SIGN, IN_ITS_LOG, LOGS, LOGS_IN, LOG_IN, MADE_SIGN, OF, PLACE_IN_TREE, SHOWN_ABOVE, SUM_OF_TIMES, TARGETS, TARGETS_FAILED, TARGETS_MADE, TARGETS_UNFINISHED, TARGET_FAILED, TARGET_MADE, TARGET_UNFINISHED, TOOK, UNFINISHED_SIGN, WARNED_LINES}
 use Rattle.redo_page.specs.Command.{command}
 use Rattle.redo_page.specs.Errors.{cause_of}
-use Rattle.redo_page.specs.Failed.{article_parts, article_took, cause_parts, is_dependent_failure, max_path, path_parts, positions_where, printed_by}
+use Rattle.redo_page.specs.Article.{article_parts, article_took, cause_parts, max_path, path_parts, printed_by}
+use Rattle.redo_page.specs.Failed.{is_dependent_failure, positions_where}
 use Rattle.redo_page.specs.Page.{Request, options_of, page_contents, page_events, page_facts, page_html, page_outline}
 use Rattle.redo_page.specs.Scope.{began_parts}
 use Rattle.redo_page.specs.Timeline.{facts_drawing}

@@ -1,3 +1,4 @@
+pub mod Article
 pub mod Blocks
 pub mod Command
 pub mod Errors

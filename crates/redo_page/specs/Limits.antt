@@ -1,7 +1,7 @@
 -- How much of long logs a page shows.
 use Rattle.std.specs.Prelude.{ℕ, zero, suc, ◌-◌, ◌/◌, ◌==◌, ◌||◌, ◌&&◌, max, min, not, nat_le, nat_lt, Bool, List, [], ◌∷◌, Option, None, Some, length, sum_by, if◌then◌else◌}
 use Rattle.redo_outline.specs.declared.node.Node.{Node}
-use Rattle.redo_page.specs.Excerpt.{last_where}
+use Rattle.redo_html.specs.Cut.{last_where}
 use Rattle.redo_logs.specs.Logs.{Log}
 use Rattle.redo_options.specs.declared.options.Options.{Options}
 use Rattle.redo_page.specs.Tree.{Build, articles, is_moved, node_at, position_of}

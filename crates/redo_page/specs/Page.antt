@@ -1,5 +1,5 @@
 -- The page of a build.
-use Rattle.std.specs.Prelude.{ℕ, Bool, true, false, List, [], ◌++◌, length, map}
+use Rattle.std.specs.Prelude.{ℕ, Bool, true, false, List, [], ◌++◌, map}
 use Rattle.std.specs.List.{flat_map}
 use Rattle.redo_logs.specs.Logs.{Log}
 use Rattle.redo_options.specs.declared.options.Options.{Options}
@@ -10,7 +10,7 @@ use Rattle.redo_outline.specs.declared.node.Node.{Node}
 use Rattle.redo_outline.specs.declared.node.RunTimes.{RunTimes}
 use Rattle.redo_outline.specs.Contents.{Contents, contents_of}
 use Rattle.redo_outline.specs.Outline.{outline_of, with_times}
-use Rattle.redo_page.specs.Failed.{failed_parts, is_dependent_failure, positions_where}
+use Rattle.redo_page.specs.Failed.{failed_parts, is_dependent_failure, is_unclosed, positions_where}
 use Rattle.redo_page.specs.Command.{command}
 use Rattle.redo_page.specs.Frame.{head_parts, header_parts, footer_parts}
 use Rattle.redo_page.specs.Verdict.{title_text, verdict_of, verdict_text}
@@ -51,7 +51,7 @@ options_of request = record { recursive = true; unchanged = request.unchanged; d
 
 -- The head of the page, its header, what failed, and the summary.
 unfoldable pub top_parts : View → List Part
-top_parts view = head_parts view ++ (header_parts view ++ (failed_parts view.logs view.nodes ++ summary_parts view))
+top_parts view = head_parts view ++ (header_parts view ++ (failed_parts view ++ summary_parts view))
 
 abbrev pub heading_of : List Node → List ℕ
 heading_of nodes = verdict_text (verdict_of nodes) nodes
@@ -68,8 +68,9 @@ build_view title dir command logs nodes facts = record {
   logs = logs;
   nodes = nodes;
   facts = facts;
-  roots = length (root_failures nodes);
-  dependents = length (positions_where is_dependent_failure 0 nodes);
+  roots = root_failures nodes;
+  dependents = positions_where is_dependent_failure 0 nodes;
+  unclosed = positions_where is_unclosed 0 nodes;
   rank = record { value = 0; position = 0 };
   largest = 0;
   node = no_node;

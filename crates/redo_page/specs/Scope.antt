@@ -1,5 +1,5 @@
 -- What templates say about a build: the values of their holes, src/scope.rt.
-use Rattle.std.specs.Prelude.{ℕ, ◌+◌, ◌*◌, ◌/◌, max, ◌==◌, ◌&&◌, nat_lt, not, Bool, List, [], ◌∷◌, Option, None, Some, is_none, is_some, length, if◌then◌else◌}
+use Rattle.std.specs.Prelude.{ℕ, ◌+◌, ◌-◌, ◌*◌, ◌/◌, max, ◌==◌, ◌&&◌, nat_lt, not, Bool, List, [], ◌∷◌, Option, None, Some, is_none, is_some, length, take, drop, if◌then◌else◌}
 use Rattle.redo_html.specs.Parts.{Part}
 use Rattle.redo_html.specs.Parts.Part.{TextPart}
 use Rattle.redo_logs.specs.Logs.{Log}
@@ -7,7 +7,9 @@ use Rattle.redo_outline.specs.declared.node.Node.{Node}
 use Rattle.redo_outline.specs.Facts.{saturated, target_at}
 use Rattle.redo_page.specs.declared.labels.TheConstants.{LOGS_IN, LOG_IN, MIDDLE_DOT}
 use Rattle.redo_page.specs.declared.scope.Count.{Count}
-use Rattle.redo_page.specs.declared.scope.Count.TheVariants.{Targets, Roots, Dependents, Warnings, Most, Unknown, Known, Value}
+use Rattle.redo_page.specs.declared.scope.Count.TheVariants.{Targets, Roots, Dependents, Warnings, Most, Unknown, Known, Value, All, Unlisted}
+use Rattle.redo_page.specs.declared.scope.Listed.{Listed}
+use Rattle.redo_page.specs.declared.scope.Listed.TheVariants as listed
 use Rattle.redo_page.specs.declared.scope.Measure.{Measure}
 use Rattle.redo_page.specs.declared.scope.Measure.TheVariants.{Size, Took, Sum, AtOnce, Duration}
 use Rattle.redo_page.specs.declared.scope.Phrase.{Phrase}
@@ -15,11 +17,11 @@ use Rattle.redo_page.specs.declared.scope.Phrase.TheVariants as phrase
 use Rattle.redo_page.specs.declared.scope.Rows.{Rows}
 use Rattle.redo_page.specs.declared.scope.Rows.TheVariants.{Longest, Warned}
 use Rattle.redo_page.specs.declared.scope.Test.{Test}
-use Rattle.redo_page.specs.declared.scope.Test.TheVariants.{HasTitle, IsRequested, HasFailed, HasDependents, HasWindow, IsTimed, HasKnown, HasMarks, HasCallers, HasTables, HasLongest, HasWarned}
+use Rattle.redo_page.specs.declared.scope.Test.TheVariants.{HasTitle, IsRequested, HasFailed, HasDependents, HasWindow, IsTimed, HasKnown, HasMarks, HasCallers, HasTables, HasLongest, HasWarned, HasAny, HasSeveral, HasUnlisted}
 use Rattle.redo_page.specs.declared.verdict.Verdict.{Verdict}
 use Rattle.redo_page.specs.Targets.{plural}
 use Rattle.redo_page.specs.Verdict.{sign_text}
-use Rattle.redo_page.specs.Tree.{node_at}
+use Rattle.redo_page.specs.Tree.{max_articles, node_at}
 use Rattle.redo_summary.specs.declared.rank.Rank.{Rank}
 use Rattle.redo_summary.specs.Summary.{Facts, is_timed}
 use Rattle.redo_timeline.specs.declared.span.Window.{Window}
@@ -28,8 +30,8 @@ use Rattle.redo_units.specs.Durations.{duration_words}
 use Rattle.redo_units.specs.Sizes.{size_words, tenths_words}
 use Rattle.redo_units.specs.Words.{WordValue}
 
--- The title and the capture directory that the page was given, its verdict, heading, title in a tab and command, the targets of the build, how
--- many failed, what else is known, and a row of a table: its value, the largest value and its target.
+-- The title and the capture directory that the page was given, its verdict, heading, title in a tab and command, the targets of the build, what
+-- else is known, which of them failed or aren't closed, and a row of a table: its value, the largest value and its target.
 pub record View : Type 0 where
   pub title : List ℕ
   pub dir : List ℕ
@@ -40,8 +42,9 @@ pub record View : Type 0 where
   pub logs : List Log
   pub nodes : List Node
   pub facts : Facts
-  pub roots : ℕ
-  pub dependents : ℕ
+  pub roots : List ℕ
+  pub dependents : List ℕ
+  pub unclosed : List ℕ
   pub rank : Rank
   pub largest : ℕ
   pub node : Node
@@ -66,15 +69,28 @@ row_name view = target_at view.logs view.node.number
 abbrev pub meter_of : View → ℕ
 meter_of view = saturated (view.rank.value * 10000) / max 1 view.largest
 
+-- The positions of the targets that are in a list.
+abbrev pub positions_of : View → Listed → List ℕ
+positions_of view listed.Articles = take max_articles view.roots
+positions_of view listed.Others = drop max_articles view.roots
+positions_of view listed.Dependents = view.dependents
+positions_of view listed.Unclosed = view.unclosed
+
+-- The maximum number of targets that a list names.
+abbrev pub max_rows : ℕ
+max_rows = 200
+
 abbrev pub count_of : View → Count → ℕ
 count_of view Targets = length view.nodes
-count_of view Roots = view.roots
-count_of view Dependents = view.dependents
+count_of view Roots = length view.roots
+count_of view Dependents = length view.dependents
 count_of view Warnings = view.facts.warnings
 count_of view Most = view.facts.most
 count_of view Unknown = length view.facts.marks
 count_of view Known = known_count view.facts
 count_of view Value = view.rank.value
+count_of view (All these) = length (positions_of view these)
+count_of view (Unlisted these) = length (positions_of view these) - max_rows
 
 abbrev pub measure_words : View → Measure → List WordValue
 measure_words view Size = size_words view.facts.bytes
@@ -103,8 +119,8 @@ began_parts (Some window) = date_parts (date_text_of (window.began / 1000))
 abbrev pub holds : View → Test → Bool
 holds view HasTitle = not (length view.title == 0)
 holds view IsRequested = is_none view.node.parent
-holds view HasFailed = nat_lt 0 view.roots
-holds view HasDependents = not (view.dependents == 0)
+holds view HasFailed = nat_lt 0 (length view.roots)
+holds view HasDependents = not (length view.dependents == 0)
 holds view HasWindow = is_some view.facts.window
 holds view IsTimed = is_timed view.facts
 holds view HasKnown = not (known_count view.facts == 0)
@@ -113,6 +129,9 @@ holds view HasCallers = not (length view.facts.callers == 0)
 holds view HasTables = not (length (shown_longest view.facts) == 0 && length view.facts.warned == 0)
 holds view HasLongest = not (length (shown_longest view.facts) == 0)
 holds view HasWarned = not (length view.facts.warned == 0)
+holds view (HasAny these) = not (length (positions_of view these) == 0)
+holds view (HasSeveral these) = nat_lt 1 (length (positions_of view these))
+holds view (HasUnlisted these) = nat_lt max_rows (length (positions_of view these))
 
 abbrev pub rows_of : View → Rows → List Rank
 rows_of view Longest = shown_longest view.facts
@@ -123,3 +142,7 @@ row_view view ranks rank = record view { rank = rank; largest = largest_of ranks
 
 abbrev pub target_view : View → Node → View
 target_view view node = record view { node = node }
+
+-- The target at a position, as a row without a value.
+abbrev pub position_view : View → ℕ → View
+position_view view position = record view { rank = record { value = 0; position = position }; node = node_at view.nodes position }

@@ -2,7 +2,7 @@
 use Rattle.std.specs.Prelude.{ℕ, suc, ◌==◌, Bool, not, ℤ, pos, negsuc, List, [], ◌∷◌, ◌++◌, Option, None, Some, codes, if◌then◌else◌}
 use Rattle.redo_line.specs.declared.entry.How.{How}
 use Rattle.redo_line.specs.declared.entry.How.TheVariants.{Made, Waiting, Locked, Unlocked, Unchanged}
-use Rattle.redo_html.specs.declared.markup.Markup.TheVariants.{Bdi, EndBdi, ExitBadge, OpenBadge, EndBadge, Small, EndSmall, Warnings, EndWarnings, TargetLink, EndLink}
+use Rattle.redo_html.specs.declared.markup.Markup.TheVariants.{Bdi, EndBdi, OutputLink, ExitBadge, OpenBadge, EndBadge, Small, EndSmall, Warnings, EndWarnings, TargetLink, EndLink}
 use Rattle.redo_html.specs.Parts.{Part}
 use Rattle.redo_html.specs.Parts.Part.{MarkupPart, TextPart, NumberPart}
 use Rattle.redo_outline.specs.declared.node.Node.{Node}
@@ -87,3 +87,7 @@ how_parts shown how = parts_if shown (fact_parts (TextPart (how_word how) ∷ []
 abbrev pub linked_parts : Option ℕ → List ℕ → List Part
 linked_parts None name = name_parts name
 linked_parts (Some position) name = MarkupPart (TargetLink position) ∷ (name_parts name ++ MarkupPart EndLink ∷ [])
+
+-- A name that leads to the article of the target at a position.
+abbrev pub article_link_parts : ℕ → List ℕ → List Part
+article_link_parts position name = MarkupPart (OutputLink position) ∷ (name_parts name ++ MarkupPart EndLink ∷ [])

@@ -1,15 +1,17 @@
 -- The parts of a template.
-use Rattle.std.specs.Prelude.{ℕ, List, [], ◌∷◌, not, Some}
+use Rattle.std.specs.Prelude.{ℕ, List, [], ◌∷◌, not, Some, take}
 use Rattle.std.specs.List.{flat_map}
 use Rattle.redo_html.specs.declared.markup.Markup.TheVariants as markup
 use Rattle.redo_html.specs.Parts.{Part}
 use Rattle.redo_html.specs.Parts.Part.{MarkupPart, MeterPart, TextPart, NumberPart, TitlePart, StylePart}
 use Rattle.redo_page.specs.declared.template.Around.{Around}
-use Rattle.redo_page.specs.declared.template.Around.TheVariants.{If, Unless, Each, EachTarget}
+use Rattle.redo_page.specs.declared.template.Around.TheVariants.{If, Unless, Each, EachTarget, EachOf}
 use Rattle.redo_page.specs.declared.template.Item.{Item}
 use Rattle.redo_page.specs.declared.template.Item.TheVariants as item
-use Rattle.redo_page.specs.Scope.{View, began_parts, count_of, holds, measure_words, meter_of, phrase_text, row_name, row_view, rows_of, target_view}
-use Rattle.redo_page.specs.Targets.{badge_parts, linked_parts, name_parts, parts_if}
+use Rattle.redo_page.specs.declared.scope.Listed.TheVariants as listed
+use Rattle.redo_page.specs.Article.{article_parts, cause_of_node}
+use Rattle.redo_page.specs.Scope.{View, began_parts, count_of, holds, max_rows, measure_words, meter_of, phrase_text, position_view, positions_of, row_name, row_view, rows_of, target_view}
+use Rattle.redo_page.specs.Targets.{article_link_parts, badge_parts, linked_parts, name_parts, parts_if}
 use Rattle.redo_page.specs.Verdict.{body_markup}
 use Rattle.redo_page.specs.Words.{words_parts}
 
@@ -26,6 +28,7 @@ module _ {B : Type 0} (inner : B → View → List Part) (view : View) where
   around_parts (Unless test) block = parts_if (not (holds view test)) (inner block view)
   around_parts (Each rows) block = flat_map (λ rank. inner block (row_view view (rows_of view rows) rank)) (rows_of view rows)
   around_parts EachTarget block = flat_map (λ node. inner block (target_view view node)) view.nodes
+  around_parts (EachOf these) block = flat_map (λ position. inner block (position_view view position)) (take max_rows (positions_of view these))
 
 module _ {T B : Type 0} (text_of : T → List ℕ) (inner : B → View → List Part) (view : View) where
   abbrev pub parts_of_item : Item T B → List Part
@@ -42,7 +45,10 @@ module _ {T B : Type 0} (text_of : T → List ℕ) (inner : B → View → List 
   parts_of_item (item.Measure measure) = words_parts (measure_words view measure)
   parts_of_item item.Name = name_parts (row_name view)
   parts_of_item item.Link = linked_parts (Some view.rank.position) (row_name view)
+  parts_of_item item.ArticleLink = article_link_parts view.rank.position (row_name view)
   parts_of_item item.Badge = badge_parts view.node.status
+  parts_of_item item.Cause = cause_of_node view.logs view.node
+  parts_of_item item.Articles = flat_map (article_parts view.logs view.nodes) (positions_of view listed.Articles)
   parts_of_item item.Meter = MeterPart (meter_of view) ∷ []
   parts_of_item (item.In around block) = around_parts inner view around block
 

@@ -1,10 +1,11 @@
 //! The articles of targets that failed: where each target is, and what it printed.
 ghost use Rattle.std.specs.Prelude.{◌≡◌};
+ghost use Rattle.std.specs.List.{flat_map};
 ghost use Rattle.std.specs.Option.{option_copied};
 ghost use Rattle.redo_html.specs.Lines.{line_parts};
 ghost use Rattle.redo_html.specs.Style.{plain_style};
 ghost use Rattle.redo_outline.specs.Facts.{entries_at, texts_of};
-ghost use Rattle.redo_page.specs.Failed.{article_of, article_parts, article_took, cause_of_node, cause_parts, no_failure_below, nothing_parts, output_parts, path_parts, whole_parts};
+ghost use Rattle.redo_page.specs.Article.{article_of, article_parts, article_took, cause_of_node, cause_parts, no_failure_below, nothing_parts, output_parts, path_parts, whole_parts};
 ghost use Rattle.redo_page.specs.Targets.{name_parts};
 ghost use Rattle.redo_outline.specs.Facts.{target_at};
 ghost use Rattle.redo_page.specs.Private.Writing.{WroteParts};
@@ -60,7 +61,7 @@ fn no_failure_below(below: usize) -> &'static [u8]
     if below == 0 { b"" } else { NO_FAILURE_BELOW }
 }
 
-#[tactic(auto, using(crate::proofs::WriterLemmas::wrote_then), unfolding(crate::specs::Failed::nothing_parts))]
+#[tactic(auto, using(crate::proofs::WriterLemmas::wrote_then), unfolding(crate::specs::Article::nothing_parts))]
 fn write_nothing<W: Sink>(node: &Node, page: &mut PageWriter<'_, W>)
     ensures { WroteParts W.written page.old page.new (nothing_parts node.now) }
 {
@@ -72,7 +73,7 @@ fn write_nothing<W: Sink>(node: &Node, page: &mut PageWriter<'_, W>)
     ])
 }
 
-#[tactic(auto, using(crate::proofs::WriterLemmas::wrote_then), unfolding(crate::specs::Failed::output_parts))]
+#[tactic(auto, using(crate::proofs::WriterLemmas::wrote_then), unfolding(crate::specs::Article::output_parts))]
 fn write_output<W: Sink>(
     table: &LogTable,
     position: usize,
@@ -92,8 +93,8 @@ fn write_output<W: Sink>(
 
 // ---- names
 
-/// Writes the name of the target of log `number`.
-pub fn write_target<W: Sink>(table: &LogTable, number: u32, page: &mut PageWriter<'_, W>)
+// Writes the name of the target of log `number`.
+fn write_target<W: Sink>(table: &LogTable, number: u32, page: &mut PageWriter<'_, W>)
     ensures { WroteParts W.written page.old page.new (name_parts (target_at table.now number)) }
 {
     write_name(target_at(table, number), page)
@@ -101,7 +102,7 @@ pub fn write_target<W: Sink>(table: &LogTable, number: u32, page: &mut PageWrite
 
 // ---- causes
 
-#[tactic(auto, using(crate::proofs::WriterLemmas::wrote_then), unfolding(crate::specs::Failed::cause_parts))]
+#[tactic(auto, using(crate::proofs::WriterLemmas::wrote_then), unfolding(crate::specs::Article::cause_parts))]
 fn write_cause_line<W: Sink>(cause: Option<&[u8]>, page: &mut PageWriter<'_, W>)
     ensures { WroteParts W.written page.old page.new (cause_parts (option_copied cause.entry)) }
 {
@@ -117,7 +118,7 @@ fn write_cause_line<W: Sink>(cause: Option<&[u8]>, page: &mut PageWriter<'_, W>)
 }
 
 /// Writes why a target failed, in one line.
-#[tactic(auto, using(crate::proofs::WriterLemmas::wrote_then), unfolding(crate::specs::Failed::cause_of_node))]
+#[tactic(auto, using(crate::proofs::WriterLemmas::wrote_then), unfolding(crate::specs::Article::cause_of_node))]
 pub fn write_cause<W: Sink>(table: &LogTable, node: &Node, page: &mut PageWriter<'_, W>)
     ensures { WroteParts W.written page.old page.new (cause_of_node table.now node.now) }
 {
@@ -128,7 +129,7 @@ pub fn write_cause<W: Sink>(table: &LogTable, node: &Node, page: &mut PageWriter
 // ---- articles
 
 // Writes the logs around a target, at most `levels` of them, the outermost first.
-#[tactic(auto, using(crate::proofs::WriterLemmas::wrote_then), unfolding(crate::specs::Failed::path_parts))]
+#[tactic(auto, using(crate::proofs::WriterLemmas::wrote_then), unfolding(crate::specs::Article::path_parts))]
 fn write_path<W: Sink>(
     table: &LogTable,
     nodes: &[Node],
@@ -189,9 +190,9 @@ fn write_article_of<W: Sink>(
     page.put(&[Piece::Markup(Markup::EndArticle)]);
 }
 
-/// Writes where the target at a position is, and what it printed.
-#[tactic(auto, using(crate::proofs::WriterLemmas::wrote_then), unfolding(crate::specs::Failed::article_parts))]
-pub fn write_article<W: Sink>(
+// Writes where the target at a position is, and what it printed.
+#[tactic(auto, using(crate::proofs::WriterLemmas::wrote_then), unfolding(crate::specs::Article::article_parts))]
+fn write_article<W: Sink>(
     table: &LogTable,
     nodes: &[Node],
     position: usize,
@@ -201,4 +202,18 @@ pub fn write_article<W: Sink>(
 {
     let node = node_at(nodes, position);
     write_article_of(table, nodes, position, &node, page)
+}
+
+/// Writes the articles of targets at these positions.
+pub fn write_articles<W: Sink>(
+    table: &LogTable,
+    nodes: &[Node],
+    positions: &[usize],
+    page: &mut PageWriter<'_, W>,
+)
+    ensures { WroteParts W.written page.old page.new (flat_map (article_parts table.now nodes.now) positions.now) }
+{
+    for position in positions {
+        write_article(table, nodes, *position, page);
+    }
 }

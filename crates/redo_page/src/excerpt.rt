@@ -1,55 +1,24 @@
 //! Excerpts of long outputs, and how a long line is cut.
 ghost use Rattle.std.specs.Prelude.{◌≡◌, ◌-◌, ◌<◌, ◌^◌, length};
 ghost use Rattle.redo_outline.specs.Facts.{entries_at, texts_of};
-ghost use Rattle.redo_page.specs.Excerpt.{cut_to, error_position, excerpt_line_end, excerpt_line_parts, excerpt_parts, in_tree_parts, is_continuation, is_kept, last_where, left_out_parts, may_cut};
-ghost use Rattle.redo_page.specs.Private.Excerpting.{better, change_parts, end_parts, first_error, kept_parts, open_after, open_count, step_parts};
+ghost use Rattle.redo_page.specs.Excerpt.{cut_to, error_position, excerpt_line_end, excerpt_line_parts, excerpt_parts, in_tree_parts, is_kept, left_out_parts};
+ghost use Rattle.redo_page.specs.Private.Excerpting.{change_parts, end_parts, first_error, kept_parts, open_after, open_count, step_parts};
 ghost use Rattle.redo_page.specs.Private.Writing.{WroteParts};
 
-use crate::cause::{WordState, is_error};
+use crate::cause::is_error;
 use crate::labels::{IN_ITS_LOG, MORE_LINE, MORE_LINES};
 use crate::printed::Printed;
 use crate::targets::plural;
 use crate::writer::PageWriter;
 use redo_device::Sink;
-use redo_html::{Markup, Piece, Style};
+use redo_html::{Markup, Piece, Style, cut_len};
 use redo_logs::LogTable;
 
 const MAX_EXCERPT_LINE: usize = 1000;
 
 // ---- cutting
 
-fn is_continuation(byte: u8) -> bool
-    ensures { result ≡ is_continuation byte }
-{
-    128 <= byte && byte < 192
-}
-
-// Returns the last index up to `limit` at which bytes may be cut. There must be more bytes.
-fn cut_len(limit: usize, bytes: &[u8]) -> usize
-    requires more { limit < length bytes.now }
-    ensures { result ≡ last_where (may_cut bytes.now) limit }
-{
-    let mut state = WordState::Outside;
-    let mut best = 0;
-    for at in 0..limit {
-        state = state.after(bytes[at]);
-        best = better(best, at + 1, state, bytes[at + 1]);
-    }
-    best
-}
-
-// Returns index `at` if bytes may be cut there, and otherwise the best index before it. `state` is the state before the next byte.
-fn better(best: usize, at: usize, state: WordState, next: u8) -> usize
-    ensures { result ≡ better best at state next }
-{
-    if !state.is_in_sequence() && !is_continuation(next) {
-        at
-    } else {
-        best
-    }
-}
-
-/// Returns the beginning of bytes, at most `limit` of them. No letter of UTF-8 is cut in two, and no sequence that sets colours.
+/// Returns the beginning of a text, at most `limit` bytes of it. No character and no sequence is cut in two.
 #[tactic(auto, using(crate::proofs::WriterLemmas::wrote_then), unfolding(crate::specs::Excerpt::cut_to))]
 pub fn cut_to(limit: usize, bytes: &[u8]) -> &[u8]
     ensures { result.now ≡ cut_to limit bytes.now }

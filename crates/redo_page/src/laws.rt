@@ -189,15 +189,17 @@ pub fn lines_are_shown()
     head_and_tail_are_kept();
 }
 
-/// Logs that have too many bytes together are cut at the highest cap at which they show at most `budget` bytes.
+/// Logs that have too many bytes together are cut at the highest cap at which they show at most `budget` bytes, or at 4,096 if that cap
+/// is lower. These clauses are about the cap before it is raised.
 pub fn cap_is_highest()
     ensures fits { (budget : ℕ) (nodes : List Node) → bytes_shown (Some (highest_cap budget nodes)) nodes ≤ budget }
     ensures highest { (budget cap : ℕ) (nodes : List Node) → highest_cap budget nodes < cap → cap ≤ budget →
         budget < bytes_shown (Some cap) nodes }
 {}
 
-/// Each tag of a page is its own: none comes from a log or a name. The tags of the tree depend only on the outline, on which kind each event
-/// is, on numbers and on the lengths of text lines: they stay the same if targets are renamed, and notes and text lines are blanked.
+/// Each tag of a page is one of a page's own tags. The tags of the tree depend only on the outline, on which kind each event is, on numbers
+/// and on the lengths of text lines: they stay the same if targets are renamed, and notes and text lines are blanked. That no tag comes from
+/// a log or a name follows from `page_is_read` and `passages_are_read_as_shown`.
 pub fn tags_are_its_own()
     ensures tags { (request : Request) (logs : List Log) (requested : List (List ℕ)) →
         All IsOwnTag (tags_of (read (page_html request logs requested))) }

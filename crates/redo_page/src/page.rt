@@ -10,19 +10,18 @@ ghost use Rattle.redo_outline.specs.Contents.{contents_of};
 ghost use Rattle.redo_outline.specs.Outline.{log_count};
 ghost use Rattle.redo_view.specs.Expansion.{shown_events};
 ghost use Rattle.redo_page.specs.Frame.{footer_parts};
-ghost use Rattle.redo_page.specs.Tree.{articles};
-ghost use Rattle.redo_page.specs.Failed.{AreFailures};
+ghost use Rattle.redo_page.specs.Tree.{articles, root_failures};
 ghost use Rattle.redo_page.specs.Page.{body_parts, options_of, page_html, page_outline, request_of, run_times, top_parts};
 ghost use Rattle.redo_summary.specs.Targets.{time_between};
-ghost use Rattle.redo_page.specs.Private.PageTexts.{AreTexts};
+ghost use Rattle.redo_page.specs.Private.PageTexts.{AreFailures, AreTexts};
 ghost use Rattle.redo_page.specs.Private.Viewing.{view_of};
 ghost use Rattle.redo_page.specs.Private.Writing.{WroteParts};
 
 use crate::command::command;
-use crate::failed::{Failures, MAX_ARTICLES, find_failures, first_of, write_failed};
+use crate::failed::{FAILURES, Failures, find_failures};
 use crate::frame::{FOOTER, HEAD, HEADER};
 use crate::nodes::NO_NODE;
-use crate::scope::Scope;
+use crate::scope::{Listed, Scope};
 use crate::summary::SECTION;
 use crate::template::{Block, write_template};
 use crate::timeline::write_timeline;
@@ -155,14 +154,16 @@ fn write_outlined<W: Sink>(
     let summary = Summary::new(alloc, nodes, request.times)?;
     let roots = failures.roots.as_slice();
     let dependents = failures.dependents.as_slice();
+    let unclosed = failures.unclosed.as_slice();
     let scope = Scope {
         request,
         texts: &texts,
         table,
         nodes,
         facts: &summary,
-        roots: roots.len(),
-        dependents: dependents.len(),
+        roots,
+        dependents,
+        unclosed,
         rank: Rank {
             value: 0,
             position: 0,
@@ -170,7 +171,7 @@ fn write_outlined<W: Sink>(
         largest: 0,
         node: NO_NODE,
     };
-    write_stages(alloc, &scope, options, requested, outline, &failures, out)
+    write_stages(alloc, &scope, options, requested, outline, out)
 }
 
 // Writes a page up to the timeline, then the timeline and the tree, and then the rest.
@@ -180,21 +181,20 @@ fn write_stages<W: Sink>(
     options: &Options,
     requested: &[TargetName],
     outline: &Outline,
-    failures: &Failures,
     out: &mut W,
 ) -> Result<(), FormFault>
     requires ended { list_all has_ended scope.now.table.now ≡ true }
     requires known { find_unknown scope.now.table.now requested.now ≡ None }
     requires nodes { scope.now.nodes.now ≡ outline.now }
     requires count { length outline.now ≡ log_count (contents_of (shown_events scope.now.table.now options.now requested.now)) }
-    requires failures { AreFailures scope.now.nodes.now failures.now }
+    requires roots { scope.now.roots.now ≡ root_failures outline.now }
     ensures { FormWrites (W.written out.old) (W.written out.new)
         (flat_map part_html (top_parts (view_of scope.now)
         ++ (body_parts (view_of scope.now) options.now scope.now.request.now.max_bytes requested.now ++ footer_parts (view_of scope.now))))
         result }
 {
-    write_top(scope, failures, out)?;
-    let articles = first_of(MAX_ARTICLES, failures.roots.as_slice());
+    write_top(scope, out)?;
+    let articles = scope.positions(Listed::Articles);
     write_body(alloc, scope, options, requested, outline, articles, out)?;
     write_template(&FOOTER, scope, out)?;
     Ok(())
@@ -280,21 +280,19 @@ fn options_of(request: &PageRequest<'_>) -> Options
 }
 
 // Writes everything before the timeline.
-fn write_top<W: Sink>(scope: &Scope<'_>, failures: &Failures, out: &mut W) -> Result<(), Broken>
-    requires { AreFailures scope.now.nodes.now failures.now }
+fn write_top<W: Sink>(scope: &Scope<'_>, out: &mut W) -> Result<(), Broken>
     ensures { Writes (W.written out.old) (W.written out.new) (flat_map part_html (top_parts (view_of scope.now))) result }
 {
     let mut page = PageWriter::new(out);
-    write_top_parts(scope, failures, &mut page);
+    write_top_parts(scope, &mut page);
     page.result()
 }
 
-fn write_top_parts<W: Sink>(scope: &Scope<'_>, failures: &Failures, page: &mut PageWriter<'_, W>)
-    requires { AreFailures scope.now.nodes.now failures.now }
+fn write_top_parts<W: Sink>(scope: &Scope<'_>, page: &mut PageWriter<'_, W>)
     ensures { WroteParts W.written page.old page.new (top_parts (view_of scope.now)) }
 {
     HEAD.write(scope, page);
     HEADER.write(scope, page);
-    write_failed(scope.table, scope.nodes, failures, page);
+    FAILURES.write(scope, page);
     SECTION.write(scope, page);
 }

@@ -1,11 +1,12 @@
 //! What templates say about a build: the values of their holes.
-ghost use Rattle.std.specs.Prelude.{◌≡◌};
+ghost use Rattle.std.specs.Prelude.{◌≡◌, take};
 ghost use Rattle.redo_page.specs.Private.Viewing.{view_of};
 ghost use Rattle.redo_page.specs.Private.Writing.{WroteParts};
-ghost use Rattle.redo_page.specs.Scope.{began_parts, count_of, date_parts, holds, largest_of, measure_words, meter_of, known_count, phrase_text, row_name, row_view, rows_of, shown_longest, target_view};
+ghost use Rattle.redo_page.specs.Scope.{began_parts, count_of, date_parts, holds, largest_of, max_rows, measure_words, meter_of, known_count, phrase_text, position_view, positions_of, row_name, row_view, rows_of, shown_longest, target_view};
 ghost use Rattle.redo_page.specs.Words.{words_parts};
 ghost use Rattle.redo_units.specs.Dates.{date_text_of};
 
+use crate::failed::{MAX_ARTICLES, MAX_ROWS, first_of, others_of};
 use crate::labels::{LOG_IN, LOGS_IN, MIDDLE_DOT};
 use crate::nodes::node_at;
 use crate::page::{PageRequest, Texts};
@@ -38,6 +39,10 @@ pub enum Count {
     Known,
     /// The row's value.
     Value,
+    /// All of these targets.
+    All(Listed),
+    /// The targets of a list that it doesn't name.
+    Unlisted(Listed),
 }
 
 /// A number with a unit in a template.
@@ -99,6 +104,12 @@ pub enum Test {
     HasLongest,
     /// A target has warnings.
     HasWarned,
+    /// There is one of these targets.
+    HasAny(Listed),
+    /// There is more than one of them.
+    HasSeveral(Listed),
+    /// Their list doesn't name all of them.
+    HasUnlisted(Listed),
 }
 
 /// The rows of a table.
@@ -110,6 +121,19 @@ pub enum Rows {
     Warned,
 }
 
+/// Targets that are in one list.
+#[derive(Clone, Copy)]
+pub enum Listed {
+    /// Failed targets without a failure below them, as far as they have articles.
+    Articles,
+    /// The others of these.
+    Others,
+    /// Failed targets above these.
+    Dependents,
+    /// Targets at the ends of paths that have no record of how they ended.
+    Unclosed,
+}
+
 /// What a template says something about: what the page was asked, the targets of a build, what is known of them, and a row of a table.
 #[derive(Clone, Copy)]
 pub struct Scope<'a> {
@@ -118,9 +142,10 @@ pub struct Scope<'a> {
     pub table: &'a LogTable,
     pub nodes: &'a [Node],
     pub facts: &'a Summary,
-    /// The numbers of failed targets without a failure below them, and of those above them.
-    pub roots: usize,
-    pub dependents: usize,
+    /// The positions of failed targets without a failure below them, of those above them, and of those that aren't closed.
+    pub roots: &'a [usize],
+    pub dependents: &'a [usize],
+    pub unclosed: &'a [usize],
     /// The row, the largest value in its table, and its target.
     pub rank: Rank,
     pub largest: u64,
@@ -134,13 +159,17 @@ impl<'a> Scope<'a> {
     {
         match count {
             Count::Targets => self.nodes.len() as u64,
-            Count::Roots => self.roots as u64,
-            Count::Dependents => self.dependents as u64,
+            Count::Roots => self.roots.len() as u64,
+            Count::Dependents => self.dependents.len() as u64,
             Count::Warnings => self.facts.warnings(),
             Count::Most => self.facts.most() as u64,
             Count::Unknown => self.facts.marks().len() as u64,
             Count::Known => known_count(self.facts),
             Count::Value => self.rank.value,
+            Count::All(listed) => self.positions(listed).len() as u64,
+            Count::Unlisted(listed) => {
+                self.positions(listed).len().saturating_sub(MAX_ROWS) as u64
+            }
         }
     }
 
@@ -194,8 +223,8 @@ impl<'a> Scope<'a> {
         match test {
             Test::HasTitle => !self.request.title.is_empty(),
             Test::IsRequested => self.node.parent.is_none(),
-            Test::HasFailed => self.roots > 0,
-            Test::HasDependents => self.dependents != 0,
+            Test::HasFailed => self.roots.len() > 0,
+            Test::HasDependents => !self.dependents.is_empty(),
             Test::HasWindow => self.facts.window().is_some(),
             Test::IsTimed => self.facts.is_timed(),
             Test::HasKnown => known_count(self.facts) != 0,
@@ -206,6 +235,9 @@ impl<'a> Scope<'a> {
             }
             Test::HasLongest => !shown_longest(self.facts).is_empty(),
             Test::HasWarned => !self.facts.warned().is_empty(),
+            Test::HasAny(listed) => !self.positions(listed).is_empty(),
+            Test::HasSeveral(listed) => self.positions(listed).len() > 1,
+            Test::HasUnlisted(listed) => self.positions(listed).len() > MAX_ROWS,
         }
     }
 
@@ -236,6 +268,36 @@ impl<'a> Scope<'a> {
         ensures { view_of result ≡ target_view (view_of self.now) node }
     {
         Scope { node, ..*self }
+    }
+
+    /// Returns the positions of these targets.
+    pub fn positions(&self, listed: Listed) -> &'a [usize]
+        ensures { result.now ≡ positions_of (view_of self.now) listed }
+    {
+        match listed {
+            Listed::Articles => first_of(MAX_ARTICLES, self.roots),
+            Listed::Others => others_of(MAX_ARTICLES, self.roots),
+            Listed::Dependents => self.dependents,
+            Listed::Unclosed => self.unclosed,
+        }
+    }
+
+    /// Returns the positions of those that their list names.
+    pub fn listed(&self, listed: Listed) -> &'a [usize]
+        ensures { result.now ≡ take max_rows (positions_of (view_of self.now) listed) }
+    {
+        first_of(MAX_ROWS, self.positions(listed))
+    }
+
+    /// Returns the scope of the target at a position.
+    pub fn at_position(&self, position: usize) -> Scope<'a>
+        ensures { view_of result ≡ position_view (view_of self.now) position }
+    {
+        Scope {
+            rank: Rank { value: 0, position },
+            node: node_at(self.nodes, position),
+            ..*self
+        }
     }
 
     /// Returns the name of the row's target.

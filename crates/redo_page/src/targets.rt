@@ -1,7 +1,7 @@
 //! How targets are shown: names, statuses and counts.
 ghost use Rattle.std.specs.Prelude.{◌≡◌};
 ghost use Rattle.redo_page.specs.Private.Writing.{WroteParts};
-ghost use Rattle.redo_page.specs.Targets.{name_parts, sign, magnitude, exit_parts, badge_parts, plural, lines_parts, warnings_parts, below_parts, warnings_below_parts, facts_parts, how_word, how_parts, linked_parts, took_parts};
+ghost use Rattle.redo_page.specs.Targets.{article_link_parts, name_parts, sign, magnitude, exit_parts, badge_parts, plural, lines_parts, warnings_parts, below_parts, warnings_below_parts, facts_parts, how_word, how_parts, linked_parts, took_parts};
 
 use crate::labels::{
     BELOW, EXIT, FACT_DOT, LINE, LINES, LOCKED, MADE, NOT_CLOSED, UNCHANGED, UNLOCKED, WAITING,
@@ -40,6 +40,19 @@ pub fn write_linked<W: Sink>(position: Option<usize>, name: &[u8], page: &mut Pa
             Piece::Markup(Markup::EndLink),
         ]),
     }
+}
+
+/// Writes a name that leads to the article of the target at a position.
+pub fn write_article_link<W: Sink>(position: usize, name: &[u8], page: &mut PageWriter<'_, W>)
+    ensures { WroteParts W.written page.old page.new (article_link_parts position name.now) }
+{
+    page.put(&[
+        Piece::Markup(Markup::OutputLink(position as u64)),
+        Piece::Markup(Markup::Bdi),
+        Piece::Text(name),
+        Piece::Markup(Markup::EndBdi),
+        Piece::Markup(Markup::EndLink),
+    ])
 }
 
 /// Returns the sign of a status, if it is negative.

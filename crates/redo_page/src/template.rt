@@ -1,15 +1,16 @@
 //! Templates: a section of a page as data, and the function that writes it.
-ghost use Rattle.std.specs.Prelude.{◌≡◌, ℕ, List};
+ghost use Rattle.std.specs.Prelude.{◌≡◌, ℕ, List, take};
 ghost use Rattle.std.specs.List.{flat_map};
 ghost use Rattle.redo_device.specs.Sink.{Writes};
 ghost use Rattle.redo_html.specs.Parts.{Part, part_html};
 ghost use Rattle.redo_page.specs.Private.Viewing.{view_of};
 ghost use Rattle.redo_page.specs.Private.Writing.{WroteParts};
-ghost use Rattle.redo_page.specs.Scope.{View, row_view, target_view};
+ghost use Rattle.redo_page.specs.Scope.{View, max_rows, position_view, positions_of, row_view, target_view};
 ghost use Rattle.redo_page.specs.Template.{around_parts, parts_of_item, parts_of_items, nothing, tile_end, tile_start};
 
-use crate::scope::{Count, Measure, Phrase, Rows, Scope, Test};
-use crate::targets::{write_badge, write_linked, write_name};
+use crate::article::{write_articles, write_cause};
+use crate::scope::{Count, Listed, Measure, Phrase, Rows, Scope, Test};
+use crate::targets::{write_article_link, write_badge, write_linked, write_name};
 use crate::writer::PageWriter;
 use redo_device::{Broken, Sink};
 use redo_html::{Markup, Piece};
@@ -18,11 +19,11 @@ use redo_summary::Rank;
 /// A template. Its items contain others, up to four levels deep.
 pub type Template = &'static [Item<&'static [u8], Block3>];
 
-type Block3 = &'static [Item<&'static [u8], Block2>];
+pub type Block3 = &'static [Item<&'static [u8], Block2>];
 
-type Block2 = &'static [Item<&'static [u8], Block1>];
+pub type Block2 = &'static [Item<&'static [u8], Block1>];
 
-type Block1 = &'static [Item<&'static [u8], ()>];
+pub type Block1 = &'static [Item<&'static [u8], ()>];
 
 /// What a template consists of. `T` is a text, and `B` is what an item contains.
 #[derive(Clone, Copy)]
@@ -53,8 +54,14 @@ pub enum Item<T, B> {
     Name,
     /// The name of the row's target, which leads to the target in the tree.
     Link,
+    /// The name of the row's target, which leads to its article.
+    ArticleLink,
     /// The badge of the row's target.
     Badge,
+    /// Why the row's target failed.
+    Cause,
+    /// The articles of targets that failed.
+    Articles,
     /// A meter that shows how large the row's value is.
     Meter,
     /// What is shown if something holds, or for each row of a table.
@@ -72,6 +79,8 @@ pub enum Around {
     Each(Rows),
     /// Once for each target, in the order of the tree.
     EachTarget,
+    /// Once for each of these targets, as far as their list names them.
+    EachOf(Listed),
 }
 
 /// What an item can contain.
@@ -150,7 +159,15 @@ fn write_item<T: Label, B: Block, W: Sink>(
         Item::Measure(measure) => scope.write_measure(*measure, page),
         Item::Name => write_name(scope.name(), page),
         Item::Link => write_linked(Some(scope.rank.position), scope.name(), page),
+        Item::ArticleLink => write_article_link(scope.rank.position, scope.name(), page),
         Item::Badge => write_badge(scope.node.status, page),
+        Item::Cause => write_cause(scope.table, &scope.node, page),
+        Item::Articles => write_articles(
+            scope.table,
+            scope.nodes,
+            scope.positions(Listed::Articles),
+            page,
+        ),
         Item::Meter => page.put(&[Piece::Meter(scope.meter())]),
         Item::In(around, block) => write_in(*around, block, scope, page),
     }
@@ -198,6 +215,7 @@ fn write_in<B: Block, W: Sink>(
         }
         Around::Each(rows) => write_each(scope.rows(rows), block, scope, page),
         Around::EachTarget => write_each_target(block, scope, page),
+        Around::EachOf(listed) => write_each_of(scope.listed(listed), block, scope, page),
     }
 }
 
@@ -221,6 +239,20 @@ fn write_each_target<B: Block, W: Sink>(block: &B, scope: &Scope<'_>, page: &mut
 {
     for node in scope.nodes {
         block.write(&scope.at_target(*node), page);
+    }
+}
+
+fn write_each_of<B: Block, W: Sink>(
+    positions: &[usize],
+    block: &B,
+    scope: &Scope<'_>,
+    page: &mut PageWriter<'_, W>,
+)
+    ensures { WroteParts W.written page.old page.new
+        (flat_map (λ position. B.parts block.now (position_view (view_of scope.now) position)) positions.now) }
+{
+    for position in positions {
+        block.write(&scope.at_position(*position), page);
     }
 }
 

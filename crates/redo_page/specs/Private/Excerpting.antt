@@ -5,18 +5,13 @@ use Rattle.redo_html.specs.Parts.{Part}
 use Rattle.redo_html.specs.Parts.Part.{MarkupPart}
 use Rattle.redo_page.specs.declared.excerpt.OpenStretch.{OpenStretch}
 use Rattle.redo_page.specs.declared.excerpt.OpenStretch.TheVariants.{Nothing, Shown, LeftOut}
-use Rattle.redo_page.specs.declared.cause.WordState.{WordState}
-use Rattle.redo_page.specs.Errors.{is_error, is_in_sequence}
-use Rattle.redo_page.specs.Excerpt.{excerpt_line_parts, is_continuation, left_out_parts}
+use Rattle.redo_page.specs.Errors.{is_error}
+use Rattle.redo_page.specs.Excerpt.{excerpt_line_parts, left_out_parts}
 
 -- The position of the first line that reports an error, after one more line.
 abbrev pub first_error : Option ℕ → ℕ → List ℕ → Option ℕ
 first_error (Some error) at line = Some error
 first_error None at line = if is_error line then Some at else None
-
--- The best index to cut at, after one more byte. `state` is the state before the next byte.
-abbrev pub better : ℕ → ℕ → WordState → ℕ → ℕ
-better best at state next = if not (is_in_sequence state) && not (is_continuation next) then at else best
 
 -- The stretch that is open after one more line.
 abbrev pub open_after : OpenStretch → Bool → OpenStretch

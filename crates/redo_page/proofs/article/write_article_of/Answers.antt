@@ -1,4 +1,4 @@
-use Rattle.redo_page.specs.Failed.{article_of}
+use Rattle.redo_page.specs.Article.{article_of}
 use Rattle.redo_page.proofs.WriterLemmas.{wrote_then}
 use Rattle.redo_page.proofs.article.write_article_of.Goals as goal
 

@@ -1,4 +1,4 @@
-use Rattle.redo_page.specs.Failed.{whole_parts}
+use Rattle.redo_page.specs.Article.{whole_parts}
 use Rattle.redo_page.proofs.WriterLemmas.{wrote_then}
 use Rattle.redo_page.proofs.article.write_whole.Goals as goal
 

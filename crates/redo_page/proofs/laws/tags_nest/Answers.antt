@@ -5,14 +5,15 @@ use Rattle.std.proofs.lemmas.List.{append-nil}
 use Rattle.redo_logs.specs.Logs.{Log}
 use Rattle.redo_html.specs.Html.{nests_in, tags_of}
 use Rattle.redo_html.specs.Parts.{part_tokens}
+use Rattle.redo_page.specs.declared.failed.TheConstants.{FAILURES}
 use Rattle.redo_page.specs.declared.frame.TheConstants.{FOOTER, HEAD, HEADER}
 use Rattle.redo_page.specs.declared.summary.TheConstants.{SECTION}
+use Rattle.redo_page.specs.Failed.{failed_parts}
 use Rattle.redo_page.specs.Frame.{footer_parts}
 use Rattle.redo_page.specs.Page.{Request, options_of, page_contents, page_parts, page_view, top_parts}
 use Rattle.redo_page.specs.Scope.{View}
 use Rattle.redo_page.specs.Summary.{summary_parts}
 use Rattle.redo_page.proofs.Nesting.{Leads, Nest, lead_in, then_lead}
-use Rattle.redo_page.proofs.FailedNesting.{failed_nests}
 use Rattle.redo_page.proofs.TemplateNesting.{template_leads}
 use Rattle.redo_page.proofs.TimelineLemmas.{timeline_nests}
 use Rattle.redo_page.proofs.TreeNesting.{tree_nests}
@@ -26,10 +27,10 @@ abbrev main : List (List ℕ)
 main = codes "main" ∷ body
 
 top_leads : (view : View) → Leads [] (top_parts view) main
-unfolding top_parts summary_parts
+unfolding top_parts failed_parts summary_parts
 top_leads view =
     then_lead (template_leads HEAD view [] body refl) (then_lead (template_leads HEADER view body main refl)
-    (then_lead (lead_in main (failed_nests view.logs view.nodes)) (template_leads SECTION view main main refl)))
+    (then_lead (template_leads FAILURES view main main refl) (template_leads SECTION view main main refl)))
 
 page_nests : (request : Request) (logs : List Log) (requested : List (List ℕ)) → Nest (page_parts request logs requested)
 unfolding page_parts footer_parts

@@ -1,6 +1,6 @@
 use Rattle.std.proofs.Common.{◌≡◌, ℕ, ◌-◌, ◌≤◌, List}
 use Rattle.redo_outline.specs.declared.node.Node.{Node}
-use Rattle.redo_page.specs.Excerpt.{last_where}
+use Rattle.redo_html.specs.Cut.{last_where}
 use Rattle.redo_page.proofs.LimitLemmas.{fits}
 use Rattle.redo_page.proofs.limits.highest_cap.Given as goal
 

@@ -32,9 +32,10 @@ returns g c =
     let nodes = c.nodes-nodes.result.now in
     let roots = c.as_slice-roots.ensures.value ∙ c.in_ok-failures.ensures.roots in
     let dependents = c.as_slice-dependents.ensures.value ∙ c.in_ok-failures.ensures.dependents in
+    let unclosed = c.as_slice-unclosed.ensures.value ∙ c.in_ok-failures.ensures.unclosed in
     let is = view_is request c.args.options.now logs requested nodes c.in_ok-texts.texts c.in_ok-summary.summary
-    (length c.as_slice-roots.result.now) (length c.as_slice-dependents.result.now) c.requires.options
-    (c.nodes-nodes.ensures ∙ c.requires.outline) c.in_ok-summary.ensures c.in_ok-texts.ensures (ap length roots) (ap length dependents) in
+    c.as_slice-roots.result.now c.as_slice-dependents.result.now c.as_slice-unclosed.result.now c.requires.options
+    (c.nodes-nodes.ensures ∙ c.requires.outline) c.in_ok-summary.ensures c.in_ok-texts.ensures roots dependents unclosed in
     subst (λ text. FormWrites (g.W.Sink.written c.args.out.now) (g.W.Sink.written c.write_stages.new.out) text c.write_stages.result)
     (λ i. flat_map part_html
     (top_parts (is i) ++ (body_parts (is i) (c.requires.options i) request.max_bytes requested ++ footer_parts (is i))))

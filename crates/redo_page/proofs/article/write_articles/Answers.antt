@@ -1,6 +1,6 @@
-use Rattle.redo_page.specs.Failed.{article_parts}
+use Rattle.redo_page.specs.Article.{article_parts}
 use Rattle.redo_page.proofs.WriterLemmas.{wrote_next}
-use Rattle.redo_page.proofs.failed.write_articles.Goals as goal
+use Rattle.redo_page.proofs.article.write_articles.Goals as goal
 
 pub loop-position-preserved : goal.loop-position-preserved
 loop-position-preserved g c = wrote_next

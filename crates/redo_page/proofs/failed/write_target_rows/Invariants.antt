@@ -1,9 +1,0 @@
-use Rattle.std.proofs.Common.{take}
-use Rattle.std.specs.List.{flat_map}
-use Rattle.redo_page.specs.Failed.{target_row}
-use Rattle.redo_page.specs.Private.Writing.{WroteParts}
-use Rattle.redo_page.proofs.failed.write_target_rows.Given as goal
-
-abbrev pub invariant-loop-position : goal.invariant-loop-position
-invariant-loop-position g l = WroteParts g.W.Sink.written l.initial.page l.page
-    (flat_map (target_row l.table l.nodes l.causes) (take l.position-index l.positions))

@@ -1,0 +1,89 @@
+-- What targets that failed printed, why they failed, and their articles.
+use Rattle.std.specs.Prelude.{ℕ, zero, suc, ◌==◌, List, [], ◌∷◌, ◌++◌, Option, None, Some, codes, if◌then◌else◌}
+use Rattle.redo_logs.specs.Logs.{Log}
+use Rattle.redo_html.specs.declared.markup.Markup.TheVariants as markup
+use Rattle.redo_html.specs.Lines.{line_parts}
+use Rattle.redo_html.specs.Parts.{Part}
+use Rattle.redo_html.specs.Parts.Part.{MarkupPart, LogPart, TextPart}
+use Rattle.redo_html.specs.Style.{plain_style}
+use Rattle.redo_outline.specs.declared.node.Node.{Node}
+use Rattle.redo_outline.specs.Facts.{entries_at, target_at, texts_of}
+use Rattle.redo_page.specs.declared.labels.TheConstants.{MIDDLE_DOT, MORE_ABOVE, NOTHING_CAPTURED, NO_FAILURE_BELOW, PATH_SEPARATOR, PLACE_IN_TREE}
+use Rattle.redo_page.specs.Errors.{cause_of}
+use Rattle.redo_page.specs.Excerpt.{cut_to, excerpt_parts, in_tree_parts}
+use Rattle.redo_page.specs.Targets.{name_parts, badge_parts}
+use Rattle.redo_page.specs.Tree.{is_short, node_at}
+use Rattle.redo_page.specs.Words.{words_parts}
+use Rattle.redo_units.specs.Durations.{duration_words}
+
+-- ---- outputs
+
+-- The whole output of a target, in one block. The style at the end of a line goes on in the next one.
+unfoldable pub whole_parts : List (List ℕ) → List Part
+whole_parts lines = MarkupPart markup.Pre ∷ (line_parts plain_style lines ++ MarkupPart markup.EndPre ∷ [])
+
+abbrev pub no_failure_below : ℕ → List ℕ
+no_failure_below below = if below == 0 then [] else NO_FAILURE_BELOW.now
+
+-- Instead of the output of a target that printed nothing.
+unfoldable pub nothing_parts : Node → List Part
+nothing_parts node =
+    MarkupPart markup.QuietParagraph ∷ TextPart NOTHING_CAPTURED.now ∷ TextPart (no_failure_below node.below) ∷ MarkupPart markup.EndParagraph ∷ []
+
+-- ---- causes
+
+abbrev pub max_cause : ℕ
+max_cause = 160
+
+-- Why a target failed, in one line.
+unfoldable pub cause_parts : Option (List ℕ) → List Part
+cause_parts None = []
+cause_parts (Some line) = TextPart (codes " ") ∷ MarkupPart markup.Code ∷ LogPart plain_style (cut_to max_cause line) ∷ MarkupPart markup.EndCode ∷ []
+
+module _ (logs : List Log) where
+  -- What a target printed.
+  abbrev pub printed_by : Node → List (List ℕ)
+  printed_by node = texts_of (entries_at node.number logs)
+
+  abbrev pub name_of : Node → List ℕ
+  name_of node = target_at logs node.number
+
+  unfoldable pub output_parts : ℕ → Node → List Part
+  output_parts position node =
+      if node.lines == 0 then nothing_parts node
+      else if is_short node then whole_parts (printed_by node)
+      else excerpt_parts position (printed_by node)
+
+  unfoldable pub cause_of_node : Node → List Part
+  cause_of_node node = cause_parts (cause_of (printed_by node))
+
+-- How long a target took, before its path.
+abbrev pub article_took : Option ℕ → List Part
+article_took None = []
+article_took (Some ms) = words_parts (duration_words ms) ++ (TextPart MIDDLE_DOT.now ∷ [])
+
+module _ (logs : List Log) (nodes : List Node) where
+  -- The logs around a target, at most `levels` of them, the outermost first, with `›` (U+203A) after each; `…` (U+2026) if there are more.
+  unfoldable pub path_parts : ℕ → Option ℕ → List Part
+  path_parts levels None = []
+  path_parts zero (Some position) = TextPart MORE_ABOVE.now ∷ []
+  path_parts (suc levels) (Some position) =
+      path_parts levels (node_at nodes position).parent ++ (name_parts (name_of logs (node_at nodes position)) ++ TextPart PATH_SEPARATOR.now ∷ [])
+
+  abbrev pub max_path : ℕ
+  max_path = 4
+
+  unfoldable pub article_of : ℕ → Node → List Part
+  article_of position node =
+      MarkupPart (markup.Article position) ∷ MarkupPart markup.Title3
+      ∷ (name_parts (name_of logs node)
+      ++ (badge_parts node.status
+      ++ (MarkupPart markup.EndTitle3 ∷ MarkupPart markup.MetaParagraph
+      ∷ (article_took node.took
+      ++ (path_parts max_path node.parent
+      ++ (in_tree_parts position PLACE_IN_TREE.now
+      ++ (MarkupPart markup.EndParagraph ∷ (output_parts logs position node ++ MarkupPart markup.EndArticle ∷ []))))))))
+
+  -- Where a target that failed is, and what it printed.
+  unfoldable pub article_parts : ℕ → List Part
+  article_parts position = article_of position (node_at nodes position)
