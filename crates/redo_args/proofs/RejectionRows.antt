@@ -7,30 +7,24 @@ use Rattle.clap.specs.declared.error.kind.ErrorKind.TheVariants as kind
 use Rattle.redo_args.specs.CommandLine.{redo_log}
 use Rattle.redo_args.specs.Rejection.{kinds_of, rejected_within, rejection}
 
-record Row : Type 0 where
-  words : List (List ℕ)
-  text_is : List ℕ
-
-abbrev rejected : List (List ℕ) → List ℕ → Row
-rejected words text = record { words = words; text_is = text }
-
-abbrev rejections : List Row
+-- Rejected arguments, each with the text about them.
+abbrev rejections : List (List (List ℕ) × List ℕ)
 rejections =
-    rejected [] (codes "no target") ∷
-    rejected (codes "-r" ∷ codes "--dir" ∷ codes "d" ∷ []) (codes "no target") ∷
-    rejected (codes "--recursiv" ∷ codes "all" ∷ []) (codes "unknown option '--recursiv'") ∷
-    rejected (codes "all" ∷ codes "-rx" ∷ codes "b" ∷ []) (codes "unknown option '-rx'") ∷
-    rejected (codes "--senders" ∷ codes "100" ∷ codes "all" ∷ []) (codes "--senders 100: not in 1 to 64") ∷
-    rejected (codes "all" ∷ codes "--senders=0" ∷ []) (codes "--senders=0: not in 1 to 64") ∷
-    rejected (codes "--capacity" ∷ codes "-" ∷ codes "all" ∷ []) (codes "--capacity -: not in 1 to 65536") ∷
-    rejected (codes "--senders" ∷ codes "3" ∷ codes "--dir" ∷ []) (codes "--dir: a value is missing") ∷
-    rejected (codes "--dir" ∷ codes "-r" ∷ codes "all" ∷ []) (codes "--dir: a value is missing") ∷
-    rejected (codes "-r" ∷ codes "all" ∷ codes "-r" ∷ codes "b" ∷ []) (codes "-r: this option is given twice") ∷
-    rejected (codes "--dir" ∷ codes "a" ∷ codes "--dir" ∷ codes "b" ∷ codes "all" ∷ []) (codes "--dir b: this option is given twice") ∷
-    rejected (codes "--recursive=yes" ∷ codes "all" ∷ []) (codes "--recursive=yes: this option takes no value") ∷
+    ([], codes "no target") ∷
+    (codes "-r" ∷ codes "--dir" ∷ codes "d" ∷ [], codes "no target") ∷
+    (codes "--recursiv" ∷ codes "all" ∷ [], codes "unknown option '--recursiv'") ∷
+    (codes "all" ∷ codes "-rx" ∷ codes "b" ∷ [], codes "unknown option '-rx'") ∷
+    (codes "--senders" ∷ codes "100" ∷ codes "all" ∷ [], codes "--senders 100: not in 1 to 64") ∷
+    (codes "all" ∷ codes "--senders=0" ∷ [], codes "--senders=0: not in 1 to 64") ∷
+    (codes "--capacity" ∷ codes "-" ∷ codes "all" ∷ [], codes "--capacity -: not in 1 to 65536") ∷
+    (codes "--senders" ∷ codes "3" ∷ codes "--dir" ∷ [], codes "--dir: a value is missing") ∷
+    (codes "--dir" ∷ codes "-r" ∷ codes "all" ∷ [], codes "--dir: a value is missing") ∷
+    (codes "-r" ∷ codes "all" ∷ codes "-r" ∷ codes "b" ∷ [], codes "-r: this option is given twice") ∷
+    (codes "--dir" ∷ codes "a" ∷ codes "--dir" ∷ codes "b" ∷ codes "all" ∷ [], codes "--dir b: this option is given twice") ∷
+    (codes "--recursive=yes" ∷ codes "all" ∷ [], codes "--recursive=yes: this option takes no value") ∷
     []
 
-these_rejections : AllByRecursion (λ row. rejection redo_log row.words ≡ row.text_is) rejections
+these_rejections : AllByRecursion (λ row. rejection redo_log row.0 ≡ row.1) rejections
 unfolding redo_log clap_on_literals rejected_within
 these_rejections = (refl, (refl, (refl, (refl, (refl, (refl, (refl, (refl, (refl, (refl, (refl, (refl, tt))))))))))))
 

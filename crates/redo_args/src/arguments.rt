@@ -1,4 +1,7 @@
 //! Options of a command line for `clap`, which programs share.
+//!
+//! This module and the proofs `ParseLemmas`, `OneKind` and `Getters` are for any command without subcommands: `redo_html_args`
+//! uses them, too. `clap` checks the range of numbers, so a number out of range is rejected like any bad argument.
 ghost use Rattle.std.specs.Prelude.{◌≡◌, codes, false, IfOk, map};
 ghost use Rattle.std.specs.List.{AllByRecursion};
 ghost use Rattle.clap.specs.Simple.{app_of};

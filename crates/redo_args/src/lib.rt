@@ -1,5 +1,8 @@
 //! The command line: the job that its arguments describe, or why they describe none; and the help text.
 //! [`arguments`] has what the command lines of other programs share. [`explain_rejection`] says why arguments are rejected.
+//!
+//! The crate depends only on `clap` and `redo_options`, and is proved while the first crates are. As a part of the command, it
+//! made every process that proves the command load `clap`'s contracts.
 #![tactic(auto)]
 
 pub mod arguments;

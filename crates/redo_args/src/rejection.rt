@@ -1,4 +1,7 @@
 //! Says why command-line arguments are rejected.
+//!
+//! `clap` states only the kind of an error, and nothing about its text, which is therefore not shown. So the arguments are parsed
+//! again, without the last one, the last two, and so on, until the kind changes.
 ghost use Rattle.std.specs.Prelude.{◌≡◌, ◌≤◌, ◌<◌, ◌-◌, ◌++◌, ◌∷◌, [], true, flat_map, get_or, length, map, IfOk};
 ghost use Rattle.std.specs.Str.{bytes_eq};
 ghost use Rattle.std.specs.String.{string_bytes};
@@ -21,10 +24,9 @@ pub trait CommandLine {
         ensures { IfOk result (λ kind. kinds_of kind ≡ fault_of (app self.now) (map string_bytes words.now)) };
 }
 
-/// Returns why arguments are rejected: which one, and what is wrong with it. The text is one line, without its line
-/// feed, unless an argument has one.
-///
-/// The arguments are parsed again, without the last one, the last two, and so on, until they fail differently.
+/// Returns why arguments are rejected: which one, and what is wrong with it. The rejected argument is the last one that
+/// changes the kind of the fault. The text names it, with the option before it if it is a value. It is one line, without its
+/// line feed, unless an argument has one.
 pub fn explain_rejection<C: CommandLine>(
     alloc: Global,
     command_line: &C,

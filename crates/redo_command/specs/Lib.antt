@@ -5,3 +5,4 @@ pub mod Logs
 pub mod NamesFile
 pub mod Output
 pub mod Private
+pub mod Process

@@ -22,7 +22,7 @@ pub fn buffered<W: Write + Drop>(
 }
 
 /// Flushes a buffer if the whole text was written to it. After a failure, the rest of the buffer is dropped, so that
-/// nothing is written after the failure.
+/// nothing is written after the failure. The failure stays the failure.
 pub fn flush_after<W: Write + Drop>(
     outcome: Result<(), Failure>,
     out: Writing<BufWriter<W>>,

@@ -7,6 +7,7 @@ ghost use Rattle.redo_command.specs.Failure.{IsIndexFailure};
 ghost use Rattle.redo_command.specs.Private.Opening.{failure_after, names_path};
 ghost use Rattle.redo_command.specs.Private.Program.{IsIndexResult};
 
+use crate::error_keeper::WriteError;
 use crate::failure::Failure;
 use crate::names_file::read_names;
 use redo_index::{Index, read_index_with_keys};
@@ -24,9 +25,11 @@ pub struct Shown {
     pub index: Index,
     /// Whether the whole text was written.
     pub outcome: Result<(), Failure>,
+    /// The error of the last write that failed, if one did.
+    pub write_error: Option<WriteError>,
 }
 
-/// Reads the index of a directory: its file `names`, once.
+/// Reads the index of a directory: its file `names`, once. The failure is one of this file, or out of memory.
 pub fn find_index<R: Files + RandomSource + AllocGlobal>(
     rt: &R,
     dir: &str,
@@ -46,8 +49,9 @@ fn names_path(alloc: Global, dir: &str) -> Result<String, AllocError>
     format!(in alloc; "{dir}/names")
 }
 
-// Returns the index in the file `names`, from the result of opening it. A file that exceeds the maximum size is
-// rejected.
+// Returns the index in the file `names`, from the result of opening it. The index is made of all bytes of the file. A file that
+// exceeds the maximum size is rejected. Without a file, the failure is `NamesMissing`; if it can't be opened for another
+// reason, `Memory` or `NamesRead`. This is a function of the result of opening, because no clause states this result.
 fn index_of<F: Feed>(alloc: Global, keys: HashKeys, opened: io::Result<F>) -> Result<Index, Failure>
     ensures read { IfOk opened (λ reader. SomeStream (F.contents reader) (IsIndexResult result)) }
     ensures unopened { IfErr opened (λ error. result ≡ Err (failure_after (error_kind error))) }

@@ -1,20 +1,24 @@
 //! What to do about a failure: one more line after its error message.
+//!
+//! Other programs may read the first line alone, so `redo-log` prints a second one only after `--explain`, the first argument,
+//! which `shell/launcher` adds. Completions don't offer it.
 ghost use Rattle.std.specs.Prelude.{◌≡◌, ◌≤◌, ◌<◌, ◌++◌, ◌∷◌, [], codes, decimal, take, length, map, IfErr, IfOk, OnOk};
 ghost use Rattle.std.specs.List.{flat_map};
 ghost use Rattle.std.specs.String.{string_bytes};
 ghost use Rattle.redo_args.specs.Rejection.{rejection};
-ghost use Rattle.redo_command.specs.Explanation.{ending_with, explanation_as, explanation_line, leave_out, listed, names_word, quoted_byte, remedy, stream_remedy, suggestions, unknown_remedy, words_explanation};
+ghost use Rattle.redo_command.specs.Explanation.{ending_with, explanation_as, explanation_line, fault_explanation_as, file_word, index_remedy, leave_line_out, leave_out, listed, memory_remedy, names_word, open_logs, outcome_explanation_as, quoted_byte, read_remedy, rejection_explanation, remedy, stream_remedy, suggestions, targets_remedy, unknown_remedy, unreadable_log, arguments_explanation, write_remedy};
 ghost use Rattle.redo_command.specs.Private.Suggested.{after_comma};
 ghost use Rattle.redo_command.specs.Failure.{IfStreamFailure, IfUnknownFailure, IsReportable};
 ghost use Rattle.redo_index.specs.Index.{listed_targets, numbers_of};
 ghost use Rattle.redo_options.specs.Arguments.{argument_bytes};
 
 use crate::directory::Shown;
+use crate::error_keeper::WriteError;
 use crate::failure::Failure;
 use crate::message::message_line;
 use itoa::Buffer;
 use redo_args::{CommandLine, WordsFault, explain_rejection};
-use redo_index::Index;
+use redo_index::{Index, IndexFault};
 use redo_line::StreamFault;
 use redo_run::RunFault;
 use std::alloc::{AllocError, Global};
@@ -26,60 +30,27 @@ const MAX_SUGGESTIONS: usize = 5;
 /// The maximum number of arguments of which the rejected one is looked for. The time is quadratic in it.
 const MAX_EXPLAINED_ARGUMENTS: usize = 1_000;
 
-/// Returns why the arguments of a program are rejected: one line, with its line feed, that begins with the program's name.
-pub fn explain_words_as<C: CommandLine>(
-    alloc: Global,
-    program: &str,
-    command_line: &C,
-    words: &[String],
-) -> Result<Vec<u8>, AllocError>
-    ensures { IfOk result (λ line.
-        line.items ≡ words_explanation program.now (rejection (C.app command_line.now) (map string_bytes words.now))) }
-{
-    let reason = explain_rejection(alloc, command_line, words)?;
-    message_line(alloc, program, &[&reason, b"; try --help"])
-}
+/// From this number of open logs on, a log may be unreadable because too many files are open.
+const MANY_LOGS: u32 = 16;
 
-/// Returns what to do about a failure to show logs: one line, with its line feed, that begins with the program's name.
-/// It is empty if no remedy is known. `dir` is the capture directory. The rest is as for [`crate::fault_line_as`].
-pub fn explanation_as(
-    alloc: Global,
-    program: &str,
-    dir: &str,
-    failure: &Failure,
-    index: &Index,
-    arguments: &[Vec<u8>],
-) -> Result<Vec<u8>, AllocError>
-    requires stream_in_range { IfStreamFailure failure.now (λ number. number < length index.now) }
-    requires argument_in_range { IfUnknownFailure failure.now (λ place. place < length arguments.now) }
-    ensures { IfOk result (λ line.
-        line.items ≡ explanation_as program.now dir.now index.now (argument_bytes arguments.now) failure.now) }
-{
-    let text = remedy(alloc, dir, failure, index, arguments)?;
-    if text.is_empty() {
-        Ok(text)
-    } else {
-        message_line(alloc, program, &[&text])
-    }
-}
-
-/// Writes why the arguments of a program are rejected, if they are, and if there are at most 1,000. The line is lost if an
-/// allocation for it fails or if it can't be written.
+/// Writes what to do about arguments that describe no job, if anything is known. The line is [`fault_explanation_as`]; it is
+/// lost if an allocation for it fails or if it can't be written.
 pub fn explain_fault<C: CommandLine, E: Write>(
     alloc: Global,
     program: &str,
     command_line: &C,
-    words: &[String],
+    arguments: &[String],
     fault: WordsFault,
     err: &mut E,
 ) {
-    if matches!(fault, WordsFault::Refused) && words.len() <= MAX_EXPLAINED_ARGUMENTS {
-        write_line(explain_words_as(alloc, program, command_line, words), err);
-    }
+    write_line(
+        fault_explanation_as(alloc, program, command_line, arguments, fault),
+        err,
+    );
 }
 
-/// Writes what to do about a failure to show logs, if there is one. The line is lost if an allocation for it fails or if
-/// it can't be written.
+/// Writes what to do about a failure to show logs, if there is one and anything is known. The line is
+/// [`outcome_explanation_as`]; it is lost if an allocation for it fails or if it can't be written.
 pub fn explain_shown<E: Write>(
     alloc: Global,
     program: &str,
@@ -90,12 +61,10 @@ pub fn explain_shown<E: Write>(
 )
     requires { IfErr shown.now.outcome (IsReportable (length shown.now.index) (length arguments.now)) }
 {
-    if let Err(failure) = &shown.outcome {
-        write_line(
-            explanation_as(alloc, program, dir, failure, &shown.index, arguments),
-            err,
-        );
-    }
+    write_line(
+        outcome_explanation_as(alloc, program, dir, shown, arguments),
+        err,
+    );
 }
 
 fn write_line<E: Write>(line: Result<Vec<u8>, AllocError>, err: &mut E) {
@@ -104,16 +73,127 @@ fn write_line<E: Write>(line: Result<Vec<u8>, AllocError>, err: &mut E) {
     }
 }
 
-fn remedy(
+/// Returns what to do about arguments that describe no job: one line, with its line feed, that begins with the program's
+/// name. It is empty for help, and if more than 1,000 arguments are rejected.
+pub fn fault_explanation_as<C: CommandLine>(
     alloc: Global,
+    program: &str,
+    command_line: &C,
+    arguments: &[String],
+    fault: WordsFault,
+) -> Result<Vec<u8>, AllocError>
+    ensures { IfOk result (λ line.
+        line.items ≡ fault_explanation_as program.now (C.app command_line.now) (map string_bytes arguments.now) fault) }
+{
+    match fault {
+        WordsFault::Help => Ok(Vec::new(alloc)),
+        WordsFault::Refused => rejection_line(alloc, program, command_line, arguments),
+        WordsFault::OutOfMemory => {
+            let text = memory_remedy(alloc)?;
+            message_line(alloc, program, &[&text])
+        }
+    }
+}
+
+// Returns why the arguments of a program are rejected; an empty line if there are more than 1,000.
+fn rejection_line<C: CommandLine>(
+    alloc: Global,
+    program: &str,
+    command_line: &C,
+    arguments: &[String],
+) -> Result<Vec<u8>, AllocError>
+    ensures { IfOk result (λ line.
+        line.items ≡ rejection_explanation program.now (C.app command_line.now) (map string_bytes arguments.now)) }
+{
+    if arguments.len() <= MAX_EXPLAINED_ARGUMENTS {
+        explain_arguments_as(alloc, program, command_line, arguments)
+    } else {
+        Ok(Vec::new(alloc))
+    }
+}
+
+/// Returns why the arguments of a program are rejected: one line, with its line feed, that begins with the program's name.
+/// The reason isn't `clap`'s text of its error, because `clap`'s contract states only the kind of the error.
+pub fn explain_arguments_as<C: CommandLine>(
+    alloc: Global,
+    program: &str,
+    command_line: &C,
+    arguments: &[String],
+) -> Result<Vec<u8>, AllocError>
+    ensures { IfOk result (λ line.
+        line.items ≡ arguments_explanation program.now (rejection (C.app command_line.now) (map string_bytes arguments.now))) }
+{
+    let reason = explain_rejection(alloc, command_line, arguments)?;
+    message_line(alloc, program, &[&reason, b"; try --help"])
+}
+
+/// Returns what to do about an outcome of showing logs; it is empty if the whole text was written. The rest is as for
+/// [`explanation_as`].
+pub fn outcome_explanation_as(
+    alloc: Global,
+    program: &str,
     dir: &str,
+    shown: &Shown,
+    arguments: &[Vec<u8>],
+) -> Result<Vec<u8>, AllocError>
+    requires { IfErr shown.now.outcome (IsReportable (length shown.now.index) (length arguments.now)) }
+    ensures { IfOk result (λ line. line.items
+        ≡ outcome_explanation_as program.now dir.now shown.now.write_error shown.now.index (argument_bytes arguments.now)
+        shown.now.outcome) }
+{
+    match &shown.outcome {
+        Ok(()) => Ok(Vec::new(alloc)),
+        Err(failure) => {
+            explanation_as(
+                alloc,
+                program,
+                dir,
+                shown.write_error,
+                failure,
+                &shown.index,
+                arguments,
+            )
+        }
+    }
+}
+
+/// Returns what to do about a failure to show logs: one line, with its line feed, that begins with the program's name.
+/// It says which file `names` is missing, which targets may be meant, how many there are, or which command leaves a damaged
+/// log out. It is empty if no remedy is known. `dir` is the capture directory. The rest is as for [`crate::fault_line_as`].
+pub fn explanation_as(
+    alloc: Global,
+    program: &str,
+    dir: &str,
+    write_error: Option<WriteError>,
     failure: &Failure,
     index: &Index,
     arguments: &[Vec<u8>],
 ) -> Result<Vec<u8>, AllocError>
     requires stream_in_range { IfStreamFailure failure.now (λ number. number < length index.now) }
     requires argument_in_range { IfUnknownFailure failure.now (λ place. place < length arguments.now) }
-    ensures { IfOk result (λ text. text.items ≡ remedy dir.now index.now (argument_bytes arguments.now) failure.now) }
+    ensures { IfOk result (λ line. line.items
+        ≡ explanation_as program.now dir.now write_error index.now (argument_bytes arguments.now) failure.now) }
+{
+    let text = remedy(alloc, dir, write_error, failure, index, arguments)?;
+    if text.is_empty() {
+        Ok(text)
+    } else {
+        message_line(alloc, program, &[&text])
+    }
+}
+
+fn remedy(
+    alloc: Global,
+    dir: &str,
+    write_error: Option<WriteError>,
+    failure: &Failure,
+    index: &Index,
+    arguments: &[Vec<u8>],
+) -> Result<Vec<u8>, AllocError>
+    requires stream_in_range { IfStreamFailure failure.now (λ number. number < length index.now) }
+    requires argument_in_range { IfUnknownFailure failure.now (λ place. place < length arguments.now) }
+    ensures { IfOk result (λ text.
+        text.items ≡ remedy dir.now write_error index.now (argument_bytes arguments.now) failure.now) }
 {
     match *failure {
         Failure::Run(RunFault::Unknown { place }) => {
@@ -121,7 +201,8 @@ fn remedy(
             unknown_remedy(alloc, dir, index.len(), &names)
         }
         Failure::Run(RunFault::Stream { number, fault }) => {
-            stream_remedy(alloc, dir, index.len(), index.fid(number), fault)
+            let fid = index.fid(number);
+            stream_remedy(alloc, dir, number, fid, fault)
         }
         Failure::NamesMissing => about_names(
             alloc,
@@ -135,11 +216,11 @@ fn remedy(
             dir,
             b"; it must be a file of at most 1073741824 bytes that you may read",
         ),
-        Failure::Words(_)
-        | Failure::Index(_)
-        | Failure::Run(RunFault::OutOfMemory)
-        | Failure::Run(RunFault::Write)
-        | Failure::Memory => Ok(Vec::new(alloc)),
+        Failure::Index(fault) => index_remedy(alloc, dir, fault),
+        Failure::Run(RunFault::OutOfMemory) => memory_remedy(alloc),
+        Failure::Run(RunFault::Write) => { concat(alloc, &[write_remedy(write_error).as_bytes()]) },
+        Failure::Memory => memory_remedy(alloc),
+        Failure::Words(_) => Ok(Vec::new(alloc)),
     }
 }
 
@@ -147,11 +228,66 @@ fn remedy(
 fn about_names(alloc: Global, start: &[u8], dir: &str, end: &[u8]) -> Result<Vec<u8>, AllocError>
     ensures { IfOk result (λ text. text.items ≡ start.now ++ names_word dir.now ++ end.now) }
 {
-    let mut text = Vec::new(alloc);
-    push(&mut text, start)?;
-    push_names_word(&mut text, dir)?;
-    push(&mut text, end)?;
-    Ok(text)
+    let word = file_word(alloc, dir, b"names")?;
+    concat(alloc, &[start, &word, end])
+}
+
+// Returns what to do if memory ran out.
+fn memory_remedy(alloc: Global) -> Result<Vec<u8>, AllocError>
+    ensures { IfOk result (λ text. text.items ≡ memory_remedy) }
+{
+    concat(
+        alloc,
+        &[
+            b"no memory or no thread was left; --senders 1 needs the least, and ulimit -v shows a limit on memory",
+        ],
+    )
+}
+
+// Returns what to do if the text wasn't written, from why the last write failed that did.
+fn write_remedy(error: Option<WriteError>) -> &'static str
+    ensures { result.now ≡ write_remedy error }
+{
+    match error {
+        None =>
+            "the output must be a file in a directory that exists, and you must be allowed to write there",
+        Some(WriteError::NoSpace) => {
+            "no space is left where the output is written; df -h shows how full each disk is"
+        }
+        Some(WriteError::QuotaExceeded) => {
+            "your disk quota is used up where the output is written; quota -s shows it"
+        }
+        Some(WriteError::ClosedPipe) => {
+            "what reads the output ended early; sed -n 1,10p, unlike head, reads all of it"
+        }
+        Some(WriteError::Other) => "",
+    }
+}
+
+// Returns what to do about a fault of `names`.
+fn index_remedy(alloc: Global, dir: &str, fault: IndexFault) -> Result<Vec<u8>, AllocError>
+    ensures { IfOk result (λ text. text.items ≡ index_remedy dir.now fault) }
+{
+    match fault {
+        IndexFault::BadLine { line } => leave_line_out(alloc, dir, line),
+        IndexFault::FidTwice { line } => leave_line_out(alloc, dir, line),
+        IndexFault::NameTwice { line } => leave_line_out(alloc, dir, line),
+        IndexFault::TooMany => about_names(alloc, b"at most 1048575 lines can be read: ", dir, b""),
+        IndexFault::OutOfMemory => memory_remedy(alloc),
+    }
+}
+
+// Returns the command that removes this line from `names`.
+fn leave_line_out(alloc: Global, dir: &str, line: u64) -> Result<Vec<u8>, AllocError>
+    ensures { IfOk result (λ text. text.items ≡ leave_line_out dir.now line) }
+{
+    let word = file_word(alloc, dir, b"names")?;
+    let mut buffer = Buffer::new();
+    let line = buffer.format(line).as_bytes();
+    concat(
+        alloc,
+        &[b"leave this line out: sed -i ", line, b"d ", &word],
+    )
 }
 
 // Returns what may be meant by an unknown target, from the suggestions for it.
@@ -163,16 +299,26 @@ fn unknown_remedy(
 ) -> Result<Vec<u8>, AllocError>
     ensures { IfOk result (λ text. text.items ≡ unknown_remedy dir.now count (argument_bytes names.now)) }
 {
-    let mut text = Vec::new(alloc);
     if names.is_empty() {
-        push(&mut text, b"targets: ")?;
-        push_number(&mut text, count)?;
-        push(&mut text, b"; list them: cut -d ' ' -f 2- ")?;
-        push_names_word(&mut text, dir)?;
+        targets_remedy(alloc, dir, count)
     } else {
+        let mut text = Vec::new(alloc);
         push(&mut text, b"did you mean ")?;
         push_listed(&mut text, names)?;
+        Ok(text)
     }
+}
+
+// Returns how many targets there are, and the command that shows them.
+fn targets_remedy(alloc: Global, dir: &str, count: u32) -> Result<Vec<u8>, AllocError>
+    ensures { IfOk result (λ text. text.items ≡ targets_remedy dir.now count) }
+{
+    let word = file_word(alloc, dir, b"names")?;
+    let mut text = Vec::new(alloc);
+    push(&mut text, b"targets: ")?;
+    push_number(&mut text, count)?;
+    push(&mut text, b"; list them: cut -d ' ' -f 2- ")?;
+    push(&mut text, &word)?;
     Ok(text)
 }
 
@@ -230,19 +376,19 @@ fn push_if_ending(
     Ok(())
 }
 
-// Returns what to do about the fault of a log with this number, in an index with this many targets.
+// Returns what to do about the fault of the log `number`, at this position of the index.
 fn stream_remedy(
     alloc: Global,
     dir: &str,
-    count: u32,
+    position: u32,
     number: u32,
     fault: StreamFault,
 ) -> Result<Vec<u8>, AllocError>
-    ensures { IfOk result (λ text. text.items ≡ stream_remedy dir.now count number fault) }
+    ensures { IfOk result (λ text. text.items ≡ stream_remedy dir.now position number fault) }
 {
     match fault {
-        StreamFault::Read => open_files(alloc, count),
-        StreamFault::OutOfMemory => Ok(Vec::new(alloc)),
+        StreamFault::Read => read_remedy(alloc, dir, position, number),
+        StreamFault::OutOfMemory => memory_remedy(alloc),
         StreamFault::BadRecord { .. } => leave_out(alloc, dir, number),
         StreamFault::AfterClose { .. } => leave_out(alloc, dir, number),
         StreamFault::TooLong => leave_out(alloc, dir, number),
@@ -250,28 +396,62 @@ fn stream_remedy(
     }
 }
 
-// Returns how many files are open at once.
-fn open_files(alloc: Global, count: u32) -> Result<Vec<u8>, AllocError>
-    ensures { IfOk result (λ text.
-        text.items ≡ codes "all logs are open at once: " ++ decimal count ++ codes "; ulimit -n shows how many files may be") }
+// Returns what to do if a log can't be read. The logs before its position are open, and may be as many as the limit allows.
+fn read_remedy(alloc: Global, dir: &str, position: u32, number: u32) -> Result<Vec<u8>, AllocError>
+    ensures { IfOk result (λ text. text.items ≡ read_remedy dir.now position number) }
 {
-    let mut text = Vec::new(alloc);
-    push(&mut text, b"all logs are open at once: ")?;
-    push_number(&mut text, count)?;
-    push(&mut text, b"; ulimit -n shows how many files may be")?;
-    Ok(text)
+    if MANY_LOGS <= position {
+        let log = unreadable_log(alloc, dir, number)?;
+        let open = open_logs(alloc, position)?;
+        concat(alloc, &[&log, &open])
+    } else {
+        unreadable_log(alloc, dir, number)
+    }
+}
+
+// Returns how many logs may be open, at the end of a text.
+fn open_logs(alloc: Global, count: u32) -> Result<Vec<u8>, AllocError>
+    ensures { IfOk result (λ text. text.items ≡ open_logs count) }
+{
+    let mut buffer = Buffer::new();
+    concat(
+        alloc,
+        &[
+            b"; up to ",
+            buffer.format(count).as_bytes(),
+            b" others are open, and ulimit -n shows how many files may be",
+        ],
+    )
+}
+
+// Returns which file can't be read.
+fn unreadable_log(alloc: Global, dir: &str, number: u32) -> Result<Vec<u8>, AllocError>
+    ensures { IfOk result (λ text. text.items ≡ unreadable_log dir.now number) }
+{
+    let mut buffer = Buffer::new();
+    let file = concat(alloc, &[b"log.", buffer.format(number).as_bytes()])?;
+    let word = file_word(alloc, dir, &file)?;
+    concat(
+        alloc,
+        &[
+            b"not readable: ",
+            &word,
+            b"; it must be a file that you may read",
+        ],
+    )
 }
 
 // Returns the command that removes the log with this number from `names`.
 fn leave_out(alloc: Global, dir: &str, number: u32) -> Result<Vec<u8>, AllocError>
     ensures { IfOk result (λ text. text.items ≡ leave_out dir.now number) }
 {
-    let mut text = Vec::new(alloc);
-    push(&mut text, b"leave this log out: sed -i '/^!*")?;
-    push_number(&mut text, number)?;
-    push(&mut text, b" /d' ")?;
-    push_names_word(&mut text, dir)?;
-    Ok(text)
+    let word = file_word(alloc, dir, b"names")?;
+    let mut buffer = Buffer::new();
+    let number = buffer.format(number).as_bytes();
+    concat(
+        alloc,
+        &[b"leave this log out: sed -i '/^!*", number, b" /d' ", &word],
+    )
 }
 
 // Appends names, each but the first after a comma.
@@ -298,17 +478,21 @@ fn push_after_commas(text: &mut Vec<u8>, names: &[Vec<u8>]) -> Result<(), AllocE
     Ok(())
 }
 
-// Appends the path of the file `names` as a word of a shell.
-fn push_names_word(text: &mut Vec<u8>, dir: &str) -> Result<(), AllocError>
-    ensures { OnOk result (text.new.items ≡ text.old.items ++ names_word dir.now) }
+// Returns the path of a file of a capture directory as a word of a shell.
+fn file_word(alloc: Global, dir: &str, file: &[u8]) -> Result<Vec<u8>, AllocError>
+    ensures { IfOk result (λ word. word.items ≡ file_word dir.now file.now) }
 {
     let dir = dir.as_bytes();
-    push(text, b"'")?;
+    let mut word = Vec::new(alloc);
+    push(&mut word, b"'")?;
     if dir.starts_with(b"-") {
-        push(text, b"./")?;
+        push(&mut word, b"./")?;
     }
-    push_quoted(text, dir)?;
-    push(text, b"/names'")
+    push_quoted(&mut word, dir)?;
+    push(&mut word, b"/")?;
+    push(&mut word, file)?;
+    push(&mut word, b"'")?;
+    Ok(word)
 }
 
 // Appends what is between the quotes of a word of a shell.
@@ -337,4 +521,11 @@ fn push(text: &mut Vec<u8>, part: &[u8]) -> Result<(), AllocError>
 {
     text.extend_from_slice(part)?;
     Ok(())
+}
+
+// Returns a text with these parts, concatenated.
+fn concat(alloc: Global, parts: &[&[u8]]) -> Result<Vec<u8>, AllocError>
+    ensures { IfOk result (λ text. text.items ≡ flat_map (λ part. part.now) parts.now) }
+{
+    parts.concat(alloc)
 }

@@ -3,13 +3,17 @@
 //!
 //! A command reads the index of a directory by [`find_index`] and writes a text of its logs by [`write_logs`], over
 //! [`LogFiles`] and through [`buffered`], or to a file by [`create_output`]. It ends with [`exit_status`], which reports a
-//! [`Failure`], or with [`print_help`]. [`explanation_as`] and [`explain_words_as`] say what to do about a failure.
+//! [`Failure`], or with [`print_help`]. [`explain_shown`] and [`explain_fault`] write what to do about a failure.
 //!
 //! Files are opaque, so [`write_logs`] is generic over logs and a writer: its contract states the text that is written.
+//!
+//! Each command has its own `show_job`. A shared one would take a trait whose method starts threads, and Rattle can't prove that
+//! what these get is `Send`.
 #![tactic(auto)]
 
 mod buffer;
 mod directory;
+mod error_keeper;
 mod explanation;
 mod failure;
 mod laws;
@@ -23,7 +27,11 @@ mod reports;
 
 pub use buffer::{buffered, flush_after};
 pub use directory::{Shown, find_index};
-pub use explanation::{explain_fault, explain_shown, explain_words_as, explanation_as};
+pub use error_keeper::{ErrorKeeper, WriteError};
+pub use explanation::{
+    explain_arguments_as, explain_fault, explain_shown, explanation_as, fault_explanation_as,
+    outcome_explanation_as,
+};
 pub use failure::{Failure, status};
 pub use laws::suggestions_are_listed_targets;
 pub use log_file::{LogFile, LogFiles, RegularLogFiles};
@@ -31,7 +39,7 @@ pub use logs::{OpenLog, open_logs, write_logs};
 pub use message::fault_line_as;
 pub use names_file::{MAX_BYTES, read_names};
 pub use output::{Output, close_output, create_output};
-pub use process::{explains, process_arguments, requests_version};
+pub use process::{command_arguments, explains, process_arguments, requests_version};
 pub use redo_args::WordsFault;
 pub use redo_index::Index;
 pub use redo_run::RunFault;

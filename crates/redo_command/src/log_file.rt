@@ -58,7 +58,8 @@ impl<R: Files<File: Send> + AllocGlobal> OpenLog for LogFiles<'_, R> {
 }
 
 /// The log files of a directory that are regular files, or symbolic links to one. Any other log is taken as missing and
-/// isn't opened, because a pipe can be read only once.
+/// isn't opened, because a pipe can be read only once. Such a log and one that can't be opened have no times; if a run reads
+/// them later, it reports the error.
 #[derive(Drop)]
 pub struct RegularLogFiles<'a, R> {
     pub rt: &'a R,
@@ -82,7 +83,7 @@ impl<R: Files<File: Send> + AllocGlobal> OpenLog for RegularLogFiles<'_, R> {
     }
 }
 
-// Returns whether a file is a regular file, from what was found at its path.
+// Returns whether a file is a regular file, from what was found at its path. The only error is that memory ran out.
 fn is_regular(found: io::Result<Metadata>) -> Result<bool, AllocError>
     ensures file { IfOk found (λ metadata. IsOkAnd result (λ is. (is ≡ true) ↔ IsFile (file_type metadata))) }
     ensures other { IfErr found (λ _. IfOk result (λ is. is ≡ false)) }
@@ -105,7 +106,8 @@ fn log_path(alloc: Global, dir: &str, fid: u32) -> Result<String, AllocError>
     [dir, "/log.", number.format(fid)].concat(alloc)
 }
 
-// Returns the `LogFile`, from the result of opening its file.
+// Returns the `LogFile`, from the result of opening its file. By the kind of the error, it is missing exactly if opening found no
+// file. Which files are opened is tested. This is a function of the result of opening, because no clause states this result.
 fn log_file_of<F: Read + Drop>(opened: io::Result<F>) -> Result<LogFile<F>, AllocError>
     ensures log_file { IfOk result (λ log_file. IsLogFileOf opened log_file) }
     ensures memory { IfErr result (λ _. IsOutOfMemory opened) }

@@ -33,6 +33,9 @@ pub trait OpenLog {
 }
 
 /// Opens the logs of all targets, in the order of the index.
+///
+/// One thread opens 3,000 files in 4 ms. Two or four threads would take 57 to 75 ms: whenever the table of open files grows, the
+/// system waits for all processors if a process has several threads.
 pub fn open_logs<L: OpenLog>(
     alloc: Global,
     logs: &L,
@@ -50,6 +53,9 @@ pub fn open_logs<L: OpenLog>(
 
 /// Writes any text of the logs that an index lists, such as a page. `arguments` name the requested targets. They are
 /// looked up before a log is read, and nothing is written before all logs were read. `out` isn't flushed.
+///
+/// For any logs and writer, the text is written, or a prefix of it until a write failed or memory ran out. An unknown argument
+/// or a stream's fault is the result of the run, and then nothing is written.
 pub fn write_logs<T: Threads + Wait + Sync + AllocGlobal, L: OpenLog, V: Render, W: Sink>(
     rt: &T,
     logs: &L,

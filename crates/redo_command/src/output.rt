@@ -1,4 +1,7 @@
 //! A file that a text is written to. A regular file is replaced when the whole text was written, and not before.
+//!
+//! It is replaced by a rename. A pipe, a device, a directory or a symbolic link is opened itself. No clause says what a file has,
+//! so this is only tested.
 ghost use Rattle.std.specs.Prelude.{◌≡◌, ◌↔◌, ◌⊎◌, true, Ok, Err, IfOk, IfErr};
 ghost use Rattle.std.specs.Fs.{IsFile, file_type};
 ghost use Rattle.std.specs.IoError.{error_kind};
@@ -71,7 +74,8 @@ pub fn create_output<'a, R: Files + AllocGlobal>(
 }
 
 /// Closes the file that the text was written to. If the whole text was written, a temporary file replaces the output
-/// file; otherwise it is removed, and the output file stays as it was.
+/// file; otherwise it is removed, and the output file stays as it was. A failure to write stays
+/// the failure, and a failed rename is a failure.
 pub fn close_output<R: Files>(
     rt: &R,
     output: Output<'_, R::File>,

@@ -1,5 +1,8 @@
 //! The command-line arguments of the process.
-ghost use Rattle.std.specs.Prelude.{◌<◌, length, IfErr, IsTrue};
+ghost use Rattle.std.specs.Prelude.{◌≡◌, ◌||◌, codes, map, IfErr};
+ghost use Rattle.std.specs.Str.{bytes_eq};
+ghost use Rattle.std.specs.String.{string_bytes};
+ghost use Rattle.redo_command.specs.Process.{command_arguments, requests_explanations, requests_version};
 ghost use Rattle.redo_command.specs.Failure.{IsBeforeRun};
 
 use crate::failure::Failure;
@@ -30,10 +33,9 @@ pub fn process_arguments<R: Env + AllocGlobal>(rt: &R) -> Result<Vec<String>, Fa
     Ok(rest)
 }
 
-/// Returns whether the arguments request explanations: whether the first one is `--explain`. It is not one of the
-/// arguments that a command line parses.
+/// Returns whether the arguments request explanations: whether the first one is `--explain`.
 pub fn explains(arguments: &[String]) -> bool
-    ensures { IsTrue result → 0 < length arguments.now }
+    ensures { result ≡ requests_explanations (map string_bytes arguments.now) }
 {
     match arguments {
         [first, ..] => first.as_str() == "--explain",
@@ -41,15 +43,29 @@ pub fn explains(arguments: &[String]) -> bool
     }
 }
 
+/// Returns the arguments that a command line parses: all but a first one that requests explanations.
+pub fn command_arguments(arguments: &[String]) -> &[String]
+    ensures { map string_bytes result.now ≡ command_arguments (map string_bytes arguments.now) }
+{
+    if explains(arguments) {
+        &arguments[1..]
+    } else {
+        arguments
+    }
+}
+
 /// Returns whether the arguments request the version: `--version` or `-V` as the only argument, or after `--explain`.
-pub fn requests_version(arguments: &[String]) -> bool {
-    match arguments {
+pub fn requests_version(arguments: &[String]) -> bool
+    ensures { result ≡ requests_version (map string_bytes arguments.now) }
+{
+    match command_arguments(arguments) {
         [argument] => is_version(argument),
-        [_, argument] => explains(arguments) && is_version(argument),
         _ => false,
     }
 }
 
-fn is_version(argument: &str) -> bool {
-    matches!(argument, "--version" | "-V")
+fn is_version(argument: &str) -> bool
+    ensures { result ≡ (bytes_eq argument.now (codes "--version") || bytes_eq argument.now (codes "-V")) }
+{
+    argument == "--version" || argument == "-V"
 }

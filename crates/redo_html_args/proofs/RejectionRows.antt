@@ -6,21 +6,15 @@ use Rattle.clap.proofs.OnLiterals.{clap_on_literals}
 use Rattle.redo_args.specs.Rejection.{rejected_within, rejection}
 use Rattle.redo_html_args.specs.CommandLine.{redo_log_html}
 
-record Row : Type 0 where
-  words : List (List ℕ)
-  text_is : List ℕ
-
-abbrev rejected : List (List ℕ) → List ℕ → Row
-rejected words text = record { words = words; text_is = text }
-
-abbrev rejections : List Row
+-- Rejected arguments, each with the text about them.
+abbrev rejections : List (List (List ℕ) × List ℕ)
 rejections =
-    rejected (codes "-r" ∷ []) (codes "unknown option '-r'") ∷
-    rejected (codes "--max-bytes" ∷ codes "1k" ∷ []) (codes "--max-bytes 1k: not in 0 to 18446744073709551615") ∷
-    rejected (codes "--senders=65" ∷ []) (codes "--senders=65: not in 1 to 64") ∷
-    rejected (codes "all" ∷ codes "--output" ∷ []) (codes "--output: a value is missing") ∷
+    (codes "-r" ∷ [], codes "unknown option '-r'") ∷
+    (codes "--max-bytes" ∷ codes "1k" ∷ [], codes "--max-bytes 1k: not in 0 to 18446744073709551615") ∷
+    (codes "--senders=65" ∷ [], codes "--senders=65: not in 1 to 64") ∷
+    (codes "all" ∷ codes "--output" ∷ [], codes "--output: a value is missing") ∷
     []
 
-these_rejections : AllByRecursion (λ row. rejection redo_log_html row.words ≡ row.text_is) rejections
+these_rejections : AllByRecursion (λ row. rejection redo_log_html row.0 ≡ row.1) rejections
 unfolding redo_log_html clap_on_literals rejected_within
 these_rejections = (refl, (refl, (refl, (refl, tt))))

@@ -9,8 +9,8 @@ ghost use Rattle.redo_html_cli.specs.Request.{request_for, title_for};
 
 use crate::times::read_log_times;
 use redo_command::{
-    Failure, Index, LogFiles, OpenLog, Output, RegularLogFiles, Shown, buffered, close_output,
-    create_output, find_index, flush_after, write_logs,
+    ErrorKeeper, Failure, Index, LogFiles, OpenLog, Output, RegularLogFiles, Shown, buffered,
+    close_output, create_output, find_index, flush_after, write_logs,
 };
 use redo_device::Sink;
 use redo_html_args::PageJob;
@@ -22,7 +22,7 @@ use std::rt::Files;
 use std::sync::Wait;
 use std::thread::Threads;
 
-/// The capacity of the mailbox. It isn't an option: it changes nothing that a page shows.
+/// The capacity of the mailbox. It is no option, and `--senders` is one, although no byte of a page depends on either.
 const CAPACITY: u32 = 64;
 
 /// Writes the page of a job: to its output file, or else to `out`.
@@ -40,6 +40,7 @@ pub fn show_job<
             Err(failure) => Shown {
                 index: Index::new(rt.alloc()),
                 outcome: Err(failure),
+                write_error: None,
             },
         },
     }
@@ -60,10 +61,12 @@ fn show_in_file<R: Files<File: Send> + RandomSource + Threads + Wait + Sync + Al
     Shown {
         index: shown.index,
         outcome: close_output(rt, output, shown.outcome),
+        write_error: shown.write_error,
     }
 }
 
-// Writes the page of a job, from the index and the log files of its directory.
+// Writes the page of a job, from the index and the log files of its directory, as `write_job` states, unless the index couldn't
+// be read or memory ran out. Nothing is known of the files, and nothing is stated about the text that `out` takes.
 fn show_logs<R: Files<File: Send> + RandomSource + Threads + Wait + Sync + AllocGlobal, W: Write>(
     rt: &R,
     job: &PageJob,
@@ -75,12 +78,18 @@ fn show_logs<R: Files<File: Send> + RandomSource + Threads + Wait + Sync + Alloc
 {
     match find_index(rt, job.dir()) {
         Ok(index) => {
-            let outcome = show_page(rt, job, &index, out);
-            Shown { index, outcome }
+            let mut out = ErrorKeeper::new(out);
+            let outcome = show_page(rt, job, &index, &mut out);
+            Shown {
+                index,
+                outcome,
+                write_error: out.error(),
+            }
         }
         Err(failure) => Shown {
             index: Index::new(rt.alloc()),
             outcome: Err(failure),
+            write_error: None,
         },
     }
 }
@@ -105,6 +114,9 @@ fn show_page<R: Files<File: Send> + Threads + Wait + Sync + AllocGlobal, W: Writ
 
 /// Writes the page of a job, from the logs that an index lists. It reads when the targets began and ended from `first`,
 /// and then all logs from `second`. Nothing is written before that. `out` isn't flushed.
+///
+/// The clause states the page, for any logs and writer. The page may be of other streams than its times: a file may change
+/// between the two readings.
 pub fn write_job<T: Threads + Wait + Sync + AllocGlobal, F: OpenLog, S: OpenLog, W: Sink>(
     rt: &T,
     job: &PageJob,

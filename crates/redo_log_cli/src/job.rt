@@ -1,4 +1,7 @@
 //! Performs a job: writes its text.
+//!
+//! [`write_job`] is generic over logs and a writer, so that its clause can state each byte. Files and standard output are opaque,
+//! so `IsShown` says nothing of what is written.
 ghost use Rattle.std.specs.Prelude.{◌≢◌, IfErr, None, length};
 ghost use Rattle.redo_view.specs.Expansion.{expansion};
 ghost use Rattle.redo_command.specs.Failure.{IsReportable, status_of};
@@ -8,7 +11,7 @@ ghost use Rattle.redo_log_cli.specs.Private.Job.{job_call};
 
 use redo_args::Job;
 use redo_command::{
-    Failure, LogFiles, OpenLog, Shown, buffered, find_index, flush_after, write_logs,
+    ErrorKeeper, Failure, LogFiles, OpenLog, Shown, buffered, find_index, flush_after, write_logs,
 };
 use redo_index::Index;
 use redo_line::Sink;
@@ -49,7 +52,8 @@ pub fn write_job<T: Threads + Wait + Sync + AllocGlobal, L: OpenLog, W: Sink>(
     )
 }
 
-/// Writes the text of a job, from the index and the log files of its directory.
+/// Writes the text of a job, from the index and the log files of its directory, as [`write_job`] states, unless the index
+/// couldn't be read or memory ran out. Nothing is known of the files, and nothing is stated about the text that `out` takes.
 pub fn show_job<
     R: Files<File: Send> + RandomSource + Threads + Wait + Sync + AllocGlobal,
     W: Write,
@@ -60,12 +64,18 @@ pub fn show_job<
 {
     match find_index(rt, job.dir()) {
         Ok(index) => {
-            let outcome = show_logs(rt, job, &index, out);
-            Shown { index, outcome }
+            let mut out = ErrorKeeper::new(out);
+            let outcome = show_logs(rt, job, &index, &mut out);
+            Shown {
+                index,
+                outcome,
+                write_error: out.error(),
+            }
         }
         Err(failure) => Shown {
             index: Index::new(rt.alloc()),
             outcome: Err(failure),
+            write_error: None,
         },
     }
 }

@@ -5,8 +5,8 @@ ghost use Rattle.redo_command.specs.Failure.{IsBeforeRun, IsStatus, status_of};
 use crate::job::show_job;
 use redo_args::{RedoLog, WordsFault, help_text, read_arguments};
 use redo_command::{
-    Failure, exit_status, explain_fault, explain_shown, explains, print, print_help,
-    report_before_run_as,
+    Failure, command_arguments, exit_status, explain_fault, explain_shown, explains, print,
+    print_help, report_before_run_as,
 };
 use std::alloc::Global;
 use std::io::Write;
@@ -40,7 +40,7 @@ pub fn command<
 {
     let alloc = rt.alloc();
     let explains = explains(&words);
-    let arguments = if explains { &words[1..] } else { &words[..] };
+    let arguments = command_arguments(&words);
     match read_arguments(alloc, arguments) {
         Ok(job) => {
             let shown = show_job(rt, &job, out);

@@ -3,7 +3,9 @@ use Rattle.std.specs.Prelude.{◌≡◌, ℕ, List, ◌++◌, Result, Ok, Err, I
 use Rattle.std.specs.IoError.{error_kind}
 use Rattle.std.specs.declared.io.Error.{Error}
 use Rattle.std.specs.declared.io.ErrorKind.{ErrorKind}
-use Rattle.std.specs.declared.io.ErrorKind.TheVariants.{NotFound, OutOfMemory}
+use Rattle.std.specs.declared.io.ErrorKind.TheVariants.{BrokenPipe, NotFound, OutOfMemory, QuotaExceeded, StorageFull}
+use Rattle.redo_command.specs.declared.error_keeper.WriteError.{WriteError}
+use Rattle.redo_command.specs.declared.error_keeper.WriteError.TheVariants as write_error
 use Rattle.redo_command.specs.declared.log_file.LogFile.{LogFile}
 use Rattle.redo_command.specs.declared.log_file.LogFile.TheVariants.{Open, Missing, Unreadable}
 use Rattle.redo_command.specs.declared.failure.Failure.{Failure}
@@ -43,3 +45,10 @@ failure_after _ = NamesRead
 abbrev pub write_failure_after : ErrorKind → Failure
 write_failure_after OutOfMemory = Memory
 write_failure_after _ = Run run.Write
+
+-- Why a write failed, from the kind of its error.
+abbrev pub write_error_of : ErrorKind → WriteError
+write_error_of StorageFull = write_error.NoSpace
+write_error_of QuotaExceeded = write_error.QuotaExceeded
+write_error_of BrokenPipe = write_error.ClosedPipe
+write_error_of _ = write_error.Other
