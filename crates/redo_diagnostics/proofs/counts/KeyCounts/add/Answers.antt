@@ -1,0 +1,28 @@
+use Rattle.std.proofs.Common.{◌≡◌, ℕ, List, Some, cond, ◌∙◌, ap}
+use Rattle.std.specs.Map.{lookup}
+use Rattle.std.specs.Option.{unwrap_or}
+use Rattle.std.specs.Str.{bytes_eq}
+use Rattle.redo_diagnostics.specs.Counts.{count_in}
+use Rattle.redo_diagnostics.proofs.CountLemmas.{counted}
+use Rattle.redo_diagnostics.proofs.counts.KeyCounts.add.Goals as goal
+
+pub returns-clause-before : goal.returns-clause-before
+returns-clause-before c = λ keys are.
+    let view : c.self.inside.counts.entries ≡ c.args.self.now = cc (c.self.view_is) in
+    c.unwrap_or-before.ensures ∙ ap (λ found. unwrap_or found 0) (c.copied.ensures ∙ c.get.ensures.value)
+    ∙ ap (λ (entries : List (List ℕ × ℕ)). count_in c.in_ok-key.key entries) view
+    ∙ ap (λ (key : List ℕ). count_in key c.args.self.now) c.in_ok-key.ensures ∙ are c.args.key.now
+
+pub returns-clause-counted : goal.returns-clause-counted
+returns-clause-counted c = λ keys are.
+    let view : c.self.inside.counts.entries ≡ c.args.self.now = cc (c.self.view_is) in
+    counted c.args.self.now c.insert.new.self.entries keys c.args.key.now c.unwrap_or-before.result c.saturating_add.result are
+    (c.unwrap_or-before.ensures ∙ ap (λ found. unwrap_or found 0) (c.copied.ensures ∙ c.get.ensures.value)
+    ∙ ap (λ (entries : List (List ℕ × ℕ)). count_in c.in_ok-key.key entries) view
+    ∙ ap (λ (key : List ℕ). count_in key c.args.self.now) c.in_ok-key.ensures)
+    c.saturating_add.ensures
+    (λ other. c.in_ok-insert.ensures.updates.0 other
+    ∙ ap (λ (key : List ℕ). cond (bytes_eq key other) (Some c.saturating_add.result)
+    (lookup (bytes_eq other) c.self.inside.counts.entries)) c.in_ok-key.ensures
+    ∙ ap (λ (entries : List (List ℕ × ℕ)). cond (bytes_eq c.args.key.now other) (Some c.saturating_add.result)
+    (lookup (bytes_eq other) entries)) view)

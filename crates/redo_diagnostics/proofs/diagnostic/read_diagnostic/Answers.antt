@@ -1,0 +1,16 @@
+use Rattle.std.proofs.Common.{◌≡◌, ◌++◌, Option, not, ◌∙◌, ap, subst}
+use Rattle.std.specs.Prelude.{IfOk, option_map}
+use Rattle.redo_diagnostics.specs.Diagnostic.{DiagnosticValue, diagnostic_from, parts_in}
+use Rattle.redo_diagnostics.specs.Plain.{plain_line}
+use Rattle.redo_diagnostics.proofs.ReadLemmas.{of_line, of_plain}
+use Rattle.redo_diagnostics.proofs.diagnostic.read_diagnostic.Goals as goal
+
+pub returns-then-is_none : goal.returns-then-is_none
+returns-then-is_none c = subst (λ (value : Option DiagnosticValue). IfOk c.read_plain.result (λ diagnostic. diagnostic ≡ value))
+    (of_line c.args.line.now c.memchr.result c.memchr.ensures (c.is_none.ensures ∙ ap not c.if-is_none.true)) c.read_plain.ensures
+
+pub returns : goal.returns
+returns c = subst (λ (value : Option DiagnosticValue). IfOk c.read_plain-2.result (λ diagnostic. diagnostic ≡ value))
+    (ap (λ bytes. option_map diagnostic_from (parts_in bytes)) (c.deref.ensures.value ∙ c.in_ok-push_plain.ensures
+    ∙ ap (λ bytes. bytes ++ plain_line c.args.line.now) c.new-plain.ensures.items)
+    ∙ of_plain c.args.line.now) c.read_plain-2.ensures

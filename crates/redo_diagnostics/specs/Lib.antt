@@ -1,0 +1,5 @@
+pub mod Counts
+pub mod Diagnostic
+pub mod Laws
+pub mod Plain
+pub mod Private
