@@ -1,0 +1,11 @@
+mod EscapeLemmas
+mod FieldRows
+mod ObjectLemmas
+mod ObjectRows
+mod PartLemmas
+mod PrintLemmas
+mod ReadingLemmas
+mod TextLemmas
+mod TextRows
+mod Utf8Lemmas
+mod WritingLemmas

@@ -1,0 +1,17 @@
+use Rattle.std.proofs.Common.{[], ◌∷◌, refl}
+use Rattle.json.specs.Print.{escape, quoted}
+use Rattle.redo_device.proofs.WritesLemmas.{at_last, in_middle, one_more}
+use Rattle.redo_json.specs.Text.{base64_of}
+use Rattle.redo_json.proofs.exact.write_base64.Goals as goal
+
+pub returns-in_err-write_chunks : goal.returns-in_err-write_chunks
+returns-in_err-write_chunks g c =
+    let text = base64_of c.args.bytes.now in
+    in_middle _ (quoted text) _ _ (34 ∷ []) (escape text) (34 ∷ []) _ _
+    c.from_residual-in_err-write_chunks.ensures.0 c.in_ok-push_all.ensures c.in_err-write_chunks.ensures refl
+
+pub returns : goal.returns
+returns g c =
+    let text = base64_of c.args.bytes.now in
+    at_last _ (quoted text) _ _ (34 ∷ escape text) (34 ∷ []) _
+    (one_more _ _ _ (34 ∷ []) (escape text) c.in_ok-push_all.ensures c.in_ok-write_chunks.ensures) c.push_all-2.ensures refl

@@ -1,0 +1,5 @@
+pub mod Fields
+pub mod Laws
+pub mod Object
+pub mod Private
+pub mod Text

@@ -1,0 +1,38 @@
+-- What writers in parts ensure.
+use Rattle.std.specs.Prelude.{◌≡◌, ℕ, ◌≤◌, ◌<◌, Bool, true, List, ◌++◌, length, take, Option, if◌then◌else◌}
+use Rattle.std.specs.List.{list_all}
+use Rattle.std.specs.Str.Lossy.{replacement_bytes, utf8_lossy}
+use Rattle.json.specs.Print.{escape, escape_byte}
+use Rattle.json.specs.Run.{is_plain}
+use Rattle.redo_device.specs.Sink.{Output, append_output}
+
+-- Of a text, everything except `rest` was written, and no write failed.
+pub record WroteUpTo (before after : Option Output) (text rest : List ℕ) : Type 0 where
+  pub prefix : List ℕ
+  pub wrote : after ≡ append_output before prefix 0
+  pub splits : prefix ++ rest ≡ text
+
+-- The first `len` bytes are written as they are.
+pub record ArePlain (bytes : List ℕ) (len : ℕ) : Type 0 where
+  pub within : len ≤ length bytes
+  pub plain : list_all is_plain (take len bytes) ≡ true
+
+-- 0 if bytes are plain, and 1 otherwise.
+abbrev pub special_bit_if : Bool → ℕ
+special_bit_if plain = if plain then 0 else 1
+
+-- A text is `plain`, which is written as it is, then a byte, and then `behind`.
+pub record HasEscape (text plain : List ℕ) (byte : ℕ) (behind : List ℕ) : Type 0 where
+  pub less : length behind < length text
+  pub escaped : escape text ≡ plain ++ (escape_byte byte ++ escape behind)
+
+-- Bytes are `valid` text, then a piece that is no character, and then `behind`.
+pub record HasInvalid (bytes valid behind : List ℕ) : Type 0 where
+  pub less : length behind < length bytes
+  pub text : utf8_lossy bytes ≡ valid ++ (replacement_bytes ++ utf8_lossy behind)
+
+-- Bytes are a chunk, which is encoded in Base64 without padding, and then `behind`.
+pub record HasChunk (bytes chunk behind : List ℕ) : Type 0 where
+  pub less : length behind < length bytes
+  pub splits : chunk ++ behind ≡ bytes
+  pub size : length chunk ≡ 768
