@@ -67,7 +67,7 @@ class Checks:
             self.passed += 1
         else:
             self.failed += 1
-            print(f"{name}: {str(found)[:600]}, not {str(wanted)[:600]}")
+            print(f"{name}: found {str(found)[:600]}; expected {str(wanted)[:600]}")
 
     def end(self, name):
         """Prints the count and exits, with status 1 if an expectation failed."""

@@ -9,7 +9,7 @@ import re
 from typing import NamedTuple
 
 from chart_model import DrawnBar, Span, Window, chart_html, layout, meter_html, most_at_once
-from text_model import bdi, lines_html, name_html, passage
+from text_model import bdi, cut_to, lines_html, name_html, passage
 from times_model import MOST, WIDEST, date, duration, size, tenths
 from model import Closed, Done, Mention, Note, Text  # found by times_model
 
@@ -562,16 +562,6 @@ class Page:
 
 def quoted(word):
     return word if re.fullmatch(rb"[a-zA-Z0-9@%+,./:=_-]+", word) else b"'" + word.replace(b"'", b"'\\''") + b"'"
-
-
-def cut_to(limit, line):
-    """At most `limit` bytes, of which the last ones are no front of a letter of UTF-8, or of a sequence that sets colours."""
-    if len(line) <= limit:
-        return line
-    at = limit
-    while at > 0 and (0x80 <= line[at] < 0xC0 or re.search(rb"\x1b[\[;0-9]*\Z", line[:at])):
-        at -= 1
-    return line[:at]
 
 
 ERROR = re.compile(rb"(?<![A-Za-z0-9_])(?:(?i:error|undefined reference|no such file|fatal|not found|cannot)|FAIL|FAILED)(?![A-Za-z0-9_])")

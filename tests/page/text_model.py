@@ -115,3 +115,16 @@ def lines_html(lines):
         html, style = passage(line + b"\n", style, colours=True)
         out.append(html)
     return b"".join(out)
+
+
+def cut_to(limit, raw):
+    """The longest prefix of a log's text that has at most `limit` bytes and ends between letters and sequences."""
+    text, at, size = raw.decode("utf-8", "surrogateescape"), 0, 0
+    while at < len(text):
+        found = SEQUENCE.match(text, at)
+        end = found.end() if found else at + 1
+        more = len(text[at:end].encode("utf-8", "surrogateescape"))
+        if size + more > limit:
+            break
+        at, size = end, size + more
+    return raw[:size]

@@ -15,7 +15,7 @@ def check(what, found, wanted):
     checks += 1
     if found != wanted:
         failures += 1
-        print(f"{what!r}\n  is       {found!r}\n  not      {wanted!r}")
+        print(f"{what!r}\n  found     {found!r}\n  expected  {wanted!r}")
 
 
 # ---- texts -----------------------------------------------------------------------------------------------------------

@@ -48,7 +48,7 @@ def libraries_of(program):
 
 def libraries():
     """Returns the libraries of both programs, and those that no program uses yet, each after its own dependencies."""
-    unused = libraries_of("redo_facts") + ["redo_facts"]
+    unused = [crate for unused in ("redo_facts", "redo_diagnostics", "redo_json") for crate in [*libraries_of(unused), unused]]
     return list(dict.fromkeys(libraries_of("redo_log") + libraries_of("redo_log_html") + unused))
 
 
@@ -127,6 +127,13 @@ class Specs:
 
 def contracts(crate):
     """Yields the public contracts of a crate: the file of each, whether it is part of a model, and what it cites."""
+    for where, model, cites, *_ in clauses(crate):
+        yield where, model, cites
+
+
+def clauses(crate):
+    """Yields each part of a public contract: its file, whether it is part of a model, what it cites, the type or trait of its block, and its
+    place in the file: where its item begins, where the braces open, and where they close."""
     root = NO_CODE.sub("", read("crates", crate, "src/lib.rt"))
     handed_out = {name for used in re.findall(r"\bpub use ([^;]+);", root) for name in WORD.findall(re.sub(r"\b\w+ as ", "", used))}
     modules = set(re.findall(r"\bpub mod (\w+)", root)) | {"lib"}
@@ -136,8 +143,9 @@ def contracts(crate):
         yield from of_items(text, f"{crate}/src/{path}", Names(text), lambda name: public or name in handed_out, None, True)
 
 
-def of_items(text, where, names, is_public, block, is_out):
-    """Yields the contracts of items. `block` is the trait of the impl that contains them, `trait`, `own`, or None."""
+def of_items(text, where, names, is_public, block, is_out, owner="", base=0):
+    """Yields the contracts of items. `block` is the trait of the impl that contains them, `trait`, `own`, or None. `owner` is its type or
+    trait, and `base` the place of `text` in its file."""
     head = at = 0
     while at < len(text):
         if text[at] == ";" and text.count("[", head, at) == text.count("]", head, at):  # not that of [u8; 4]
@@ -148,15 +156,17 @@ def of_items(text, where, names, is_public, block, is_out):
             if CLAUSE.search(before):
                 free = block is None and is_public(WORD.match(item[3])[0])
                 if is_out and ((item[1] or "").strip() == "pub" and (free or block == "own") or block not in (None, "own")):
-                    yield where, False, set(names.cited(inside))
+                    yield where, False, set(names.cited(inside)), owner, base + head, base + at, base + end
             elif ghost:
                 if is_out and block:
-                    yield where, block == "Model" and ghost[1] in ("view", "invariant", "inverse"), set(names.cited(inside))
+                    model = block == "Model" and ghost[1] in ("view", "invariant", "inverse")
+                    yield where, model, set(names.cited(inside)), owner, base + head, base + at, base + end
             elif item:
                 if item[2] in ("impl", "trait", "mod"):
                     trait, subject = parts_of(item)
                     out = item[2] == "mod" or is_public(subject)
-                    yield from of_items(inside, where, names, is_public, trait, out)
+                    name = f"{trait} for {subject}" if trait not in ("own", "trait", None) else subject * (item[2] != "mod")
+                    yield from of_items(inside, where, names, is_public, trait, out, name, base + at + 1)
                 head = end + 1
             elif not re.search(r"\buse\b", before):
                 head = end + 1

@@ -1,7 +1,7 @@
-"""The table of counts in docs/mutants.md, the lists that `run` prints, and the names that docs/guarantees.md and docs/mutants.md cite.
+"""The lists that `run` prints, and the names that docs/guarantees.md, killers.txt and laws.txt cite.
 
-The table is between the lines `<!-- generated: counts -->` and `<!-- end -->`. What kills each mutant is in killers.txt;
-the rest comes from the files of the crates and of tests/definition_mutants."""
+What kills each mutant is in killers.txt, what each law rules out in laws.txt; the rest comes from the files of the crates and of
+tests/definition_mutants."""
 import functools
 import os
 import re
@@ -10,14 +10,14 @@ import sys
 from contracts import COMMENT, NO_CODE, TOP, files, is_private, libraries, read
 
 sys.path.insert(0, os.path.join(TOP, "tests/definition_mutants"))
-from kept import crates_kept, kept  # noqa: E402
+from kept import BadEdit, crates_kept, kept  # noqa: E402
 
-GUARANTEES, MUTANTS, KILLERS = "docs/guarantees.md", "docs/mutants.md", "tests/specs/killers.txt"
+GUARANTEES, KILLERS, LAWS = "docs/guarantees.md", "tests/specs/killers.txt", "tests/specs/laws.txt"
 # The directories of a crate with its mutants: those that `rt ci` tries, and those that tests/mutants/run tries.
 FOLDERS = ("must-fail", "mutants")
-COUNTS = re.compile(r"^(<!-- generated: counts -->\n)(.*?)(^<!-- end -->$)", re.M | re.S)
+# The tables whose rows cite clauses and definitions, and those whose rows cite laws and their clauses.
 TABLE = re.compile(r"^Guarantee \| Clause \| Definition\n[-|]+\n((?:.* \| .*\n?)+)", re.M)
-LAWS = "## What each law rules out"
+TABLE_OF_LAWS = re.compile(r"^Law \| Clause \| In words\n[-|]+\n((?:.* \| .*\n?)+)", re.M)
 QUOTED = re.compile(r"`([^`]+)`")
 WORD = re.compile(r"[^\W\d]\w*")
 ENSURES = re.compile(r"^ +ensures\b *(\w*) *\{", re.M)
@@ -71,6 +71,24 @@ def killers():
     return found, faults
 
 
+def faults_of_edits():
+    """Yields the mutants and specification mutants whose old text isn't once in the file that they change."""
+    for crate, mutant in mutants():
+        for folder in FOLDERS:
+            if mutant + ".edit" in files(f"crates/{crate}/{folder}", ".edit"):
+                edit = read("crates", crate, folder, mutant + ".edit")
+                for file, old in re.findall(r"^file: (\S+)\nold: ?(.*)", edit, re.M):
+                    count = read("crates", crate, file).count(old)
+                    if count != 1:
+                        yield f"{crate}: {mutant}: '{old}' occurs {count} times in {file}"
+    for crate in crates_kept():
+        for wrong in kept(crate):
+            try:
+                wrong.texts()
+            except BadEdit as fault:
+                yield f"{crate}: {wrong.name}: {fault}"
+
+
 def rows_of_mutants():
     """Yields the mutants of each crate, by the file that they change, and what kills each."""
     killed, changed = killers()[0], mutants()
@@ -82,42 +100,29 @@ def rows_of_mutants():
 
 
 def rows_of_counts():
-    """Yields a table of the numbers of mutants and specification mutants, and of those that rows and laws kill."""
-    yield from ("", "Crate | Mutants | Specification mutants | killed by a row | killed by a law", "---|---|---|---|---")
+    """Yields the numbers of mutants and specification mutants of each crate, and of those that rows and laws kill."""
+    yield "mutants  specification mutants  killed by a row  killed by a law"
     ways = {crate: [wrong.by for wrong in kept(crate)] for crate in crates_kept()}
     rows = []
     for crate in libraries():
         own, by = [one for one, _ in mutants() if one == crate], ways.get(crate, [])
         rows.append((len(own), len(by), by.count("row"), by.count("law")))
-        yield " | ".join([f"`{crate}`", *map(str, rows[-1])])
-    yield from (" | ".join(["in all", *(str(sum(column)) for column in zip(*rows))]), "")
+        yield "{:7} {:22} {:16} {:16}  {}".format(*rows[-1], crate)
+    yield "{:7} {:22} {:16} {:16}  in all".format(*(sum(column) for column in zip(*rows)))
 
 
-def write():
-    """Writes the table of counts of docs/mutants.md."""
-    rows = "".join(row + "\n" for row in rows_of_counts())
-    text = COUNTS.sub(lambda part: part[1] + rows + part[3], read(MUTANTS))
-    with open(os.path.join(TOP, MUTANTS), "w", encoding="utf-8") as file:
-        file.write(text)
-
-
-def stale():
-    """Yields the differences between the table of counts of docs/mutants.md and what is generated."""
-    part, rows = COUNTS.search(read(MUTANTS)), list(rows_of_counts())
-    has = part[2].splitlines() if part else []
-    yield from (f"{MUTANTS} lacks: {row}" for row in rows if row not in has)
-    yield from (f"{MUTANTS} has a stale row: {row}" for row in has if row not in rows)
-    if has != rows:
-        yield f"{MUTANTS} is not as generated: tests/specs/run --write writes it"
+def rows_of_laws():
+    """Yields the rows of laws.txt."""
+    yield from (line for line in read(LAWS).splitlines() if " | " in line and not line.startswith("#"))
 
 
 def faults_of_mutants():
-    """Returns the mutants without a line in killers.txt, the lines without a mutant, and what is stale in docs/mutants.md."""
+    """Returns the mutants without a line in killers.txt, and the lines without a mutant."""
     (killed, faults), there = killers(), mutants()
     faults += [f"{KILLERS}: {crate} has no mutant {name}" for crate, name in killed if (crate, name) not in there]
     faults += [f"{KILLERS} lacks {crate}: {name}" for crate, name in there if (crate, name) not in killed]
     faults += [f"{KILLERS}: {name}: {fault}" for (_, name), cell in killed.items() for fault in unknown(cell)]
-    return faults + list(stale())
+    return faults
 
 
 def faults_of_guarantees(specs):
@@ -134,16 +139,25 @@ def faults_of_guarantees(specs):
 
 
 def faults_of_laws():
-    """Returns the clauses of laws that have no row in docs/mutants.md, and the rows for anything else."""
-    section = read(MUTANTS).partition(LAWS)[2].split("\n## ")[0]
-    cells = [QUOTED.findall(row.split(" | ")[0]) for row in section.splitlines() if " | " in row]
-    rows = {(law, clause) for law, *clauses in filter(None, cells) for clause in clauses or [""]}
+    """Returns the clauses of laws that have no row in laws.txt, the rows for anything else, and the rows of docs/guarantees.md for anything
+    else."""
+    rows = {(law, clause) for row in rows_of_laws() for law, clause in cells_of(row.split(" | ")[0])}
     there = set()
     for path in (path for path in sources() if path.endswith("/laws.rt")):
         for function in re.split(r"^pub fn ", read("crates", path), flags=re.M)[1:]:
             there |= {(WORD.match(function)[0], clause) for clause in ENSURES.findall(function)}
-    faults = [f"{MUTANTS} has no row for the law {law}: {clause}" for law, clause in sorted(there - rows)]
-    return faults + [f"{MUTANTS} has a row for {law}: {clause}, which is no clause of a law" for law, clause in sorted(rows - there)]
+    faults = [f"{LAWS} has no row for the law {law}: {clause}" for law, clause in sorted(there - rows)]
+    changes = {word for row in rows_of_laws() for name in QUOTED.findall(row.partition(" | ")[2]) for word in WORD.findall(name) if "_" in word}
+    faults += [f"{LAWS}: `{word}` is not in the sources" for word in sorted(changes - words_of_code())]
+    faults += [f"{LAWS} has a row for {law}: {clause}, which is no clause of a law" for law, clause in sorted(rows - there)]
+    told = {place for table in TABLE_OF_LAWS.findall(read(GUARANTEES)) for row in table.splitlines() for place in cells_of(" ".join(row.split(" | ")[:2]))}
+    return faults + [f"{GUARANTEES} has a row for {law}: {clause}, which is no clause of a law" for law, clause in sorted(told - there)]
+
+
+def cells_of(cell):
+    """Returns the law that a cell names first, with each clause that it names after it, or with an empty one."""
+    law, *clauses = QUOTED.findall(cell)
+    return {(law, clause) for clause in clauses or [""]}
 
 
 def sources():

@@ -12,7 +12,7 @@ PAGE = "docs/theorem.md"
 CLAUSE_OF = "redo_run/src/running.rt"
 # The maximum number of quoted lines.
 MOST_LINES = 400
-# The maximum number of other lines that the laws of a page depend on. docs/page.md says it.
+# The maximum number of other lines that the laws of a page depend on. docs/guarantees.md says it.
 MOST_PAGE_LINES = 2500
 PART = r"\w+ \w+(?:: (?:[^\s;]+ to )?[^\s;]+)?"
 MARK = re.compile(rf"^(<!-- ({PART}(?:; {PART})*) -->\n)(?:```\n.*?\n```\n)?", re.M | re.S)
@@ -48,8 +48,8 @@ def lines_of_page(specs):
 def faults_of_page(specs):
     lines = sum(lines_of_page(specs).values())
     found = [f"the laws depend on {lines} lines, more than {MOST_PAGE_LINES}"] * (lines > MOST_PAGE_LINES)
-    if f"at most {MOST_PAGE_LINES:,} lines" not in read("docs/page.md"):
-        found.append(f"docs/page.md doesn't say that the laws depend on at most {MOST_PAGE_LINES:,} lines")
+    if f"at most {MOST_PAGE_LINES:,} lines" not in read("docs/guarantees.md"):
+        found.append(f"docs/guarantees.md doesn't say that the laws depend on at most {MOST_PAGE_LINES:,} lines")
     return found
 
 
