@@ -1,5 +1,6 @@
 # Completion for redo-log in bash 4.4 or newer: its options, directories after --dir, and the names that the directory
-# lists. A name that begins with a dash is offered only after --.
+# lists. A name that begins with a dash is offered only after --. The completion quotes names itself: readline does so only for file
+# names, and would add a slash to a target that is also a directory.
 
 # Splits a line into `words` as bash does, but expands nothing. Sets `quote` to the quote that is open at the end of the line.
 _redo_log_words() {
