@@ -65,7 +65,7 @@ whole_line :
     bytes_eq (bytes (excerpt_line_parts (replicate 1000 97)))
     (replicate 1000 97 ++ codes "\n")
     ≡ true
-unfolding excerpt_line_parts excerpt_line_end cut_to
+unfolding excerpt_line_parts excerpt_line_end cut_to begins_at symbol_len is_sequence sequence_len code_point_len
 whole_line = refl
 
 long_line :
