@@ -110,7 +110,7 @@ logs =
 
 these_logs : AllByRecursion (
     λ row. explanation_as (codes "redo-log") (codes "-d") None many_logs arguments (Run (run.Stream row.position stream.Read)) ≡ row.text_is
-) logs
+    ) logs
 unfolding digits
 these_logs = (refl, (refl, (refl, tt)))
 
