@@ -1,4 +1,4 @@
-/* Buffers of what is about to be written, so that many short writes become one. */
+/* Buffers of writes, so that many short ones become one. */
 #define _GNU_SOURCE
 #include "capture.h"
 #include <stdlib.h>

@@ -62,7 +62,7 @@ void add_time(struct text *text, int64_t time);
 enum { MAX_DIGITS = 20 };
 char *write_number(char *to, int64_t number);
 
-/* buffer.c: what is about to be written */
+/* buffer.c: buffers of writes */
 
 enum { MAX_BUFFERED = 65536 }; /* in bytes */
 struct write_buffer {
@@ -165,7 +165,7 @@ struct log_file {
   int is_dirty;               /* it is in the list of logs to be flushed */
   struct target *next_dirty;
 
-  /* Sizes: the records at its start, all of it, what is written, the prefix that was printed. */
+  /* Sizes: the records at its start, all of it, the written prefix, the printed prefix. */
   off_t header_size, size, written_size, shown_size;
   struct range *mentions; /* the provisional records */
   size_t mention_count, mention_capacity;
@@ -298,14 +298,14 @@ void complete_line(struct target *target);
 void add_mention(struct log_file *log, off_t start, off_t end);
 /* Appends a provisional record to the log of the parent: that the target began, or, unless `status` is -1, that it ended. */
 void mention_in_parent(struct target *target, pid_t process, int64_t time, int status);
-/* Writes what is buffered for one log, or for all logs. If `can_begin` isn't set, the journal can't be written, and no log may be
+/* Writes the buffer of one log, or of all logs. If `can_begin` isn't set, the journal can't be written, and no log may be
    begun. */
 int flush_log(struct target *target);
 void flush_logs(int can_begin);
 void forget_logs(void);
 /* If somebody has removed the log, closes it. The next write creates it again. */
 void detect_lost_log(struct target *target);
-/* Writes what is buffered, and returns a descriptor of the log, or -1. */
+/* Writes the buffer, and returns a descriptor of the log, or -1. */
 int open_log(struct target *target);
 void close_log(struct target *target);
 /* Closes a log when logs are flushed next, if too many are open. */
@@ -342,11 +342,11 @@ struct pipe;
    kept for this; if there is none left, copies the output to standard error, and returns NULL. */
 struct pipe *new_pipe(int descriptor, struct target *target);
 void start_pipe(struct pipe *pipe, struct target *target);
-/* Lets the loop wait for pipes that were started and have not ended since. With `only_old`, it waits for those alone that an earlier
+/* Lets the loop wait for started pipes that are still open. With `only_old`, it waits for those alone that an earlier
    call has seen; the next call follows soon. */
 void watch_pipes(int only_old);
 void close_pipe(struct pipe *pipe);
-/* Reads what the pipe contains; if `waits_for_more` is set, also what arrives shortly. At the end of input, when no process can
+/* Reads the contents of the pipe; if `waits_for_more` is set, also bytes that arrive shortly. At the end of input, when no process can
    write to it any more, closes the pipe and returns 1. */
 int drain_pipe(struct pipe *pipe, int waits_for_more);
 /* Reads once. Returns the number of bytes. */
@@ -446,7 +446,7 @@ void ask_makes(void);
 void receive_from_make(struct make *make);
 void receive_notes(struct make *make);
 
-/* display.c: what is printed on standard error while the build runs */
+/* display.c: the lines on standard error while the build runs */
 
 extern int show_mode, captures_output; /* as in protocol.h */
 void show_output(const struct line *line, int status);
@@ -472,7 +472,7 @@ size_t max_open_logs(void);
 /* Whether the process has so few descriptors left that makes should wait for a reply to each line. */
 int is_short_of_descriptors(int latest);
 void warn_too_many_files(void);
-/* Writes what is buffered to the capture directory. */
+/* Writes all buffers to the capture directory. */
 void flush_captures(void);
 /* Serves the build until the command has ended. */
 void serve_command(void);

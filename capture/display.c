@@ -1,4 +1,4 @@
-/* What is printed on standard error while the build runs: the output of a failed recipe, as soon as it has failed. Nothing here
+/* The lines on standard error while the build runs: the output of a failed recipe, as soon as it has failed. Nothing here
    allocates memory, so that a block is whole even if there is little. */
 #define _GNU_SOURCE
 #include "capture.h"

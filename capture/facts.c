@@ -15,7 +15,7 @@ enum { MAX_FILE = 1 << 30, MAX_VALUE = 1 << 18, MAX_LINE = MAX_VALUE + 64, MAX_N
 
 int records_all_commands;
 
-/* Facts are buffered: that a log begins, until it is emptied; all others until it is written. So the file has no facts of an earlier
+/* Facts are buffered: that a log begins, until it is emptied; all others until it is written. The file then has no facts of an earlier
    log, nor of a later one, if this process is killed. The buffers are static, so that facts take no memory from the logs. */
 struct facts {
   char bytes[2 * MAX_LINE];
@@ -37,7 +37,7 @@ static void add_to_text(const char *bytes, size_t size, void *to) {
   text->size += size;
 }
 
-/* Without the facts of this run, facts of earlier logs would count for the new ones. So the file is removed. */
+/* Without the facts of this run, facts of earlier logs would count for the new ones, so the file is removed. */
 static void abandon_facts(void) {
   int error = errno;
   if (facts_fd >= 0) close(facts_fd);

@@ -88,7 +88,7 @@ static unsigned parse_log_name(const char *name) {
   return *end || number > MAX_LOGS ? 0 : number;
 }
 
-/* Finds the highest number of all lines and logs. So no new log gets the number of an existing one whose line was removed. */
+/* Finds the highest number of all lines and logs, so that no new log gets the number of an existing one whose line was removed. */
 static void find_last_number(void) {
   last_number = 1;
   for (size_t i = 0; i < listed_count; i++)

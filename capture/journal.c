@@ -8,9 +8,9 @@
      mention NUMBER START END                      these bytes of its log are a provisional record
    `.capture/closed` has a line for each closed log: its number and its name.
 
-   The journal names a target before its log is truncated, and has other events after what they say is in the logs. So, even
+   The journal names a target before its log is truncated, and has other events once the logs have them. Even
    if a build is killed or the disk is full, a log that is listed as closed is closed. `closed` lists logs by number and name,
-   not by their last bytes. So a log that has lost its end is flagged, and `redo-log` rejects it. Flags are optional, because
+   not by their last bytes, so a log that has lost its end is flagged, and `redo-log` rejects it. Flags are optional, because
    a flagged log can't just be deleted. */
 #define _GNU_SOURCE
 #include "capture.h"

@@ -1,8 +1,8 @@
 /* The logs. A log has records at its start, then text, then its closing record. While the run goes on, it also has provisional
    records: each mentions a target that a sub-make of the recipe makes, at the time of the event. `finish` replaces them.
 
-   What is appended to a log is buffered until flush_logs, which the server calls some milliseconds later. So a short recipe costs one
-   write.
+   Output of a log is buffered until flush_logs, which the server calls some milliseconds later. A short recipe costs one write
+   therefore.
 
    A log is truncated, not replaced: on ext4 a new file costs more, the more files were removed shortly before. */
 #define _GNU_SOURCE
@@ -110,7 +110,7 @@ static int write_to_log(struct target *target, const char *bytes, size_t size) {
   return -1;
 }
 
-/* Drops what the log would have had after what is written. */
+/* Drops the end of the log, which isn't written. */
 static void truncate_log(struct log_file *log) {
   log->size = log->written_size;
   while (log->mention_count > 0 && log->mentions[log->mention_count - 1].end > log->size) log->mention_count--;

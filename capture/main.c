@@ -1,4 +1,4 @@
-/* redo-log-capture: captures a build by GNU make for redo-log. README.md describes what is captured, and how. */
+/* redo-log-capture: captures a build by GNU make for redo-log. README.md describes which output is captured, and how. */
 #define _GNU_SOURCE
 #include "capture.h"
 #include "protocol.h"

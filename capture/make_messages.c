@@ -1,6 +1,6 @@
 /* The messages of makes. They aren't trusted: an invalid one ends the connection.
 
-   A sub-make's messages may arrive before the messages of the make that started it. So the server reads the parent's messages
+   A sub-make's messages may arrive before the messages of the make that started it, so the server reads the parent's messages
    before a line of a sub-make begins, and the sub-make's before the parent's line ends. */
 #define _GNU_SOURCE
 #include "make.h"
@@ -103,7 +103,7 @@ static void create_file(const char *name) {
   if (file >= 0) close(file);
 }
 
-/* Writes what is buffered, and creates the files that the recipe will need, because it may remove the directory. */
+/* Writes all buffers, and creates the files that the recipe will need, because it may remove the directory. */
 static void create_log(struct make *make, uint32_t number) {
   struct recipe_entry *recipe = find_recipe(make, number);
   struct target *target = NULL;

@@ -12,7 +12,7 @@
 #include <string.h>
 #include <unistd.h>
 
-/* In bytes: CHUNK, the most that is read at once, and more than a terminal contains; and MAX_HELD, the longest unended line that is held
+/* In bytes: CHUNK, the maximum of one read, and more than a terminal contains; and MAX_HELD, the longest unended line that is held
    back. In milliseconds: FLUSH_MS, how long an unended line is held back if nothing follows; and how long to wait for more output of a
    failed recipe: POLL_MS, if nothing arrives, and DRAIN_MS, in all. */
 enum { CHUNK = 65536, MAX_HELD = 64 << 20, FLUSH_MS = 200, POLL_MS = 20, DRAIN_MS = 100 };

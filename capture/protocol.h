@@ -3,7 +3,7 @@
 
    Each make has two sockets. Messages that need a reply go through the first one. All others go through the second one, which
    the first message passes. The server may read it some milliseconds later, and always reads it before it reads a message
-   from the first one. So a short line of a recipe wakes the server once, and make waits for it only if a message needs a
+   from the first one. A short line of a recipe wakes the server once, and make waits for it only if a message needs a
    reply. Waiting at each line doubled the time of builds with short recipes. The server buffers what it writes for up to four
    reads of messages. A message, and the descriptor that it passes, stay in the socket's queue if make dies. If a queue is
    full, make waits until it isn't.

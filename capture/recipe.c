@@ -1,4 +1,4 @@
-/* Recipes and their lines: what is written to the logs when they begin and end. */
+/* Recipes and their lines. Writes to the logs when they begin and end. */
 #define _GNU_SOURCE
 #include "make.h"
 #include <stdlib.h>

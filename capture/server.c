@@ -15,9 +15,9 @@
 #include <unistd.h>
 
 /* Once a line was announced, or fewer than SMALL_READ bytes were read, messages that need no reply, and pipes, are read DEFER_MS
-   milliseconds later. So short lines, and recipes that print a little at a time, wake the server less often. */
+   milliseconds later. Short lines, and recipes that print a little at a time, then wake the server less often. */
 enum { SMALL_READ = 16384, DEFER_MS = 2, MAX_EVENTS = 64 };
-/* While lines are announced, what is buffered is written when reading has been deferred FLUSH_ROUNDS times. Most short recipes have ended
+/* While lines are announced, buffers are written when reading has been deferred FLUSH_ROUNDS times. Most short recipes have ended
    by then, and cost one write. */
 enum { FLUSH_ROUNDS = 4 };
 /* If fewer descriptors than this are left, or fewer than a quarter of them, makes wait for a reply to each line. */
@@ -127,8 +127,8 @@ static void serve_deferred(void) {
 
 void warn_too_many_files(void) { warn_once("too many open files: what some recipes print is not captured"); }
 
-/* If there are too many open files, closes a spare one, and uses its descriptor to accept a connection and close it. So no make
-   waits for a connection. */
+/* If there are too many open files, closes a spare one, and uses its descriptor to accept a connection and close it, so that
+   no make waits for a connection. */
 static void reject_make(void) {
   close(spare_fd);
   int file = accept4(listener.fd, NULL, NULL, SOCK_CLOEXEC);

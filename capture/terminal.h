@@ -16,7 +16,7 @@ static inline int find_window_size(struct winsize *size) {
   return -1;
 }
 
-/* In raw mode, what is written to a terminal is read as it is. */
+/* In raw mode, bytes pass a terminal unchanged. */
 static inline int set_raw_mode(int terminal) {
   struct termios mode;
   if (SYSCALL(ioctl, terminal, TCGETS, &mode, 0) < 0) return -1;
@@ -24,7 +24,7 @@ static inline int set_raw_mode(int terminal) {
   return SYSCALL(ioctl, terminal, TCSETS, &mode, 0) < 0 ? -1 : 0;
 }
 
-/* Opens a pseudo-terminal of this window's size: what is written to ends[1] is read from ends[0]. As ends[1] can't be read, it never
+/* Opens a pseudo-terminal of this window's size: bytes written to ends[1] are read from ends[0]. As ends[1] can't be read, it never
    becomes a controlling terminal, and nobody waits for input there. Returns -1 if no terminal is left. */
 static inline int open_terminal(int ends[2]) {
   static const int is_locked = 0;

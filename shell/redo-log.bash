@@ -23,7 +23,7 @@ _redo_log_words() {
 
 # Prints the names in $dir/names that begin with `typed`, without their prefix `start`, escaped for the open quote `quote`. If
 # a printed name begins or ends with that quote, it gets another one there, because Readline takes it for the quote that it opened
-# or must close. If more than a thousand names match, this prints only some of them, with the same common prefix as all. So it is
+# or must close. If more than a thousand names match, this prints only some of them, with the same common prefix as all, so it is
 # fast, and the common prefix is still completed.
 _redo_log_names() {
   [[ -f $dir/names ]] || return

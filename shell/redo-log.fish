@@ -2,7 +2,7 @@
 # begins with a dash is offered only after --. A name that has a tab or begins with a tilde is not offered: fish takes the text
 # after a tab as a description.
 
-# If more than a thousand names match, this prints only some of them, with the same common prefix as all. So it is fast, and the
+# If more than a thousand names match, this prints only some of them, with the same common prefix as all, so it is fast, and the
 # common prefix is still completed.
 function __redo_log_names
     set -l option

@@ -1,6 +1,6 @@
 /* A line of a recipe, up to its start.
 
-   The pipe is passed before a line starts, and the process number afterwards. So a recipe that kills make loses no line. */
+   The pipe is passed before a line starts, and the process number afterwards, so a recipe that kills make loses no line. */
 #define _GNU_SOURCE
 #include "hook.h"
 #include "../terminal.h"

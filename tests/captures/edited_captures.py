@@ -1,5 +1,5 @@
 """Capture directories that somebody changed by hand, between two builds or during one. The build runs as without a capture, and
-the captures are right, or one line says what is wrong with them."""
+the captures are right, or one line names their fault."""
 import os
 import re
 import shutil
@@ -475,7 +475,7 @@ def cannot_write(path):
 
 
 LATE_LINES = ["a", "all", "b", "b again", "c", "s1", "s1 again", "s2", "t", "t again"]
-# What a recipe does, with V for the name of a file elsewhere; the messages, or two of which there is one; the text, unless names can't
+# What a recipe does, with V for the name of a file elsewhere; the messages, or two alternatives; the text, unless names can't
 # be read; and which lines may be on the terminal. PUT puts a link in the place of a file in one step.
 PUT = "ln -s V link; mv -T link {}/"
 LINKED_MEANWHILE = {

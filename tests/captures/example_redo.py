@@ -521,7 +521,7 @@ def copied(folder, to):
 
 def moments(checks, at):
     """Captures at 200 random moments of builds, each over the one before. redo-log accepts each of them and each copy, and no log that
-    isn't closed has the must-close flag."""
+    is open has the must-close flag."""
     names = [f"d{number % 5}/t{number}" for number in range(25)]
     folder = project(at("moments"), all_do=f"redo-ifchange {' '.join(names)}\necho all >&2\n", shared_do="sleep 0.1; echo shared >&2\n")
     say = "for word in 1 2 3 4 5; do printf \"$1 $word\" >&2; redo-ifchange ../shared; echo >&2; sleep 0.0$word; done\n"

@@ -23,7 +23,7 @@ def summary_of(folder):
 
 
 def errors_of(err):
-    """Returns the status of each target of which make reports an error."""
+    """Returns the status of each target whose error make reports."""
     return dict(re.findall(r"^make(?:\[\d+\])?: \*\*\* \[[^\]]*?(\w+)\] Error (\d+)", err, re.M))
 
 
@@ -130,13 +130,13 @@ RECORDS = (
 
 
 def lines_like_records(checks, at):
-    """Whatever a recipe prints is text."""
+    """Each line that a recipe prints is text."""
     printed, text = ("\n".join(row[column] for row in RECORDS) + "\n" for column in (0, 1))
     folder = project(at("whole"), "x: ; @cat lines >&2\n")
     write(os.path.join(folder, "lines"), printed)
     checks.expect("lines like records: make", make(folder)[0], 0)
     checks.expect("lines like records", shown(folder, "x"), f"redo  x\n{text}")
-    # In parts, each of which is written to the log before the next one arrives; without a line feed; by two lines of a recipe.
+    # In parts: each is written to the log before the next one arrives; without a line feed; by two lines of a recipe.
     parts = "x:\n\t@for part in @ @RE DO:done:1:1@@ ' 0 x\\n'; do printf \"$$part\" >&2; {}; done\n\t@printf @@REDO: >&2\n\t@printf '@@REDO:do:1:1@@ y' >&2\n"
     folder = project(at("parts"), parts.format("sleep 0.4"))
     checks.expect("a line like a record in parts: make", make(folder)[0], 0)

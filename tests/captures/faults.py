@@ -1,5 +1,5 @@
 """A build goes on as without a capture if system calls of make or redo-log-capture fail, if memory or descriptors run out, and if a
-process pretends to be a make. No line is lost: whatever recipes print is in a log or on standard error."""
+process pretends to be a make. No line is lost: each line that recipes print is in a log or on standard error."""
 import array
 import contextlib
 import fcntl
@@ -431,7 +431,7 @@ def still_there(pipe):
         with contextlib.suppress(OSError):
             if process != os.getpid() and os.readlink(descriptor) == name:
                 left.add(process)
-    # Once the process that reads what others print is killed, they end by themselves. So all are found before.
+    # Once the process that reads what others print is killed, they end by themselves, so all are found before.
     for process in left:
         with contextlib.suppress(OSError):
             os.kill(process, signal.SIGKILL)

@@ -28,7 +28,7 @@ def contents(folder, name):
 
 
 def arguments(checks, at):
-    """The program runs once the logs are closed, whatever the status of the build, which stays."""
+    """The program runs once the logs are closed, for any status of the build, which stays."""
     folder = project(at("some"), "all: a b\na: ; @echo a >&2; exit $(A)\nb: ; @echo b >&2\n")
     path = program(at("programs")) + ":" + os.environ["PATH"]
     with_stand_in = {"PATH": path, "NOTES": "notes", "READ": "it's/log.2"}

@@ -847,7 +847,7 @@ def uncaptured(checks, at, make):
 
 
 def features_of_others(checks, at):
-    """The same with other makes, listed in the variable MAKES and separated by colons."""
+    """Tries the features with other makes, listed in the variable MAKES and separated by colons."""
     for make in filter(None, os.environ.get("MAKES", "").split(":")):
         part = features if can_be_led(make) else uncaptured
         part(checks, lambda name: at(os.path.join(os.path.basename(make), name)), make)

@@ -272,7 +272,7 @@ def broken_off(checks, at):
 
 
 def finish_broken_off(checks, at):
-    """The same for a --finish after a build that was killed."""
+    """After a killed build, --finish is killed before each change in turn. A second --finish completes the captures."""
     breaking = Breaking(checks, at)
     number, is_broken = 0, True
     while is_broken:
@@ -340,7 +340,7 @@ def cut_copies(checks, at):
 
 
 def many_marks(checks, at):
-    """A list of 20,000 names, of which one is made again."""
+    """A list of 20,000 names: one of them is made again."""
     count = 20000
     folder = project(at("many"), "all: x\nx: ; @echo x >&2\n")
     make(folder)

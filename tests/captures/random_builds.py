@@ -33,7 +33,7 @@ COLOURED = range(50000, 100000)
 FIXED_COLOURED = DAILY_COLOURED = 60
 # The end of text that has no line feed. Such text and what another process prints next are one line, or two.
 UNENDED = "<unended>"
-# make writes the text of $(info) and the line feed after it in two parts. So another process may print between them.
+# make writes the text of $(info) and the line feed after it in two parts, so another process may print between them.
 INFO = "<info>"
 # What a script puts before each line of some makes.
 BEFORE_LINE = r"\[[^\[\]~]+ ~\d+\]"
@@ -95,8 +95,8 @@ class Rule:
 
 
 class Build:
-    """A build: files, a command, and options of redo-log-capture. What a plain build does must not depend on time. So where recipes run
-    in parallel, a failure stops the build only with `is_determined` unset; then less is compared."""
+    """A build: files, a command, and options of redo-log-capture. The result of a plain build must not depend on time. Where recipes run in
+    parallel, a failure therefore stops the build only with `is_determined` unset; then less is compared."""
 
     def __init__(self, seed):
         self.rng = random.Random(seed)
@@ -114,7 +114,7 @@ class Build:
         self.is_silent, self.has_second = rng.random() < 0.12, rng.random() < 0.2
         self.sync = rng.choice(("", "", "", "", "", "-O", "-Oline", "-Otarget", "-Orecurse", "-Onone"))
         self.is_synced = self.sync not in ("", "-Onone")
-        # Shells and cat write their messages in parts. So there are messages if nobody else prints at that time.
+        # Shells and cat write their messages in parts, so there are messages only if nobody else prints at that time.
         self.is_alone = self.jobs == 1 and not self.has_second and not self.keeps_going and rng.random() < 0.5
         self.says_all = self.is_synced or self.is_alone
         top = self.add_make("", rng.choice(("Makefile", "Makefile", "makefile", "GNUmakefile")), None)
@@ -551,7 +551,7 @@ def words_in(build, lines):
 
 
 def possible_statuses(build, words):
-    """The statuses that the summary may have for each target of which make says something."""
+    """The statuses that the summary may have for each target that make's messages name."""
     statuses = {}
     for name in {word.name for word in words}:
         own = [word for word in words if word.name == name]

@@ -247,7 +247,7 @@ def long_blocks(checks, at):
 
 
 def uncaptured(checks, at):
-    """Recipes are captured whatever a makefile sets that they depend on."""
+    """Recipes are captured with all settings of makefiles that they depend on."""
     makefile = "all: x y\nx y:\n\t@echo $@ >&2\n\t@echo $@ again >&2\n"
     for name, front in {"GPATH": "GPATH = .\n", "flags of single targets": "x y: .SHELLFLAGS = -ec\n", "MAKEFILES": "MAKEFILES = none\n"}.items():
         folder = project(at(name), front + makefile)

@@ -94,7 +94,7 @@ def kept(crate):
 
 
 def take(line, crate, found, given):
-    """Adds what a line says to the last mutant found, or to what is given before the first one."""
+    """Adds what a line says to the last mutant found, or to the head before the first one."""
     if line.startswith("== "):
         found.append(Wrong(crate, line[3:].strip()))
         return

@@ -1,7 +1,7 @@
 """Tries specification mutants: one check of a library that has, for each mutant, a copy of what depends on it.
 
 The copies are modules of that library, below specs/wrong_K. They depend on the crates themselves, which are given as
-sources. Nothing in these is proved; only what the copies import is read. So no library needs to be built.
+sources. Nothing in these is proved; only what the copies import is read, so no library needs to be built.
 """
 import functools
 import os

@@ -34,7 +34,7 @@ def start(program, directory, words):
 def ended(process):
     """Returns the status (negative for a signal, or `timeout`), standard output and standard error, and the seconds that it took.
 
-    It waits for each second separately. So if the machine stops with all its processes, the stop counts as one second, however
+    It waits for each second separately. If the machine stops with all its processes, the stop counts as one second, however
     long it is. On a machine that others use too, stops of more than twenty seconds were seen.
     """
     began = time.monotonic()

@@ -216,7 +216,7 @@ def bad_line(rng, own, targets):
 
 
 def unended_rest(rng, own, targets):
-    """Returns the bytes after the last line feed: a text, or a record that was truncated or not ended."""
+    """Returns the bytes after the last line feed: a text, or a record that was truncated or lacks its line feed."""
     return rng.choice(
         [
             lambda: rng.choice(TEXTS),

@@ -171,7 +171,7 @@ def case(seed, directory):
 
 
 def growing(seed, directory):
-    """Writes two logs, one of which mentions the other. Returns the arguments, the path of the other log, and what to append."""
+    """Writes two logs; one mentions the other. Returns the arguments, the path of the other log, and what to append."""
     rng = random.Random(f"growing {seed}")
     files = {"names": b"1 a\n2 b\n", "log.1": b"@@REDO:do:7:1@@ b\nend of a\n", "log.2": b"first of b\n"}
     for name, content in files.items():

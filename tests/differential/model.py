@@ -219,7 +219,7 @@ def index_of(data: bytes) -> list[Listed]:
 
 
 def path_of(current: bytes, directory: bytes, file: bytes) -> bytes:
-    """Returns the directory's path, a slash, and the file's name. So the empty DIR denotes the root."""
+    """Returns the directory's path, a slash, and the file's name: the empty DIR denotes the root."""
     return os.path.join(current, directory + b"/" + file)
 
 

@@ -2,7 +2,7 @@
    they are hashed: `chosen fold|sip names|numbers COUNT`.
      fold  by FoldHasher, whose seed is fixed: for a name its length, and then each byte
      sip   by SipHash-1-3 with both keys 0, as in HashKeys::fixed() of redo_name
-   Names have 102 bytes, and numbers nine digits. The names of `fold`, of which there are 131,072, all have the same hash. All
+   Names have 102 bytes, and numbers nine digits. The 131,072 names of `fold` all have the same hash. All
    others are found by trial: a table of COUNT entries begins to search for them in one group, or in a few adjacent groups. */
 #include <stdint.h>
 #include <stdio.h>

@@ -23,7 +23,7 @@ FLAGS = ["recursive", "unchanged", "details", "debug_locks", "debug_pids"]
 
 
 class Shown(NamedTuple):
-    """A log that is shown: the logs that are opened in it, in order, and `None` for each other thing that is to be seen."""
+    """A log that is shown: the logs that are opened in it, in order, and `None` for each other visible thing."""
 
     number: int
     items: list

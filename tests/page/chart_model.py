@@ -24,7 +24,7 @@ class Window(NamedTuple):
 
 
 class Bar(NamedTuple):
-    """What is drawn of the spans in a lane that are too narrow to be seen apart, or of one span. x and width are in units."""
+    """The bar of one span, or of several in a lane that are too narrow to be drawn apart. x and width are in units."""
 
     lane: int
     x: int
@@ -60,7 +60,7 @@ def is_narrow(window, span):
 
 
 def joins(window, bar, span):
-    """Whether a span joins the bar before it, of which these are the spans."""
+    """Whether a span joins the bar before it, which has these spans."""
     bar_ended = units(window, max(other.ended for other in bar))
     return (all(is_narrow(window, other) for other in [*bar, span])
             and units(window, span.began) - bar_ended < 10

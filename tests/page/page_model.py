@@ -17,7 +17,7 @@ from model import Closed, Done, Mention, Note, Text  # found by times_model
 
 
 class Shown:
-    """A target whose log is shown, or the whole page: `items` has the logs in it, and everything else that is to be seen."""
+    """A target whose log is shown, or the whole page: `items` has the logs in it, and everything else that is visible."""
 
     def __init__(self, target, parent, place):
         self.target, self.parent, self.place = target, parent, place
@@ -233,7 +233,7 @@ class Page:
         return self.level is not None and shown.size > self.level and not self.is_moved(shown)
 
     def items_of(self, shown):
-        """The items of a log. If it is cut, they have its first and its last text lines, and what is in place of the others."""
+        """The items of a log. If it is cut, they have its first and its last text lines, and a marker for the others."""
         if not self.is_cut(shown):
             return shown.items
         head = self.level // 4

@@ -51,7 +51,7 @@ def form_of(name, value):
 
 
 class Reader(html.parser.HTMLParser):
-    """Reads a page, and notes what isn't as it should be."""
+    """Reads a page, and notes its faults."""
 
     def __init__(self):
         super().__init__(convert_charrefs=True)
@@ -97,7 +97,7 @@ class Reader(html.parser.HTMLParser):
 
 
 def read(page):
-    """Returns the text of a page, and what isn't as it should be."""
+    """Returns the text of a page, and its faults."""
     reader = Reader()
     reader.feed(page.decode("utf-8", "strict"))
     reader.close()
@@ -111,7 +111,7 @@ def read(page):
 
 
 def read_by_standard(page):
-    """The same by html5lib: also every parse error."""
+    """Returns the text of a page, and its faults, by html5lib. Every parse error is a fault."""
     sys.path.append("/usr/lib/python3/dist-packages")
     import html5lib
     parser = html5lib.HTMLParser(tree=html5lib.getTreeBuilder("etree"), namespaceHTMLElements=False)

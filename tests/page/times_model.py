@@ -21,7 +21,7 @@ def time_value(time):
 
 
 def times_of(logs):
-    """Returns when each target began and ended, None for what is not known. `logs` has the target and the bytes of each log."""
+    """Returns when each target began and ended: None for an unknown time. `logs` has the target and the bytes of each log."""
     began, ended_in_own_log, ended_in_other_log = {}, {}, {}
     for target, data in logs:
         for line in logs_model.lines_of(data[: logs_model.MOST_BYTES]):

@@ -196,7 +196,7 @@ def made_page(logs, requested=(b"all",), **other):
 
 
 def part(page, begin, end):
-    """What is between the first `begin` and the first `end` after it."""
+    """The text between the first `begin` and the first `end` after it."""
     found = page.partition(begin)[2]
     return found.partition(end)[0] if end in found else None
 
@@ -218,7 +218,7 @@ def numbered(first, last, length=99):
     return b"".join(b"%0*d\n" % (length, number) for number in range(first, last + 1))
 
 
-# 100 lines of 100 bytes, of which 4,096 bytes are shown: lines 1 to 10 end within the first 1,024, and the last 3,072 have 30 lines.
+# 100 lines of 100 bytes, with 4,096 bytes shown: lines 1 to 10 end within the first 1,024, and the last 3,072 have 30 lines.
 LONG = {b"all": record(b"do", 1, b"a") + numbered(1, 100) + record(b"done", 2, b"0 all"), b"a": b""}
 page = made_page(LONG, max_bytes=5, directory=b"my dir")
 check("a long log", part(page, b"<ul class=\"tree\">", b"</section>"),
@@ -247,7 +247,7 @@ check("a long line between", told(made_page({b"all": numbered(1, 1, 1023) + numb
 check("a long line at the end", told(made_page({b"all": numbered(1, 1, 1023) + numbered(2, 2, 4999)}, max_bytes=4096)), [1, None])
 check("a long line at the start", told(made_page({b"all": numbered(1, 1, 4999) + numbered(2, 3, 99)}, max_bytes=4096)), [None, 2, 3])
 
-# What isn't text is shown where it is, and ends no head. The note is where the first line is left out.
+# Other entries are shown at their places, and end no head. The note is where the first line is left out.
 BETWEEN = {b"all": numbered(1, 10) + record(b"check", 1, b"x") + numbered(11, 40) + record(b"hint", 1, b"y") + numbered(41, 100)}
 check("records between lines", part(made_page(BETWEEN, max_bytes=1), b"</summary><ul>", b"</ul>"),
       b"<li><pre>\n" + numbered(1, 10) + b'</pre></li><li class="note">(x)</li>' + NOTE + b'<li class="note">redo: y</li><li><pre>\n' + numbered(71, 100)
@@ -301,7 +301,7 @@ ENDS = {b"a": 6, b"b": 4, b"c": b"1", b"d": 2, b"e": 4, b"f": b"1", b"g": 7}
 FAILED = {b"all": b"".join(record(b"do", 1, name) for name in ENDS), **{name: record(b"done", end, b"1 " + name) for name, end in ENDS.items()}}
 FAILED[b"g"] = record(b"do", 2, b"h") + FAILED[b"g"]
 FAILED[b"h"] = record(b"done", 5, b"2 h")
-# d, b and e, h, a, and then c and f, of which it is unknown when they ended.
+# d, b and e, h, a, and then c and f, whose ends are unknown.
 check("failures in order", listed(made_page(FAILED)), ([4, 2, 5, 8, 1, 3, 6],) * 2 + ([],))
 # The end counts, and not when a target began.
 check("the beginning doesn't count", listed(made_page({
