@@ -77,26 +77,26 @@ def most_at_once(times):
 
 
 def differences(page, times, parents, jobs):
-    """What a page of a short build, with so many jobs, says of times that isn't what was measured."""
+    """The times on a page of a short build, with so many jobs, that differ from the measured ones."""
     leaves = {name: time for name, time in times.items() if name not in parents}
     first, last = min(time.began for time in times.values()), max(time.ended for time in times.values())
     total = sum(time.took for time in leaves.values())
     found = []
 
-    def expect(what, is_so, *details):
+    def expect(what, is_so, shown, wanted):
         if not is_so:
-            found.append((what, *details))
+            found.append(f"{what}: found {shown}; expected {round(wanted, 3) if isinstance(wanted, float) else wanted}")
 
     def near(what, text, wanted, slack=SLACK):
         value, cut = seconds_of(text)
-        expect(what, is_near(value, wanted, slack, cut), text, round(wanted, 3))
+        expect(what, is_near(value, wanted, slack, cut), text, wanted)
 
     # The log of the run ends when make has ended.
     near("took", page.tiles["Took"], last - first, 3 * SLACK)
     near("sum of times", page.tiles["Sum of times"], total, SLACK + .02 * len(leaves))
     mean, most = re.fullmatch(r"([\d.]+), at most (\d+)", page.tiles["At once"]).groups()
     expect("mean at once", is_near(float(mean), total / (last - first), .2 + .1 * len(leaves) / 20), mean, total / (last - first))
-    expect("most at once", int(most) == most_at_once(leaves.values()) == jobs, most, most_at_once(leaves.values()))
+    expect("most at once", int(most) == most_at_once(leaves.values()) == jobs, most, f"{most_at_once(leaves.values())}, and {jobs} jobs")
     text = page.date.partition(" \u00b7 ")[0]
     began = email.utils.parsedate_to_datetime(text).timestamp()
     expect("the date", began - SLACK <= first <= began + 1 + SLACK, text, first)
@@ -105,10 +105,10 @@ def differences(page, times, parents, jobs):
         near(f"the row of {name}", text, times[name].took)
     least = min(seconds_of(text)[0] for _, text in page.rows)
     named = {name for name, _ in page.rows}
-    expect("the number of rows", len(named) == min(10, len(leaves)), sorted(named))
-    expect("rows of targets that ran others", named <= set(leaves), sorted(named))
+    expect("the number of rows", len(named) == min(10, len(leaves)), len(named), min(10, len(leaves)))
+    expect("rows of targets that ran others", named <= set(leaves), sorted(named - set(leaves)), [])
     for name in sorted(set(leaves) - named):
-        expect("a target that should be a row", times[name].took <= least * 1.05 + SLACK, name, times[name].took, least)
+        expect(f"the least row, without {name}", times[name].took <= least * 1.05 + SLACK, least, times[name].took)
 
     width = seconds_of(page.tiles["Took"])[0]
     bars = {}
@@ -117,12 +117,13 @@ def differences(page, times, parents, jobs):
             name, _, text = title.partition(", ")
             bars[name] = group
             if re.match(r"\d+ targets in ", title):
-                expect("joined bars in a short build", False, title)
+                expect("a bar in a short build", False, title, "a bar of one target")
                 continue
             near(f"the bar of {name}", text, times[name].took)
             began, ended = times[name].began - first, times[name].ended - first
-            expect("where a bar begins", abs(x * width - began) < 2 * SLACK + .01 * width, name, x * width, began)
-            expect("where a bar ends", abs((x + span) * width - ended) < 3 * SLACK + .01 * width, name, (x + span) * width, ended)
-    expect("the groups of bars", bars == {name: "w" if name in parents else "k" for name in times}, bars)
-    expect("marks", page.bars["e"] == [], page.bars["e"])
+            expect(f"the begin of the bar of {name}", abs(x * width - began) < 2 * SLACK + .01 * width, x * width, began)
+            expect(f"the end of the bar of {name}", abs((x + span) * width - ended) < 3 * SLACK + .01 * width, (x + span) * width, ended)
+    groups = {name: "w" if name in parents else "k" for name in times}
+    expect("the groups of bars", bars == groups, bars, groups)
+    expect("marks", page.bars["e"] == [], page.bars["e"], [])
     return found
