@@ -224,7 +224,7 @@ def sizes(checks, at):
     checks.expect("no window", (make(folder, options=ALWAYS), text_of(folder, "all")), ((0, "", ""), "0 0\n"))
 
 
-# Whether recipes have a terminal: options, the variable NO_COLOR, whether standard error of the build is one; and what is so.
+# Whether recipes have a terminal: options, the variable NO_COLOR, whether standard error of the build is one; and the result.
 CHOICES = (
     ([], None, True, "none"), ([], None, False, "none"),
     *((option, None, is_terminal, "terminal" if is_terminal else "none") for option in (["--colour"], ["--color"], ["--colour=auto"], ["--color=auto"]) for is_terminal in (True, False)),

@@ -267,7 +267,7 @@ def in_the_middle(checks, at):
             left = {"b", "b again"} if variable == "NOW" else {"s1", "s1 again", "t", "t again"}
             checks.expect(f"{name}: make", (status, out, set(lines) <= (left if told == [GONE] else set()), reports), (0, "", True, told))
             found = str(shown(folder, "all"))
-            if "log removed" in what or "logs removed" in what:  # what is printed later is in a new log if it arrives when the line has ended
+            if "log removed" in what or "logs removed" in what:  # later output is in a new log if it arrives when the line has ended
                 found, text = (re.sub(r"^(b|s1|t) again\n", "", lines, flags=re.M) for lines in (found, text))
             checks.expect(f"{name}: shown", found if text else found.startswith("redo  all\n"), text or True)
             checks.expect(f"{name}: the next one", built(folder, [TOOL, *MARKING], "NOW=:", "THEN=:"), ((0, "", []), []))

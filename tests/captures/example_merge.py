@@ -36,7 +36,7 @@ def text_of_page(page):
 
 
 def merged_builds(checks, at):
-    """The text of merged captures is that of each capture, deeper and with a prefix."""
+    """Merged captures have the text of each capture, deeper and with a prefix."""
     texts, words, place = [], [], at("merged")
     for number, (name, words_of_make, status) in enumerate((("one", ["-j2", "T=0"], 0), ("it's two", ["-k", "T=3"], 2), ("x=y", ["t", "T=0"], 0), (".dot", ["-j4", "T=0"], 0))):
         folder = project(at(f"job{number}"), MIXED)

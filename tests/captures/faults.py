@@ -641,7 +641,7 @@ class Liar:
         return connection, notes, struct.unpack("@I", welcome[:4])[0] if len(welcome) == 20 else 0
 
     def begin(self, name, text=b"", process=77, command=b"/bin/sh\0-c\0true\0", time=ORDINARY, **more):
-        """A make with one recipe, of which a line is running and has printed something."""
+        """A make with one recipe. A line of it is running and has printed something."""
         connection, notes, _ = self.make(**more)
         for start in range(0, len(name), 50000):
             self.send(notes, names(name[start : start + 50000]))

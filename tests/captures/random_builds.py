@@ -461,7 +461,7 @@ def lines_of(data):
 
 def determined(build, lines):
     """Leaves out what depends on the time at which recipes end: whether jobs run when make stops, and the lines of recipes of one
-    pattern rule, which share a counter. With -O, make announces a directory again for each recipe of which it collected output, and
+    pattern rule, which share a counter. With -O, make announces a directory again for each recipe whose output it collected, and
     standard error of a captured recipe is none of this."""
     found = Counter()
     for line in lines:

@@ -1,5 +1,5 @@
 #!/usr/bin/env -S python3 -B
-"""Cases of outlines: small captures, and the outline of what is shown of each. They are in crates/redo_outline_tests/src/cases.rt.
+"""Cases of outlines: small captures, and the outline of each. They are in crates/redo_outline_tests/src/cases.rt.
 
     cases.py           checks that this file has these cases
     cases.py --write   writes it

@@ -13,7 +13,7 @@ from text_model import bdi, cut_to, lines_html, name_html, passage
 from times_model import MOST, WIDEST, date, duration, size, tenths
 from model import Closed, Done, Mention, Note, Text  # found by times_model
 
-# ---- what is shown ---------------------------------------------------------------------------------------------------
+# ---- the shown logs ---------------------------------------------------------------------------------------------------
 
 
 class Shown:
