@@ -258,6 +258,8 @@ pub type Case = (
 
 
 def literals(text: str) -> list[str]:
+    """The literals of a source. A backslash at the end of a line continues a string after the blanks of the next one."""
+    text = re.sub(r"\\\n\s*", "", text)
     return re.findall(r'"(?:[^"\\]|\\.)*"|true|false', text)
 
 
