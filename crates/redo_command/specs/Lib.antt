@@ -1,5 +1,6 @@
 pub mod Explanation
 pub mod Failure
+pub mod Job
 pub mod LogFile
 pub mod Logs
 pub mod NamesFile

@@ -21,7 +21,7 @@ use std::thread::Threads;
 /// Opens the logs of a directory.
 pub trait OpenLog {
     /// A reader of a log.
-    type Log: Feed + Send;
+    type Log: Feed;
 
     /// What is known of the log with a number: the stream that each of its readers gives. It is `None` for a file, whose
     /// contents are not known.
@@ -56,7 +56,12 @@ pub fn open_logs<L: OpenLog>(
 ///
 /// For any logs and writer, the text is written, or a prefix of it until a write failed or memory ran out. An unknown argument
 /// or a stream's fault is the result of the run, and then nothing is written.
-pub fn write_logs<T: Threads + Wait + Sync + AllocGlobal, L: OpenLog, V: Render, W: Sink>(
+pub fn write_logs<
+    T: Threads + Wait + Sync + AllocGlobal,
+    L: OpenLog<Log: Send>,
+    V: Render,
+    W: Sink,
+>(
     rt: &T,
     logs: &L,
     index: &Index,

@@ -3,8 +3,6 @@ use Rattle.std.proofs.Common.{◌≡◌, ℕ, Bool, true, false, List, [], ◌�
 use Rattle.std.specs.Prelude.{codes}
 use Rattle.std.specs.List.{AllByRecursion}
 use Rattle.redo_html_args.specs.Job.{PageParts}
-use Rattle.redo_command.specs.Logs.{opaque_logs}
-use Rattle.redo_html_cli.specs.Page.{page_call}
 use Rattle.redo_html_cli.specs.Request.{request_for}
 use Rattle.redo_page.specs.Page.{Request}
 use Rattle.redo_times.specs.declared.times.Times.{Times}
@@ -78,7 +76,3 @@ long_job = record {
 long_request : (length (request_for long_job many_times).title ≡ 1001) × (length (request_for long_job many_times).dir ≡ 5001)
     × (length (request_for long_job many_times).times ≡ 301)
 long_request = (refl, refl, refl)
-
--- Each requested target is an argument of the call.
-many_targets : length (page_call opaque_logs (record long_job { targets = replicate 150 (codes "a") }) [] []).arguments ≡ 150
-many_targets = refl

@@ -1,18 +1,13 @@
--- What the times of logs say about the page of a job.
-use Rattle.std.proofs.Common.{◌≡◌, ℕ, false, List, [], ◌∷◌, map, Option, None, Some, Result, IsErrAnd, refl, subst, unwrap_or}
+-- What the times of readers say about the logs that they give.
+use Rattle.std.proofs.Common.{◌≡◌, ℕ, List, [], ◌∷◌, map, Option, None, Some, subst}
 use Rattle.redo_device.specs.Feed.{Stream, SomeStream}
-use Rattle.redo_device.specs.Sink.{Output}
-use Rattle.redo_html_args.specs.Job.{PageParts}
 use Rattle.redo_index.specs.declared.index_entry.IndexEntry.{IndexEntry}
 use Rattle.redo_index.specs.Index.{listed_targets}
-use Rattle.redo_command.specs.declared.failure.Failure.{Failure}
-use Rattle.redo_command.specs.declared.failure.Failure.TheVariants.{Memory}
 use Rattle.redo_command.specs.Logs.{AllGive, Gives, known_logs}
 use Rattle.redo_command.specs.NamesFile.{byte_limit}
-use Rattle.redo_command.proofs.Results.{is_unwritten}
 use Rattle.redo_times.specs.declared.times.Times.{Times}
 use Rattle.redo_times.specs.Readers.{AreTimesOfReaders, SomeStreams, times_of_all}
-use Rattle.redo_html_cli.specs.Page.{AreTimesOfLogs, IsPageWritten, page_call}
+use Rattle.redo_html_cli.specs.Times.{AreTimesOfLogs}
 
 some_stream : (known : Option Stream) (P : Stream → Type 0) → SomeStream known P → (stream : Stream) × P stream
 some_stream None P given = given
@@ -43,35 +38,3 @@ pub times_of_logs : {A : Type 0} (contents : A → Option Stream) (known : ℕ �
 times_of_logs contents known index readers times give given =
     of_logs (known_logs known index) (map contents readers)
     (λ streams. times ≡ times_of_all byte_limit (listed_targets index) streams) give given
-
--- A stream of a log: the known one, if there is one.
-abbrev stream_or_empty : Option Stream → Stream
-stream_or_empty known = unwrap_or known (record { bytes = []; fails = false })
-
--- What holds of these streams holds of some streams.
-some_log : (known : Option Stream) (P : Stream → Type 0) → P (stream_or_empty known) → SomeStream known P
-some_log None P given = (stream_or_empty None, given)
-some_log (Some stream) P given = given
-
-some_logs : (logs : List (Option Stream)) (P : List Stream → Type 0) → P (map stream_or_empty logs) → SomeStreams logs P
-some_logs [] P given = given
-some_logs (log ∷ logs) P given = some_log log (λ stream. SomeStreams logs (λ streams. P (stream ∷ streams)))
-    (some_logs logs (λ streams. P (stream_or_empty log ∷ streams)) given)
-
--- The times by these streams.
-abbrev some_times : (ℕ → Option Stream) → List IndexEntry → List Times
-some_times known index = times_of_all byte_limit (listed_targets index) (map stream_or_empty (known_logs known index))
-
-are_times : (known : ℕ → Option Stream) (index : List IndexEntry) → AreTimesOfLogs known index (some_times known index)
-are_times known index = some_logs (known_logs known index)
-    (λ streams. some_times known index ≡ times_of_all byte_limit (listed_targets index) streams) refl
-
--- Running out of memory before the run writes nothing, whatever the times are.
-pub is_out_of_memory : (first second : ℕ → Option Stream) (job : PageParts) (index : List IndexEntry) (output : Option Output)
-    (result : Result (Unit {0}) Failure)
-    → IsErrAnd result (λ failure. failure ≡ Memory) → IsPageWritten first second job index output output result
-is_out_of_memory first second job index output result is = record {
-  times = some_times first index;
-  are_times = are_times first index;
-  is_result = is_unwritten (page_call second job index (some_times first index)) output result is;
-}

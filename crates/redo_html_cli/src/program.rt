@@ -1,67 +1,38 @@
-ghost use Rattle.std.specs.Prelude.{◌≡◌, ◌⊎◌};
-ghost use Rattle.redo_command.specs.declared.failure.Failure.TheVariants.{Memory, Run};
-ghost use Rattle.redo_run.specs.declared.run_fault.RunFault.TheVariants as run;
-ghost use Rattle.redo_command.specs.Failure.{IsBeforeRun, IsStatus, status_of};
-
-use crate::job::show_job;
-use redo_command::{
-    Failure, exit_status, explain_fault, explain_shown, print, print_help, report_before_run_as,
-};
+use crate::job::HtmlJob;
+use redo_command::Program;
 use redo_html_args::{RedoLogHtml, WordsFault, help_text, read_arguments};
-use std::alloc::Global;
-use std::io::Write;
-use std::random::RandomSource;
-use std::rt::Files;
-use std::sync::Wait;
-use std::thread::Threads;
+use std::alloc::{AllocError, Global};
 
-/// The name with which error messages begin.
-const PROGRAM: &str = "redo-log-html";
+/// The program `redo-log-html`. It writes a page to the output file of its arguments, or else to standard output.
+pub struct HtmlProgram;
 
-/// Writes the error message of `redo-log-html` for a failure that is neither the fault of a stream nor an unknown
-/// argument, and returns its exit status. If an allocation fails, it returns the status of `Failure::Memory` instead.
-pub fn report_before_run<E: Write>(alloc: Global, failure: &Failure, err: &mut E) -> u8
-    requires { IsBeforeRun failure.now }
-    ensures { (result ≡ status_of failure.now) ⊎ (result ≡ status_of Memory) }
-{
-    report_before_run_as(alloc, PROGRAM, failure, err)
-}
+impl Program for HtmlProgram {
+    type Line = RedoLogHtml;
 
-/// Runs the program: reads its command-line arguments, which don't include its own name, and the directory that they
-/// name, and writes the page to the output file that they name, or else to `out`. If it fails, it writes one line to
-/// `err`, and a second one if it can say what to do. It returns the exit status; docs/redo-log-html.1 has the table.
-pub fn command<
-    R: Files<File: Send> + RandomSource + Threads + Wait + Sync + AllocGlobal,
-    W: Write,
-    E: Write,
->(rt: &R, words: Vec<String>, out: &mut W, err: &mut E) -> u8
-    ensures { IsStatus result }
-{
-    let alloc = rt.alloc();
-    match read_arguments(alloc, &words) {
-        Ok(job) => {
-            let shown = show_job(rt, &job, out);
-            let status = exit_status(alloc, PROGRAM, &shown, job.targets(), err);
-            explain_shown(alloc, PROGRAM, job.dir(), &shown, job.targets(), err);
-            status
-        }
-        Err(WordsFault::Help) => print_help(alloc, PROGRAM, help_text(alloc), out, err),
-        Err(fault) => {
-            let status = report_before_run(alloc, &Failure::Words(fault), err);
-            explain_fault(alloc, PROGRAM, &RedoLogHtml, &words, fault, err);
-            status
-        }
+    type Job = HtmlJob;
+
+    fn name(&self) -> &'static str {
+        "redo-log-html"
     }
-}
 
-/// Writes the text of `--version`, and returns the exit status: 0 if it was written.
-pub fn print_version<W: Write, E: Write>(
-    alloc: Global,
-    version: &str,
-    out: &mut W,
-    err: &mut E,
-) -> u8
-    ensures { (result ≡ 0) ⊎ (result ≡ status_of (Run run.Write)) ⊎ (result ≡ status_of Memory) }
-{
-    print(alloc, PROGRAM, version, out, err)
+    fn version(&self) -> &'static str {
+        "redo-log-html 0.2.0\n"
+    }
+
+    fn always_explains(&self) -> bool {
+        true
+    }
+
+    fn line(&self) -> &RedoLogHtml {
+        &RedoLogHtml
+    }
+
+    fn job(&self, alloc: Global, arguments: &[String]) -> Result<HtmlJob, WordsFault> {
+        let job = read_arguments(alloc, arguments)?;
+        Ok(HtmlJob { job })
+    }
+
+    fn help_text(&self, alloc: Global) -> Result<String, AllocError> {
+        help_text(alloc)
+    }
 }

@@ -2,7 +2,7 @@
 //!
 //! The times are read before the run, because entries have none and the top of a page needs them. So each log is read twice.
 ghost use Rattle.std.specs.Prelude.{IfOk};
-ghost use Rattle.redo_html_cli.specs.Page.{AreTimesOfLogs};
+ghost use Rattle.redo_html_cli.specs.Times.{AreTimesOfLogs};
 
 use redo_command::{Index, MAX_BYTES, OpenLog, open_logs};
 use redo_times::{Times, read_times};

@@ -1,23 +1,11 @@
 //! The program `redo-log`: shows the logs of a parallel build as one text.
 #![tactic(auto)]
 
-use redo_log_cli::{
-    command, print_version, process_arguments, report_before_run, requests_version,
-};
+use redo_log_cli::{TextProgram, run_process};
 use std::process::ExitCode;
-
-/// The text that `--version` writes.
-const VERSION: &str = "redo-log 0.2.0\n";
 
 fn main(rt: HostRuntime) -> ExitCode {
     let mut out = rt.stdout();
     let mut err = rt.stderr();
-    let status = match process_arguments(&rt) {
-        Ok(words) if requests_version(&words) => {
-            print_version(rt.alloc(), VERSION, &mut out, &mut err)
-        }
-        Ok(words) => command(&rt, words, &mut out, &mut err),
-        Err(failure) => report_before_run(rt.alloc(), &failure, &mut err),
-    };
-    ExitCode::from(status)
+    ExitCode::from(run_process(&rt, &TextProgram, &mut out, &mut err))
 }

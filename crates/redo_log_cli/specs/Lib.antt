@@ -1,2 +1,1 @@
 pub mod Message
-pub mod Private

@@ -1,30 +1,47 @@
-ghost use Rattle.std.specs.Prelude.{◌≡◌, ◌⊎◌};
-ghost use Rattle.redo_command.specs.declared.failure.Failure.TheVariants.{Memory};
-ghost use Rattle.redo_command.specs.Failure.{IsBeforeRun, IsStatus, status_of};
+ghost use Rattle.redo_command.specs.Failure.{IsStatus};
 
-use crate::job::show_job;
+use crate::job::TextJob;
 use redo_args::{RedoLog, WordsFault, help_text, read_arguments};
-use redo_command::{
-    Failure, command_arguments, exit_status, explain_fault, explain_shown, explains, print,
-    print_help, report_before_run_as,
-};
-use std::alloc::Global;
+use redo_command::{Program, run_program};
+use std::alloc::{AllocError, Global};
 use std::io::Write;
 use std::random::RandomSource;
 use std::rt::Files;
 use std::sync::Wait;
 use std::thread::Threads;
 
-/// The name with which error messages begin.
-const PROGRAM: &str = "redo-log";
+/// The program `redo-log`. It says what to do about a failure only with `--explain` as the first argument.
+pub struct TextProgram;
 
-/// Writes the error message of `redo-log` for a failure that is neither the fault of a stream nor an unknown argument,
-/// and returns its exit status. If an allocation fails, it returns the status of `Failure::Memory` instead.
-pub fn report_before_run<E: Write>(alloc: Global, failure: &Failure, err: &mut E) -> u8
-    requires { IsBeforeRun failure.now }
-    ensures { (result ≡ status_of failure.now) ⊎ (result ≡ status_of Memory) }
-{
-    report_before_run_as(alloc, PROGRAM, failure, err)
+impl Program for TextProgram {
+    type Line = RedoLog;
+
+    type Job = TextJob;
+
+    fn name(&self) -> &'static str {
+        "redo-log"
+    }
+
+    fn version(&self) -> &'static str {
+        "redo-log 0.2.0\n"
+    }
+
+    fn always_explains(&self) -> bool {
+        false
+    }
+
+    fn line(&self) -> &RedoLog {
+        &RedoLog
+    }
+
+    fn job(&self, alloc: Global, arguments: &[String]) -> Result<TextJob, WordsFault> {
+        let job = read_arguments(alloc, arguments)?;
+        Ok(TextJob { job })
+    }
+
+    fn help_text(&self, alloc: Global) -> Result<String, AllocError> {
+        help_text(alloc)
+    }
 }
 
 /// Runs the program: reads its command-line arguments, which don't include its own name, and the
@@ -38,37 +55,5 @@ pub fn command<
 >(rt: &R, words: Vec<String>, out: &mut W, err: &mut E) -> u8
     ensures { IsStatus result }
 {
-    let alloc = rt.alloc();
-    let explains = explains(&words);
-    let arguments = command_arguments(&words);
-    match read_arguments(alloc, arguments) {
-        Ok(job) => {
-            let shown = show_job(rt, &job, out);
-            let status = exit_status(alloc, PROGRAM, &shown, job.targets(), err);
-            if explains {
-                explain_shown(alloc, PROGRAM, job.dir(), &shown, job.targets(), err);
-            }
-            status
-        }
-        Err(WordsFault::Help) => print_help(alloc, PROGRAM, help_text(alloc), out, err),
-        Err(fault) => {
-            let status = report_before_run(alloc, &Failure::Words(fault), err);
-            if explains {
-                explain_fault(alloc, PROGRAM, &RedoLog, arguments, fault, err);
-            }
-            status
-        }
-    }
-}
-
-/// Writes the text of `--version`, and returns the exit status.
-pub fn print_version<W: Write, E: Write>(
-    alloc: Global,
-    version: &str,
-    out: &mut W,
-    err: &mut E,
-) -> u8
-    ensures { IsStatus result }
-{
-    print(alloc, PROGRAM, version, out, err)
+    run_program(rt, &TextProgram, &words, out, err)
 }

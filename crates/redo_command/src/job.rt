@@ -1,0 +1,240 @@
+//! What a command writes of a capture directory, and how it is written.
+//!
+//! A [`Job`] reads and renders, and starts no thread. [`write_job`] and [`show_job`] are functions, because Rattle can't prove that
+//! what the threads of a trait's method get is `Send`.
+ghost use Rattle.std.specs.Prelude.{◌≡◌, ◌≢◌, ℕ, true, None, IfErr, IfOk, List, Option, length};
+ghost use Rattle.std.specs.List.{list_all};
+ghost use Rattle.redo_device.specs.Feed.{Stream};
+ghost use Rattle.redo_index.specs.declared.index_entry.IndexEntry.{IndexEntry};
+ghost use Rattle.redo_logs.specs.Logs.{Log, has_ended};
+ghost use Rattle.redo_options.specs.Arguments.{argument_bytes};
+ghost use Rattle.redo_options.specs.Limits.{IsCapacity, IsSenderCount};
+ghost use Rattle.redo_view.specs.Form.{FormWrites};
+ghost use Rattle.redo_view.specs.View.{find_unknown};
+ghost use Rattle.redo_command.specs.Failure.{IsReportable, status_of};
+ghost use Rattle.redo_command.specs.Job.{IsJobWritten};
+ghost use Rattle.redo_command.specs.Logs.{opaque_logs};
+ghost use Rattle.redo_command.specs.Private.Shown.{IsShown};
+
+use crate::buffer::{buffered, flush_after};
+use crate::directory::{Shown, find_index};
+use crate::error_keeper::ErrorKeeper;
+use crate::failure::Failure;
+use crate::log_file::{LogFiles, RegularLogFiles};
+use crate::logs::{OpenLog, write_logs};
+use crate::output::{Output, close_output, create_output};
+use redo_index::Index;
+use redo_line::{Sink, TargetName};
+use redo_logs::LogTable;
+use redo_view::{FormFault, Render};
+use std::alloc::{AllocError, Global};
+use std::io::Write;
+use std::random::RandomSource;
+use std::rt::Files;
+use std::sync::Wait;
+use std::thread::Threads;
+
+/// What a command writes of the logs of a directory: a text of them.
+pub trait Job {
+    /// What is known of the logs before the text is written, such as times.
+    type Facts: Drop;
+
+    /// Whether these are the facts, from what is known of the log with each number, and the index.
+    ghost are_facts: { Self → (ℕ → Option Stream) → List IndexEntry → Self.Facts → Type 0 };
+
+    /// The text, from the facts, the logs and the requested targets.
+    ghost text: { Self → Self.Facts → List Log → List (List ℕ) → List ℕ };
+
+    /// The arguments that name the requested targets.
+    ghost arguments: { Self → List (List ℕ) };
+
+    /// Returns the capture directory.
+    fn dir(&self) -> &str;
+
+    /// Returns the path of the file that the text is written to. Without it, the text goes to standard output.
+    fn output(&self) -> Option<&str>;
+
+    /// Returns the number of senders.
+    fn senders(&self) -> u32
+        ensures { IsSenderCount result };
+
+    /// Returns the capacity of the mailbox in items.
+    fn capacity(&self) -> u32
+        ensures { IsCapacity result };
+
+    /// Returns the arguments that name the requested targets.
+    fn targets(&self) -> &[Vec<u8>]
+        ensures { argument_bytes result.now ≡ arguments self.now };
+
+    /// Reads the facts. The only error is that an allocation failed.
+    fn read_facts<L: OpenLog>(
+        &self,
+        alloc: Global,
+        logs: &L,
+        index: &Index,
+    ) -> Result<Self::Facts, AllocError>
+        ensures { IfOk result (are_facts self.now (L.known logs.now) index.now) };
+
+    /// Writes the text, as [`Render::render`] does.
+    fn render<W: Sink>(
+        &self,
+        facts: &Self::Facts,
+        alloc: Global,
+        table: &LogTable,
+        requested: &[TargetName],
+        out: &mut W,
+    ) -> Result<(), FormFault>
+        requires ended { list_all has_ended table.now ≡ true }
+        requires known { find_unknown table.now requested.now ≡ None }
+        ensures { FormWrites (W.written out.old) (W.written out.new) (text self.now facts.now table.now requested.now) result };
+}
+
+// The text of a job with these facts.
+#[derive(Drop)]
+struct JobText<'a, J: Job> {
+    job: &'a J,
+    facts: &'a J::Facts,
+}
+
+impl<J: Job> Render for JobText<'_, J> {
+    ghost text = { λ text. J.text text.job.now text.facts.now };
+
+    fn render<W: Sink>(
+        &self,
+        alloc: Global,
+        table: &LogTable,
+        requested: &[TargetName],
+        out: &mut W,
+    ) -> Result<(), FormFault> {
+        self.job.render(self.facts, alloc, table, requested, out)
+    }
+}
+
+/// Writes the text of a job, from the logs that an index lists. It reads the facts from `first`, and then all logs from `second`.
+/// Nothing is written before that. `out` isn't flushed.
+///
+/// The clause states the text, for any logs and writer. It may be of other streams than its facts: a file may change between the
+/// two readings.
+pub fn write_job<
+    T: Threads + Wait + Sync + AllocGlobal,
+    J: Job,
+    F: OpenLog,
+    S: OpenLog<Log: Send>,
+    W: Sink,
+>(rt: &T, job: &J, first: &F, second: &S, index: &Index, out: &mut W) -> Result<(), Failure>
+    ensures written { IsJobWritten (J.are_facts job.now (F.known first.now) index.now) (J.text job.now) (S.known second.now)
+        index.now (J.arguments job.now) (W.written out.old) (W.written out.new) result }
+    ensures reportable { IfErr result (IsReportable (length index.now) (length (J.arguments job.now))) }
+    ensures nonzero_status { IfErr result (λ failure. status_of failure ≢ 0) }
+{
+    let facts = job.read_facts(rt.alloc(), first, index)?;
+    let text = JobText { job, facts: &facts };
+    write_logs(
+        rt,
+        second,
+        index,
+        job.senders(),
+        job.capacity(),
+        &text,
+        job.targets(),
+        out,
+    )
+}
+
+/// Writes the text of a job: to its output file, or else to `out`. It reads the index and the log files of the job's directory, and
+/// writes what [`write_job`] states, unless the index couldn't be read or memory ran out.
+///
+/// Nothing is known of the files, and nothing is stated about the text that `out` takes.
+pub fn show_job<
+    R: Files<File: Send> + RandomSource + Threads + Wait + Sync + AllocGlobal,
+    J: Job,
+    W: Write,
+>(rt: &R, job: &J, out: &mut W) -> Shown
+    ensures reportable { IfErr result.outcome (IsReportable (length result.index) (length (J.arguments job.now))) }
+    ensures nonzero_status { IfErr result.outcome (λ failure. status_of failure ≢ 0) }
+{
+    match job.output() {
+        None => show_logs(rt, job, out),
+        Some(path) => match create_output(rt, path) {
+            Ok(output) => show_in_file(rt, job, output),
+            Err(failure) => not_shown(rt.alloc(), failure),
+        },
+    }
+}
+
+// What came of it if the index couldn't be read or the output file couldn't be created.
+fn not_shown(alloc: Global, failure: Failure) -> Shown
+    ensures index { length result.index ≡ 0 }
+    ensures outcome { result.outcome ≡ Err failure }
+{
+    Shown {
+        index: Index::new(alloc),
+        outcome: Err(failure),
+        write_error: None,
+    }
+}
+
+// Writes the text of a job to an output file, and closes it.
+fn show_in_file<R: Files<File: Send> + RandomSource + Threads + Wait + Sync + AllocGlobal, J: Job>(
+    rt: &R,
+    job: &J,
+    output: Output<'_, R::File>,
+) -> Shown
+    ensures shown { IsShown (IsJobWritten (J.are_facts job.now opaque_logs result.index) (J.text job.now) opaque_logs
+        result.index (J.arguments job.now) None None) result.outcome }
+    ensures reportable { IfErr result.outcome (IsReportable (length result.index) (length (J.arguments job.now))) }
+    ensures nonzero_status { IfErr result.outcome (λ failure. status_of failure ≢ 0) }
+{
+    let mut output = output;
+    let shown = show_logs(rt, job, &mut output);
+    Shown {
+        index: shown.index,
+        outcome: close_output(rt, output, shown.outcome),
+        write_error: shown.write_error,
+    }
+}
+
+// Writes the text of a job, from the index and the log files of its directory.
+fn show_logs<
+    R: Files<File: Send> + RandomSource + Threads + Wait + Sync + AllocGlobal,
+    J: Job,
+    W: Write,
+>(rt: &R, job: &J, out: &mut W) -> Shown
+    ensures shown { IsShown (IsJobWritten (J.are_facts job.now opaque_logs result.index) (J.text job.now) opaque_logs
+        result.index (J.arguments job.now) None None) result.outcome }
+    ensures reportable { IfErr result.outcome (IsReportable (length result.index) (length (J.arguments job.now))) }
+    ensures nonzero_status { IfErr result.outcome (λ failure. status_of failure ≢ 0) }
+{
+    match find_index(rt, job.dir()) {
+        Ok(index) => {
+            let mut out = ErrorKeeper::new(out);
+            let outcome = show_text(rt, job, &index, &mut out);
+            Shown {
+                index,
+                outcome,
+                write_error: out.error(),
+            }
+        }
+        Err(failure) => not_shown(rt.alloc(), failure),
+    }
+}
+
+// Writes the text of a job through a buffer, from the log files that an index lists. Facts are read from regular files only, because
+// a pipe can be read only once.
+fn show_text<R: Files<File: Send> + Threads + Wait + Sync + AllocGlobal, J: Job, W: Write>(
+    rt: &R,
+    job: &J,
+    index: &Index,
+    out: &mut W,
+) -> Result<(), Failure>
+    ensures shown { IsShown (IsJobWritten (J.are_facts job.now opaque_logs index.now) (J.text job.now) opaque_logs
+        index.now (J.arguments job.now) None None) result }
+    ensures reportable { IfErr result (IsReportable (length index.now) (length (J.arguments job.now))) }
+    ensures nonzero_status { IfErr result (λ failure. status_of failure ≢ 0) }
+{
+    let regular_files = RegularLogFiles { rt, dir: job.dir() };
+    let files = LogFiles { rt, dir: job.dir() };
+    let mut buffer = buffered(rt.alloc(), out)?;
+    let outcome = write_job(rt, job, &regular_files, &files, index, &mut buffer);
+    flush_after(outcome, buffer)
+}
