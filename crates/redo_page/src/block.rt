@@ -1,7 +1,7 @@
 //! Text lines in blocks.
 use redo_html::Style;
 
-/// A block of text that isn't ended.
+/// An open block of text.
 #[derive(Clone, Copy)]
 pub struct Block {
     /// The number of its lines.
@@ -12,7 +12,7 @@ pub struct Block {
     pub style: Style,
 }
 
-/// What isn't ended in the contents of a log.
+/// The open group or block in the contents of a log.
 #[derive(Clone, Copy)]
 pub enum Pending {
     Nothing,

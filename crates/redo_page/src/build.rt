@@ -22,7 +22,7 @@ pub struct BuildRef<'a> {
 }
 
 impl<'a> BuildRef<'a> {
-    /// Returns what is known of the log at a position.
+    /// Returns the facts about the log at a position.
     pub fn node(&self, position: usize) -> Node
         ensures { result ≡ node_at self.now.outline.now position }
     {
@@ -137,7 +137,7 @@ pub fn is_silent(node: Option<Node>) -> bool
     }
 }
 
-/// Returns whether nothing is to be seen in a log.
+/// Returns whether nothing in a log is visible.
 pub fn is_empty(node: &Node) -> bool
     ensures { result ≡ is_empty node.now }
 {

@@ -161,7 +161,7 @@ fn is_visible(state: WordState, byte: u8) -> bool
     !state.is_in_sequence() && 32 < byte
 }
 
-// Returns whether nothing is to be seen of a line.
+// Returns whether nothing of a line is visible.
 fn is_blank(line: &[u8]) -> bool
     ensures { result ≡ is_blank line.now }
 {

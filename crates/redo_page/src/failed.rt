@@ -89,7 +89,7 @@ pub const DEPENDENTS: Block2 = &[
     Tag(EndDetails),
 ];
 
-/// Targets that aren't closed. Their list is closed.
+/// Unfinished targets. Their list is collapsed.
 pub const UNCLOSED: Block2 = &[
     Tag(MoreDetails),
     Tag(Summary),
@@ -136,7 +136,7 @@ pub struct Failures {
     pub roots: Vec<usize>,
     /// Targets that failed with a failure below them.
     pub dependents: Vec<usize>,
-    /// Targets at the ends of paths that have no record of how they ended.
+    /// The unfinished targets to be listed: `is_unclosed`.
     pub unclosed: Vec<usize>,
 }
 

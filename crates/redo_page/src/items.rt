@@ -19,7 +19,7 @@ use redo_line::{How, TargetName};
 use redo_logs::EntryRef;
 use redo_view::{EventRef, Opening};
 
-/// Writes the end of what isn't ended.
+/// Writes the end of the open group or block.
 pub fn write_end<W: Sink>(pending: Pending, page: &mut PageWriter<'_, W>)
     ensures { WroteParts W.written page.old page.new (end_parts pending) }
 {
@@ -187,7 +187,7 @@ pub fn write_shown<W: Sink>(
     write_item(build, level, pending, event, page)
 }
 
-/// Returns what isn't ended after such an event.
+/// Returns the open group or block after such an event.
 pub fn after_shown(
     build: &BuildRef<'_>,
     level: Level,

@@ -1,4 +1,5 @@
-//! The texts of a page that only people read. The definitions cite them too, so each one is written once.
+//! The texts of a page that only people read. Code, definitions and proofs cite them, so each one is written once. No proof rejects a
+//! wrong one, so rows spell out each label, and the model of `tests/page` has texts of its own.
 //!
 //! What programs read is spelled out where it is defined: the command for a shell, prefixes of notes, words of errors.
 

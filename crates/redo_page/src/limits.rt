@@ -1,4 +1,7 @@
 //! How much of long logs a page shows.
+//!
+//! The outline has the length of each log, so the limits are known before the tree is written. The definition of the cap tries all caps.
+//! The code finds the cap by binary search, so it iterates over the nodes some 64 times at most.
 ghost use Rattle.std.specs.Prelude.{◌≡◌, IfOk, length};
 ghost use Rattle.redo_page.specs.Limits.{at_most, fit_in, highest_cap, cap_for, limit_at, limit_if, limits_of, position_limit};
 ghost use Rattle.redo_page.specs.Private.Referring.{build_value};

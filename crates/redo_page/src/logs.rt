@@ -21,7 +21,7 @@ const MAX_DEPTH: usize = 60;
 
 const MIN_GROUP: usize = 5;
 
-// Writes the name of a target whose log an event opens, with what is known of it.
+// Writes the name of a target whose log an event opens, with the facts about it.
 fn write_heading<W: Sink>(
     build: &BuildRef<'_>,
     event: EventRef<'_>,
@@ -255,7 +255,7 @@ fn write_group_end<W: Sink>(left: usize, page: &mut PageWriter<'_, W>)
     }
 }
 
-/// Returns what isn't ended after a log. `left` is the number of logs that were left of its group, with this log.
+/// Returns the open group or block after a log. `left` is the number of logs that were left of its group, with this log.
 pub fn after_log(left: usize) -> Pending
     ensures { result ≡ after_log left }
 {

@@ -22,7 +22,7 @@ pub const NO_NODE: Node = Node {
     ended: None,
 };
 
-/// Returns what is known of the log at a position.
+/// Returns the facts about the log at a position.
 pub fn node_at(nodes: &[Node], position: usize) -> Node
     ensures { result ≡ node_at nodes.now position }
 {

@@ -1,4 +1,10 @@
 //! The page of a build.
+//!
+//! The events are walked twice, for the outline and for the tree. Everything above the tree (heading, failures, causes, excerpts, summary,
+//! timeline) depends on the outline, the times and the stored lines.
+//!
+//! The times reach the page in two ways. `Outline::set_times` sets how long each target took and when it ended: for the tree, for articles
+//! and for the order of failures. `Summary::new` computes all the rest. The tree needs no list of times.
 ghost use Rattle.std.specs.Prelude.{◌≡◌, ◌++◌, true, None, IfOk, length, map};
 ghost use Rattle.std.specs.List.{flat_map, list_all};
 ghost use Rattle.redo_device.specs.Sink.{Writes};
@@ -37,7 +43,7 @@ use redo_times::Times;
 use redo_view::{FormFault, Options, Render};
 use std::alloc::{AllocError, Global};
 
-/// What a page is asked.
+/// The parameters of a page.
 #[derive(Clone, Copy)]
 pub struct PageRequest<'a> {
     /// A title, or nothing. The page has it at its top, and the browser in its tab.
@@ -56,8 +62,8 @@ pub struct PageRequest<'a> {
 
 /// Writes the page of the requested targets, each of which must have a log. All logs must have ended.
 ///
-/// Nothing is written before everything that the page shows at its top is known. A write that fails or takes no byte ends the call, and
-/// nothing is written after it. `out` isn't flushed. Nested logs take memory, but no stack.
+/// Writing begins once everything above the tree is computed. A write that fails or takes no byte ends the call, and nothing is written
+/// after it. `out` isn't flushed. Nested logs take memory, but no stack.
 pub fn write_page<W: Sink>(
     alloc: Global,
     table: &LogTable,
@@ -88,7 +94,7 @@ impl Render for PageRequest<'_> {
     }
 }
 
-// Makes the outline of what is shown, with how long each target took, and when it ended.
+// Makes the outline of the shown logs, with how long each target took, and when it ended.
 fn outline_of(
     alloc: Global,
     table: &LogTable,
@@ -132,7 +138,7 @@ fn time_between(times: &Times) -> Option<u64>
     }
 }
 
-// Writes the page of which this is the outline.
+// Writes the page with this outline.
 fn write_outlined<W: Sink>(
     alloc: Global,
     table: &LogTable,

@@ -33,9 +33,9 @@ pub enum Count {
     Warnings,
     /// The most recipes that ran at once.
     Most,
-    /// Targets of which one time is unknown.
+    /// Targets with one unknown time.
     Unknown,
-    /// Targets of which at least one time is known.
+    /// Targets with at least one known time.
     Known,
     /// The row's value.
     Value,
@@ -130,11 +130,11 @@ pub enum Listed {
     Others,
     /// Failed targets above these.
     Dependents,
-    /// Targets at the ends of paths that have no record of how they ended.
+    /// The unfinished targets to be listed.
     Unclosed,
 }
 
-/// What a template says something about: what the page was asked, the targets of a build, what is known of them, and a row of a table.
+/// The values for a template: the parameters of the page, the targets of a build, the facts about them, and a row of a table.
 #[derive(Clone, Copy)]
 pub struct Scope<'a> {
     pub request: &'a PageRequest<'a>,
@@ -142,7 +142,7 @@ pub struct Scope<'a> {
     pub table: &'a LogTable,
     pub nodes: &'a [Node],
     pub facts: &'a Summary,
-    /// The positions of failed targets without a failure below them, of those above them, and of those that aren't closed.
+    /// The positions of failed targets without a failure below them, of those above them, and of unfinished ones.
     pub roots: &'a [usize],
     pub dependents: &'a [usize],
     pub unclosed: &'a [usize],
@@ -343,7 +343,7 @@ fn shown_longest(summary: &Summary) -> &[Rank]
     }
 }
 
-/// Returns the number of targets of which at least one time is known.
+/// Returns the number of targets with at least one known time.
 pub fn known_count(summary: &Summary) -> u64
     ensures { result ≡ known_count summary.now }
 {

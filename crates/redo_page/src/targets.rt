@@ -83,7 +83,7 @@ pub fn write_exit<W: Sink>(status: i32, page: &mut PageWriter<'_, W>)
     ])
 }
 
-/// Writes the badge of a target that failed, or of which no record says how it ended.
+/// Writes the badge of a target that failed or is unfinished.
 pub fn write_badge<W: Sink>(status: Option<i32>, page: &mut PageWriter<'_, W>)
     ensures { WroteParts W.written page.old page.new (badge_parts status) }
 {

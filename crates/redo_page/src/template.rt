@@ -1,4 +1,8 @@
 //! Templates: a section of a page as data, and the function that writes it.
+//!
+//! A template is a constant: tags, labels, values, repetitions and conditions. Its parts are defined over the same constant, so an order is
+//! written once, and a new value takes one line in `scope.rt` and one in `Scope.antt`. Which elements a template ends and leaves open, its
+//! links and the tags of its sections are computed (`TemplateNesting`, `TemplateIds`).
 ghost use Rattle.std.specs.Prelude.{◌≡◌, ℕ, List, take};
 ghost use Rattle.std.specs.List.{flat_map};
 ghost use Rattle.redo_device.specs.Sink.{Writes};

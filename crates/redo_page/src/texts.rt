@@ -1,4 +1,4 @@
-//! Writes text lines in blocks.
+//! Writes text lines in blocks. Lines that are stored together are written together, up to the end of a block. No text of a log is copied.
 ghost use Rattle.std.specs.Prelude.{◌≡◌, ◌<◌, ◌≤◌, [], length, take, OnOk, IfSome, MatchOption};
 ghost use Rattle.std.specs.List.{flat_map};
 ghost use Rattle.redo_device.specs.Sink.{Writes};

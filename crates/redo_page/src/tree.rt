@@ -1,4 +1,8 @@
 //! The tree of a page, in one pass over the events.
+//!
+//! `TreeForm` is the form that writes the tree. Its state is the logs that are open, the position of the next log, and the open group or
+//! block of text (`Pending`). `Trimmed` of `redo_trim` owns it and leaves out the middle of long logs; a `TreeForm` knows of no limits.
+//! The tree is defined by recursion over `Contents`. The code has no recursion.
 ghost use Rattle.std.specs.Prelude.{◌≡◌, ◌++◌, true, None, [], OnOk, length, reverse};
 ghost use Rattle.std.specs.List.{flat_map, list_all};
 ghost use Rattle.redo_device.specs.Sink.{Writes};
@@ -280,7 +284,7 @@ fn put_section_end<W: Sink>(pending: Pending, page: &mut PageWriter<'_, W>)
     ])
 }
 
-// Writes the end of what isn't ended, and of the section.
+// Writes the end of the open group or block, and of the section.
 fn write_section_end<W: Sink>(pending: Pending, out: &mut W) -> Result<(), Broken>
     ensures { Writes (W.written out.old) (W.written out.new) (flat_map part_html (end_parts pending ++ section_end)) result }
 {

@@ -19,7 +19,7 @@ use std::alloc::{AllocError, Global};
 pub enum Verdict {
     /// A target failed.
     Failed,
-    /// No target failed so far, and the log of a requested target isn't closed.
+    /// No target failed so far, and a requested target is unfinished.
     Unfinished,
     /// Every target was made.
     Made,

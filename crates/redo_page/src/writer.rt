@@ -1,4 +1,7 @@
 //! Writes the parts of a page.
+//!
+//! After a failed write, a [`PageWriter`] writes nothing, so a function that writes several parts needs no test between them. A chart is
+//! written without it, because a `PageWriter` doesn't allocate and a chart does.
 ghost use Rattle.std.specs.Prelude.{◌≡◌, false, [], map};
 ghost use Rattle.redo_html.specs.Lines.{line_parts, style_after_lines};
 ghost use Rattle.redo_html.specs.Parts.{part_of};
@@ -8,7 +11,7 @@ ghost use Rattle.redo_page.specs.Private.Writing.{WroteParts, done_if};
 use redo_device::{Broken, Sink};
 use redo_html::{Piece, Style, write_log_lines, write_pieces};
 
-/// Writes the parts of a page, until a write fails. Whatever is put after that is not written.
+/// Writes the parts of a page, until a write fails. Later calls of `put` do nothing.
 #[derive(Drop)]
 pub struct PageWriter<'a, W> {
     pub out: &'a mut W,
