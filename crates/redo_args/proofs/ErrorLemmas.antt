@@ -2,7 +2,7 @@
 use Rattle.std.proofs.Common.{◌≡◌, Result, Ok, Err, IfOk, IsErrAnd, subst, sym}
 use Rattle.std.specs.Prelude.{MatchResult}
 
--- What holds for the value still holds.
+-- The value's properties still hold.
 pub map_err_if_ok : {T E F : Type 0} (answer : Result T E) (Maps : E → F → Type 0) (result : Result T F)
     → MatchResult answer (λ x. result ≡ Ok x) (λ e. IsErrAnd result (Maps e))
     → (P : T → Type 0) → IfOk answer P → IfOk result P

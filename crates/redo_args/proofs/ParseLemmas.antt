@@ -1,4 +1,4 @@
--- What `clap` finds in the arguments of a command without subcommands: values that the rules of the command allow, or at most one
+-- Parsing the arguments of a command without subcommands: `clap` finds values that the rules of the command allow, or at most one
 -- kind of error.
 use Rattle.std.proofs.Common.{◌≡◌, ◌⊎◌, ◌∙◌, ◌<◌, ◌≤◌, ◌&&◌, ℕ, zero, suc, Bool, true, false, not, List, [], ◌∷◌, length, map, is_some, Option, Some, None, Ok, Err, Result, refl, sym, subst, ap, inl, inr, arith, codes}
 use Rattle.std.specs.Prelude.{IfErr, IfOk, IfSome, MatchResult, IsErrAnd, option_map, pos, slice_get, unwrap_or}
@@ -347,7 +347,7 @@ module _ (kinds : Kinds) (answer : Result ArgMatches Error) where
         go (Err e) (Err f) is among = subst (λ fault. (fault ≡ OutOfMemory) ⊎ (fault_of_first kinds ≡ Some fault)) (sym (gives e f is))
             (fault_is kinds one e among)
 
--- What a parse by a command returns, once its error is converted: the command has the rules of `app`.
+-- The result of a parse, once its error is converted, by a command with the rules of `app`.
 module _ (app : App) (exact : (is_simple app ≡ true) × (is_simple_and_free app ≡ true)) (old : Command) (begins : app_of old ≡ app)
     (words : List Text)
     (answer : Result ArgMatches Error) (Maps : Error → WordsFault → Type 0) (result : Result ArgMatches WordsFault)

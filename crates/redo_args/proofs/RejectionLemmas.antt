@@ -25,7 +25,7 @@ kind_is kinds e one not (inl memory) = absurd (not memory)
 kind_is kinds e one not (inr among) = one_is kinds (kind_of e) one among
 
 module _ (app : App) (words : List Text) where
-  -- What a comparison of kinds says of the first `n` arguments.
+  -- The result of a comparison of kinds, for the first `n` arguments.
   pub alike_is : (n : ℕ) (before whole : Kinds) (is : Bool) → is ≡ bytes_eq (kind_name before) (kind_name whole)
       → before ≡ fault_of app (take n words) → whole ≡ fault_of app words
       → is ≡ fails_alike app words n

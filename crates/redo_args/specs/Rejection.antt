@@ -1,4 +1,4 @@
--- Why command-line arguments are rejected, as a text for people: which argument, and what is wrong with it.
+-- Why command-line arguments are rejected, as a text for people: which argument, and the reason.
 use Rattle.std.specs.Prelude.{ℕ, zero, suc, ◌-◌, ◌==◌, ◌&&◌, ◌||◌, nat_eq, Bool, not, List, [], ◌∷◌, ◌++◌, Option, None, Some, take, length, get_or, codes, unwrap_or, if◌then◌else◌}
 use Rattle.std.specs.List.{starts_with}
 use Rattle.std.specs.Str.{bytes_eq}
@@ -47,7 +47,7 @@ argument_at words n =
     else if n == 1 || is_option (get_or words (n - 1) []) then get_or words (n - 1) []
     else get_or words (n - 2) [] ++ codes " " ++ get_or words (n - 1) []
 
--- ---- what is wrong with it
+-- ---- the reason
 
 -- Which numbers an option takes. `argument` begins with its name.
 abbrev pub out_of_range : Text → Text
@@ -56,14 +56,14 @@ out_of_range argument =
     else if starts_with nat_eq argument (codes "--capacity") then codes ": not in 1 to 65536"
     else codes ": not in 0 to 18446744073709551615"
 
--- What is wrong with a known option, except for its number.
+-- The mistake in a known option, except for its number.
 abbrev pub mistake : ErrorKind → Text
 mistake kind.InvalidValue = codes ": a value is missing"
 mistake kind.TooManyValues = codes ": this option takes no value"
 mistake kind.ArgumentConflict = codes ": this option is given twice"
 mistake other = codes ": rejected"
 
--- What is wrong with the rejected argument, from the kind of the fault.
+-- The reason for a rejection, from the kind of the fault.
 abbrev pub reason : Kinds → Text → Text
 reason [] argument = []
 reason (kind.UnknownArgument ∷ kinds) argument = codes "unknown option '" ++ argument ++ codes "'"

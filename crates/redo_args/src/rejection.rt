@@ -1,7 +1,7 @@
 //! Says why command-line arguments are rejected.
 //!
-//! `clap` states only the kind of an error, and nothing about its text, which is therefore not shown. So the arguments are parsed
-//! again, without the last one, the last two, and so on, until the kind changes.
+//! `clap` states only the kind of an error, and nothing about its text, which is therefore not shown. To find the rejected one, the
+//! arguments are parsed again, without the last one, the last two, and so on, until the kind changes.
 ghost use Rattle.std.specs.Prelude.{◌≡◌, ◌≤◌, ◌<◌, ◌-◌, ◌++◌, ◌∷◌, [], true, flat_map, get_or, length, map, IfOk};
 ghost use Rattle.std.specs.Str.{bytes_eq};
 ghost use Rattle.std.specs.String.{string_bytes};
@@ -24,9 +24,9 @@ pub trait CommandLine {
         ensures { IfOk result (λ kind. kinds_of kind ≡ fault_of (app self.now) (map string_bytes words.now)) };
 }
 
-/// Returns why arguments are rejected: which one, and what is wrong with it. The rejected argument is the last one that
-/// changes the kind of the fault. The text names it, with the option before it if it is a value. It is one line, without its
-/// line feed, unless an argument has one.
+/// Returns why arguments are rejected: which one, and the reason. The rejected argument is the last one that changes the kind of
+/// the fault. The text names it, with the option before it if it is a value. It is one line, without its line feed, unless an
+/// argument has one.
 pub fn explain_rejection<C: CommandLine>(
     alloc: Global,
     command_line: &C,
@@ -133,7 +133,7 @@ fn is_option(word: &[u8]) -> bool
     word.starts_with(b"-") && word.len() != 1
 }
 
-// Returns what is wrong with the rejected argument.
+// Returns the reason for a rejection.
 fn reason(alloc: Global, kind: Option<ErrorKind>, argument: &[u8]) -> Result<Vec<u8>, AllocError>
     ensures { IfOk result (λ text. text.items ≡ reason (kinds_of kind) argument.now) }
 {
@@ -154,7 +154,7 @@ fn reason_of_kind(alloc: Global, kind: ErrorKind, argument: &[u8]) -> Result<Vec
     }
 }
 
-// Returns what is wrong with a known option, except for its number.
+// Returns the mistake in a known option, except for its number.
 fn mistake(kind: ErrorKind) -> &'static str
     ensures { result.now ≡ mistake kind }
 {
@@ -179,7 +179,6 @@ fn out_of_range(argument: &[u8]) -> &'static str
     }
 }
 
-// Returns a text with this end.
 fn with_end(alloc: Global, text: &[u8], end: &str) -> Result<Vec<u8>, AllocError>
     ensures { IfOk result (λ whole. whole.items ≡ text.now ++ end.now) }
 {

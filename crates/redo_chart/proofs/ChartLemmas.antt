@@ -83,7 +83,6 @@ text_at f texts xs i d e is inside =
 
 -- ---- ticks
 
--- The text of one more tick.
 pub tick_more : (f : ℕ → List ℕ) (old new : List (Vec ℕ)) (text : Vec ℕ) (i : ℕ) → texts_in old ≡ map f (range_with_len 0 i)
     → new ≡ old ++ text ∷ [] → text.items ≡ f i → texts_in new ≡ map f (range_with_len 0 (i + 1))
 tick_more f old new text i so_far pushed is =
@@ -97,7 +96,6 @@ tick_count width texts is =
     let f : ℕ → List ℕ = λ i. tick_text (i * tick_step_of width) (tick_step_of width) in
     text_count f texts (range_with_len 0 (last_tick width + 1)) is ∙ length-range_with_len 0 (last_tick width + 1)
 
--- The text of a tick.
 pub tick_text_at : (width step i : ℕ) (texts : List (Vec ℕ)) (e : Vec ℕ) → step ≡ tick_step_of width → texts_in texts ≡ tick_texts width
     → i < length texts → (get_or texts i e).items ≡ tick_text (i * step) step
 tick_text_at width step i texts e step_is is below =
@@ -107,7 +105,6 @@ tick_text_at width step i texts e step_is is below =
     ∙ get_or-map-range_with_len f 0 (last_tick width + 1) i i (f i) (omega (arith, below, count)) (omega arith)
     ∙ ap (λ (s : ℕ). tick_text (i * s) s) (sym step_is)
 
--- A tick is in the width.
 pub tick_inside : (width step i : ℕ) (texts : List (Vec ℕ)) → step ≡ tick_step_of width → texts_in texts ≡ tick_texts width
     → i < length texts → i * step ≤ width
 tick_inside width step i texts step_is is below =
@@ -134,7 +131,6 @@ tick_drawn bottom width step i old middle new line tick so_far first second is =
     ∙ flat_map-append F (map id (range_with_len 0 i)) (i ∷ [])
     ∙ ap (λ (shapes : List Shape). shapes ++ F i) (flat_map-map F id (range_with_len 0 i)))
 
--- All ticks are drawn.
 pub ticks_drawn : (bottom width step i : ℕ) (texts : List (Vec ℕ)) (shapes : List Shape) → step ≡ tick_step_of width
     → texts_in texts ≡ tick_texts width → i ≡ length texts → shapes ≡ flat_map (tick_shapes bottom width step) (range_with_len 0 i)
     → shapes ≡ axis_shapes bottom width

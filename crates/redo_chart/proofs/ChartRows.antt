@@ -67,7 +67,7 @@ durations :
 unfolding duration_words decimal_text digits
 durations = refl
 
--- A bar of the target at this position, or of several of which it is the first.
+-- A bar of the target at this position, or of several that begin with it.
 abbrev bar : ℕ → ℕ → ℕ → ℕ → Bar
 bar position count began ended = record {
   lane = 2;

@@ -68,7 +68,7 @@ long end = replicate 499 97 ++ end
 long_parts : (last_part (codes "src/" ++ long (codes "x")) ≡ Some (long (codes "x"))) × (last_part (long (codes "/x")) ≡ Some (codes "x"))
 long_parts = (refl, refl)
 
--- So is the label of a bar that is wide enough.
+-- The label of a bar that is wide enough is whole, too.
 abbrev labelled : Bar
 labelled = record { lane = 0; x = 0; width = 350; position = 0; count = 1; began = 0; ended = 1; failed = false }
 
@@ -109,7 +109,7 @@ long_titles = (refl, refl, refl)
 abbrev short_logs : List Log
 short_logs = record { target = codes "x"; entries = []; state = Ended } ∷ []
 
--- The same for a recipe that ran others, and for 257 targets.
+-- A recipe that ran others, and 257 targets.
 titles_of_week :
     (title_of short_logs nodes Callers (bar 1) ≡ codes "x, 168 h 00 min, exit 2")
     × (title_of short_logs nodes Recipes (bar 257) ≡ codes "257 targets in 168 h 00 min, from x")

@@ -1,4 +1,4 @@
--- What the laws state about charts.
+-- The laws about charts.
 use Rattle.std.proofs.Common.{◌≡◌, ℕ, zero, suc, ◌+◌, ◌-◌, ◌*◌, ◌/◌, ◌<◌, ◌≤◌, leb, ltb, min, Bool, true, false, cond, nat_lt, List, [], ◌∷◌, ◌++◌, map, Option, None, Some, refl, sym, ap, ◌∙◌, subst, arith}
 use Rattle.std.specs.Prelude.{◌&&◌, IfSome}
 use Rattle.std.specs.List.{AllByRecursion, AllZip, flat_map, list_all, range_with_len}
@@ -160,7 +160,7 @@ units_le window a b le = quotient_le (min (a - window.began) window.width * 1000
     (min (b - window.began) window.width * 10000) window.width (omega (arith, le))
 
 module _ (logs : List Log) (nodes : List Node) (window : Window) (band : Band) where
-  -- What includes the times of a span in milliseconds, includes them in the chart.
+  -- A bar that includes the times of a span in milliseconds includes them in the chart.
   included : (lane : ℕ) (bar : List Span) (span : Span) → InTime bar span
       → Includes window (drawn_bar logs nodes band (bar_of window lane bar)) span
   included lane bar span times =

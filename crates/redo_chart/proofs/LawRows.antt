@@ -1,4 +1,4 @@
--- What the laws accept and reject.
+-- Charts that the laws accept, and others that they reject.
 use Rattle.std.proofs.Common.{◌≡◌, ℕ, ◌<◌, ◌≤◌, Bool, true, false, List, [], ◌∷◌, map, length, unwrap_or, Option, None, Some, refl, ap, arith}
 use Rattle.std.specs.Fmt.{digits}
 use Rattle.std.specs.List.{flat_map}
@@ -37,7 +37,7 @@ kinds : kinds_of (record {
 }) ≡ Untimed ∷ Axis ∷ []
 kinds = refl
 
--- One lane of callers, two of recipes, of which the first one has two bars, and one of marks.
+-- One lane of callers, two of recipes, and one of marks. The first lane of recipes has two bars.
 lanes :
     (map length (chart_lanes window (span 1 1000 11000 false ∷ [])
     (span 2 1000 5000 false ∷ span 0 3000 10500 true ∷ span 4 6000 6010 false ∷ []) (span 3 11000 11000 true ∷ [])) ≡ 1 ∷ 2 ∷ 1 ∷ 1 ∷ [])

@@ -39,7 +39,7 @@ module _ (logs : List Log) (nodes : List Node) (window : Window) (band : Band) w
   abbrev shape_in : ℕ → List Span → Shape
   shape_in lane bar = BarShape (drawn_bar logs nodes band (bar_of window lane bar))
 
-  -- The rows of some lanes, of which the first one has this number.
+  -- The rows of consecutive lanes. The first lane has this number.
   abbrev rows_from : ℕ → List (List (List Span)) → List (List Shape)
   rows_from lane [] = []
   rows_from lane (bars ∷ lanes) = map (shape_in lane) bars ∷ rows_from (lane + 1) lanes

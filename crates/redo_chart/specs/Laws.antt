@@ -1,4 +1,4 @@
--- What the laws state.
+-- The statements of the laws.
 use Rattle.std.specs.Prelude.{◌≡◌, ℕ, ◌+◌, ◌==◌, ◌<◌, ◌≤◌, max, nat_lt, Bool, List, [], ◌∷◌, ◌++◌, drop, length, map, take, Some, IfSome, if◌then◌else◌}
 use Rattle.std.specs.List.{AllByRecursion, AllZip, flat_map, list_all}
 use Rattle.std.specs.List.Sorted.{IsPermutation}

@@ -1,4 +1,4 @@
--- What is known of the shown target at a position. If there is none at a position, its name is empty and its status is unknown.
+-- The facts about the shown target at a position. If there is none at a position, its name is empty and its status is unknown.
 use Rattle.std.specs.Prelude.{ℕ, ◌==◌, List, [], ◌∷◌, Option, None, Some, ℤ, option_and_then, option_map, slice_get}
 use Rattle.std.specs.List.{after_last}
 use Rattle.redo_logs.specs.Logs.{Log}
@@ -11,7 +11,7 @@ name_at logs nodes position = name_or_empty (option_map (λ (node : Node). targe
 abbrev pub status_at : List Node → ℕ → Option ℤ
 status_at nodes position = option_and_then (λ (node : Node). node.status) (slice_get nodes position)
 
--- What follows the last slash of a name. If it has none, this is the name.
+-- The part of a name after its last slash. If it has none, this is the name.
 abbrev pub after_last_slash : List ℕ → List ℕ
 after_last_slash name = after_last (λ byte. byte == 47) name
 

@@ -1,7 +1,7 @@
 //! Where the groups of bars are in the chart.
 //!
-//! Where a group begins depends on the number of lanes above it, and the height of the chart on all three groups. So all
-//! groups are laid out before anything is written. The maximum numbers of lanes bound the height.
+//! Where a group begins depends on the number of lanes above it, and the height of the chart on all three groups. All groups are
+//! laid out before anything is written. The maximum numbers of lanes bound the height.
 ghost use Rattle.std.specs.Prelude.{◌≡◌, ◌<◌, ◌≤◌, ◌^◌};
 ghost use Rattle.redo_chart.specs.Bands as spec;
 

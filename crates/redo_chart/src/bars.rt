@@ -1,6 +1,6 @@
 //! How the bars of a timeline are drawn.
 //!
-//! A bar has a minimum width. So it may be wider than its time, and the law states that it includes all times of its spans.
+//! A bar has a minimum width, and may be wider than its time. The law states that it includes all times of its spans.
 ghost use Rattle.std.specs.Prelude.{◌≡◌, ◌<◌, ◌≤◌, ◌+◌, ◌*◌, ◌^◌, IfOk, map, option_map};
 ghost use Rattle.redo_html.specs.Chart.{bar_of, shape_of};
 ghost use Rattle.redo_chart.specs.Bars as spec;

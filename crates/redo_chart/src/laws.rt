@@ -1,8 +1,7 @@
 //! Laws, which are theorems about the definitions alone: each contract is a theorem, and the bodies are empty.
 //!
-//! `SaysOf` states what a bar says of its spans: the target to which it leads, its beginning, width, colour, tooltip and
-//! label. It follows the bars of the layout, so the law about a group (`DrawsAll`) needs no other definition of which spans
-//! share a bar.
+//! `SaysOf` states what a bar says of its spans: the target to which it leads, its beginning, width, colour, tooltip and label. It
+//! follows the bars of the layout, so the law about a group (`DrawsAll`) needs no second definition of the spans that share a bar.
 ghost use Rattle.std.specs.Prelude.{◌≡◌, ◌++◌, ◌∷◌, ℕ, true, nat_lt, List, []};
 ghost use Rattle.std.specs.List.{AllByRecursion, list_all};
 ghost use Rattle.redo_html.specs.declared.chart.GroupKind.TheVariants.{Axis, Callers, Recipes, Untimed};

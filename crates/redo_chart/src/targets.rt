@@ -1,4 +1,4 @@
-//! What is known of the shown target at a position.
+//! The facts about the shown target at a position.
 ghost use Rattle.std.specs.Prelude.{◌≡◌, option_map};
 ghost use Rattle.redo_chart.specs.Targets as spec;
 
@@ -34,7 +34,7 @@ pub fn last_part(name: &[u8]) -> Option<&[u8]>
     if part.is_empty() { None } else { Some(part) }
 }
 
-// Returns what follows the last slash of a name; the name, if it has none.
+// Returns the part of a name after its last slash; the name, if it has none.
 fn after_last_slash(name: &[u8]) -> &[u8]
     ensures { result.now ≡ spec.after_last_slash name.now }
 {

@@ -1,4 +1,4 @@
--- What a loop over a reader knows of the reader's stream.
+-- The stream of a reader, as a loop over the reader knows it.
 use Rattle.std.proofs.Common.{◌≡◌, ℕ, ◌<◌, ◌≤◌, Bool, true, false, List, [], ◌∷◌, ◌++◌, Option, None, Some, Ok, Err, length, take, drop, refl, sym, ◌∙◌, ap, subst, arith, le_refl}
 use Rattle.std.proofs.lemmas.List.{append_assoc, append-nil, length-append, take-append-drop}
 use Rattle.redo_device.specs.declared.feed.Broken.{Broken}

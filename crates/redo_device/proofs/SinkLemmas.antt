@@ -1,4 +1,4 @@
--- What a writer took in several writes.
+-- The bytes that a writer took in several writes.
 use Rattle.std.proofs.Common.{◌≡◌, ℕ, zero, suc, ◌+◌, List, ◌++◌, Option, Ok, take, drop, refl, sym, ◌∙◌, ap}
 use Rattle.std.proofs.Math.Seq.{take-add}
 use Rattle.redo_device.proofs.WritesLemmas.{append_output-append_output}

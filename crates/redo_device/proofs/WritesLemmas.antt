@@ -51,7 +51,6 @@ module _ (before : Option Output) (text : List ℕ) where
   in_middle middle after prefix part suffix broken done failed written wrote is =
       at_first after (prefix ++ part) suffix broken done failed (then before middle after prefix part (Err broken) written wrote) is
 
-  -- The last part.
   pub at_last : (middle after : Option Output) (prefix part : List ℕ) (done : Result (Unit {0}) Broken)
       → middle ≡ append_output before prefix 0 → Writes middle after part done → prefix ++ part ≡ text → Writes before after text done
   at_last middle after prefix part done written wrote is =

@@ -1,7 +1,7 @@
-//! A reader of bytes. It is modelled as the bytes to come and whether a failed read ends them; as `None` if it is opaque. So
-//! one clause serves known and opaque readers without premises. A clause on an opaque stream holds for *some* stream: what
-//! was read and what was written still fit each other. The stream is the file's only if nothing is read after an end or a
-//! failed read, which is tested.
+//! A reader of bytes. It is modelled as the bytes to come and whether a failed read ends them; as `None` if it is opaque. This way,
+//! one clause serves known and opaque readers without premises. A clause on an opaque stream holds for *some* stream: what was read
+//! and what was written still fit each other. The stream is the file's only if nothing is read after an end or a failed read, which
+//! is tested.
 ghost use Rattle.std.specs.Prelude.{◌<◌, ◌≤◌, Option, IfOk, length};
 ghost use Rattle.redo_device.specs.Feed.{Stream, Pulls};
 

@@ -73,7 +73,7 @@ extended-none [] = refl
 extended-none (command ∷ []) = λ i. record command { text = append-nil command.text i } ∷ []
 extended-none (command ∷ other ∷ others) = ap (λ cs. command ∷ cs) (extended-none (other ∷ others))
 
--- What a statement that begins no command adds to the last command before it.
+-- A statement that begins no command, and its text for the last command before it.
 module _ (s : Statement) (begins_none : command_if s.form ≡ None) where
   abbrev more : List ℕ
   more = more_if s.form s.text

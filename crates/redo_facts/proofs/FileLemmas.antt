@@ -1,4 +1,4 @@
--- What a loop over a reader has read of a file with at most `max_bytes` bytes.
+-- The part of a file with at most `max_bytes` bytes that a loop over a reader has read.
 use Rattle.std.proofs.Common.{◌≡◌, ℕ, ◌-◌, ◌<◌, ◌≤◌, Bool, true, false, cond, not, ◌&&◌, List, [], ◌++◌, Option, Ok, Err, length, take, refl, sym, ap, ◌∙◌, arith}
 use Rattle.std.specs.Prelude.{nat_le}
 use Rattle.std.proofs.lemmas.Bool.{le-leb, lt-leb}
@@ -32,7 +32,6 @@ module _ (max_bytes : ℕ) where
         (λ stream is. sym is.0 ∙ all_count stream is.1 (omega (arith, within, ap length is.0)))
         (Gave-end first now after bytes buffer gave pulls)
 
-    -- The read fails.
     pub file_fails : (broken : Broken) → Pulls now after (Err broken) buffer
         → SomeStream first (λ stream. [] ≡ bytes_that_count max_bytes stream)
     file_fails broken pulls =

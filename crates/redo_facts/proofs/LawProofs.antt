@@ -32,7 +32,7 @@ module _ (number : ℕ) where
       (stated-append before (line ∷ after) ∙ ap (λ (ss : List Statement). stated_in before ++ ss) (stated-skip line after is)
       ∙ sym (stated-append before after))
 
-  -- Whatever precedes a `log` line does not count.
+  -- No line before a `log` line counts.
   since-behind : (front : List Statement) (s : Statement) (others : List Statement) → is_log s.form ≡ true
       → (name : List ℕ) (found : List Statement) → since_log (s ∷ others) ≡ Some (name, found)
       → since_log (front ++ s ∷ others) ≡ Some (name, found)

@@ -44,7 +44,7 @@ failed : facts_of_stream 40 index (stream file true) ≡ unknown ∷ unknown ∷
 unfolding split_lines ended split_once normal reduce_suffix number statement_of
 failed = refl
 
--- The last line is not ended.
+-- The last line is unended.
 unended : facts_of_stream 52 index (stream (file ++ codes "7 command z") false) ≡ command (codes "x") ∷ command (codes "y") ∷ []
 unfolding split_lines ended split_once normal reduce_suffix number statement_of
 unended = refl

@@ -14,7 +14,7 @@ pub record RecipeCommand : Type 0 where
   pub text : List ℕ
   pub is_whole : Bool
 
--- What is known of a target's recipe. `has_log` says whether the last `log` line with its number names the target.
+-- The facts about a target's recipe. `has_log` says whether the last `log` line with its number names the target.
 pub record RecipeFacts : Type 0 where
   pub has_log : Bool
   pub directory : Option (List ℕ)
@@ -25,7 +25,7 @@ pub record RecipeFacts : Type 0 where
 abbrev pub nothing : RecipeFacts
 nothing = record { has_log = false; directory = None; commands = []; usage = None }
 
--- What these lines state, in order.
+-- The statements of these lines, in order.
 abbrev pub statements_of : List (List ℕ) → List Statement
 statements_of lines = filter_map statement_of lines
 
@@ -76,7 +76,7 @@ command_if Truncated = Some false
 command_if More = None
 command_if (Took usage) = None
 
--- What a line adds to the command before it.
+-- The text that a line adds to the command before it.
 abbrev pub more_if : Form → List ℕ → List ℕ
 more_if Log text = []
 more_if Directory text = []
@@ -89,7 +89,7 @@ abbrev pub continuation_from : Option Bool → List ℕ → List ℕ → List �
 continuation_from None more after = more ++ after
 continuation_from (Some is_whole) more after = []
 
--- What follows a command's first line: a line feed and the text of each `more` line, up to the next command.
+-- The rest of a command after its first line: a line feed and the text of each `more` line, up to the next command.
 abbrev pub continuation : List Statement → List ℕ
 continuation [] = []
 continuation (statement ∷ others) =
@@ -104,7 +104,7 @@ abbrev pub commands_in : List Statement → List RecipeCommand
 commands_in [] = []
 commands_in (statement ∷ others) = commands_from (command_if statement.form) (statement.text ++ continuation others) (commands_in others)
 
--- What these statements say of a recipe.
+-- The facts about a recipe, by these statements.
 abbrev pub facts_in : List Statement → RecipeFacts
 facts_in statements = record {
   has_log = true;
@@ -122,7 +122,8 @@ abbrev pub facts_since : List ℕ → Option (List ℕ × List Statement) → Re
 facts_since target None = nothing
 facts_since target (Some since) = if is_name_of target (normal None since.0) then facts_in since.1 else nothing
 
--- The facts of a target, by the statements with its number: what follows the last `log` line, if that line names the target.
+-- The facts of a target, by the statements with its number: the statements after the last `log` line, if that line names the
+-- target.
 abbrev pub facts_by : List ℕ → List Statement → RecipeFacts
 facts_by target statements = facts_since target (since_log statements)
 

@@ -1,4 +1,4 @@
--- What a line of `facts` states.
+-- The statement of a line of `facts`.
 use Rattle.std.specs.Prelude.{◌≡◌, ◌≢◌, ℕ, List, [], ◌∷◌, ◌++◌, Option, None, Some, option_and_then, option_map, codes, if◌then◌else◌}
 use Rattle.std.specs.Str.{bytes_eq}
 use Rattle.redo_line.specs.Decimal.{AreDigits, number, number_of}
@@ -9,7 +9,7 @@ use Rattle.redo_facts.specs.declared.statement.Form.{Form}
 use Rattle.redo_facts.specs.declared.statement.Form.TheVariants.{Log, Directory, Command, Truncated, More, Took}
 use Rattle.redo_facts.specs.declared.statement.Usage.{Usage}
 
--- What a line states: the number of a log, the form of the line, and the text after the form's word.
+-- A statement: the number of a log, the form of the line, and the text after the form's word.
 pub record Statement : Type 0 where
   pub number : ℕ
   pub form : Form
@@ -93,7 +93,7 @@ statement_from None form text = None
 statement_from (Some number) None text = None
 statement_from (Some number) (Some form) text = Some (record { number = number; form = form; text = text })
 
--- What a line states, if anything.
+-- The statement of a line, if it has one.
 unfoldable pub statement_of : List ℕ → Option Statement
 statement_of line =
     option_and_then (λ (first : List ℕ × List ℕ). option_and_then (λ (second : List ℕ × List ℕ).

@@ -61,7 +61,7 @@ impl Path {
     }
 }
 
-/// What is known of a target's recipe. docs/format.md has the rules.
+/// The facts about a target's recipe. docs/format.md has the rules.
 #[derive(Drop)]
 pub struct Facts {
     has_log: bool,
@@ -122,7 +122,7 @@ impl Facts {
         self.commands.as_slice()
     }
 
-    /// Returns what the recipe took, if it is known. Each number is below 10^15.
+    /// Returns the resources that the recipe took, if they are known. Each number is below 10^15.
     pub fn usage(&self) -> Option<Usage>
         ensures { result ≡ self.now.usage }
     {

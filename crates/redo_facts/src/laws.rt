@@ -5,8 +5,8 @@ ghost use Rattle.redo_facts.specs.Facts.{facts_of};
 ghost use Rattle.redo_facts.specs.Laws.{BeginsLog, IsSkipped};
 ghost use Rattle.redo_facts.specs.Statement.{IsStatement, statement_of};
 
-/// What `statement_of` computes is what a line states, and a line states nothing else. So what is written in one of the forms is read
-/// back.
+/// `statement_of` computes the statement of a line, and a line has no other statement. A statement that is written in one of the
+/// forms is read back.
 pub fn line_has_one_statement()
     ensures is { (line : List ℕ) → IfSome (statement_of line) (IsStatement line) }
     ensures only { (line : List ℕ) → IsUnique (IsStatement line) (statement_of line) }

@@ -1,7 +1,7 @@
-//! The facts of recipes that the file `facts` of a capture has: directory, commands, and what they took.
+//! The facts of recipes that the file `facts` of a capture has: directory, commands, and the resources that they took.
 //!
 //! [`read_facts`] reads the stream of the file, and returns the [`Facts`] of each target of an index. Nothing in the file is a fault:
-//! what it doesn't state is not known. Laws say which lines count, and that no other line changes anything.
+//! facts that it doesn't state are unknown. Laws say which lines count, and that no other line changes anything.
 #![tactic(auto)]
 
 mod facts;

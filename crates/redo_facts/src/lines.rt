@@ -1,8 +1,8 @@
 //! The facts of all targets, by the lines of a file.
 //!
-//! The definition collects what the ended lines with a target's number state, and takes what follows the last `log` line. The
-//! code reads the lines once, and changes the facts of one target for each. Numbers are looked up in a set with the keys of
-//! the index, so nobody can choose numbers that make this slow.
+//! The definition collects the statements with a target's number, and takes those after the last `log` line. The code reads the
+//! lines once, and changes the facts of one target for each. Numbers are looked up in a set with the keys of the index, so nobody
+//! can choose numbers that make this slow.
 ghost use Rattle.std.specs.Prelude.{◌≡◌, ◌<◌, ◌∷◌, ◌++◌, [], List, IfNone, IfOk, IfSome, OnOk, length};
 ghost use Rattle.redo_index.specs.Index.{numbers_of, IsIndex};
 ghost use Rattle.redo_line.specs.Lines.{ended};
@@ -52,7 +52,7 @@ pub fn no_facts(alloc: Global, index: &Index) -> Result<Vec<Facts>, AllocError>
     Ok(facts)
 }
 
-// Adds what the ended lines of these bytes state.
+// Adds the statements of the ended lines of these bytes.
 fn add_lines(
     alloc: Global,
     index: &Index,
@@ -85,7 +85,7 @@ fn first_line(bytes: &[u8]) -> Option<(&[u8], &[u8])>
     }
 }
 
-// Adds what an ended line states.
+// Adds the statement of an ended line.
 fn add_line(
     alloc: Global,
     index: &Index,

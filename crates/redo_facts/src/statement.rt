@@ -1,4 +1,4 @@
-//! What a line of `facts` states.
+//! The statement of a line of `facts`.
 //!
 //! A line states something if it has one of six forms (`IsStatement`). The law `line_has_one_statement` says that it states
 //! one thing only. No line is a fault, so a damaged line harms only what it would have stated.
@@ -8,7 +8,7 @@ ghost use Rattle.redo_facts.specs.Statement as spec;
 
 use redo_line::{read_number, split_at_first};
 
-/// What the processes of a recipe took.
+/// The resources that the processes of a recipe took.
 #[derive(Clone, Copy, Debug, PartialEq, Eq)]
 pub struct Usage {
     /// Processor time outside of the kernel, in milliseconds.
@@ -30,7 +30,7 @@ pub enum Form {
     Took(Usage),
 }
 
-/// What a line states: the number of a log, the form of the line, and the text after the form's word.
+/// A statement: the number of a log, the form of the line, and the text after the form's word.
 #[derive(Clone, Copy)]
 pub struct Stated<'a> {
     pub number: u32,
@@ -38,7 +38,7 @@ pub struct Stated<'a> {
     pub text: &'a [u8],
 }
 
-/// Returns what an ended line states, if anything. It does not allocate.
+/// Returns the statement of an ended line, if it has one. It does not allocate.
 pub fn read_statement(line: &[u8]) -> Option<Stated<'_>>
     ensures some { IfSome result (λ stated.
         spec.statement_of line.now ≡ Some (record { number = stated.number; form = stated.form; text = stated.text.now })) }
@@ -101,7 +101,7 @@ fn if_not_empty(form: Form, text: &[u8]) -> Option<Form>
     if text.is_empty() { None } else { Some(form) }
 }
 
-// Returns what a recipe took, if the text is three numbers.
+// Returns the resources that a recipe took, if the text is three numbers.
 fn usage_of(text: &[u8]) -> Option<Usage>
     ensures { result ≡ spec.usage_of text.now }
 {

@@ -1,4 +1,4 @@
-//! Small files of facts, and what they say of targets.
+//! Small files of facts, and the facts that they state about targets.
 
 /// The index, the file, whether a failed read ends it, how many bytes it may have, and the facts of each target: whether it has a log,
 /// and a line for each fact.

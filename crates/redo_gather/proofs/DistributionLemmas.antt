@@ -28,7 +28,7 @@ one_more senders sender number (first ∷ given) one =
     by true all prefix last is = ap (λ share. (number, first) ∷ share) is
     by false all prefix last is = is
 
--- The same, if the first number is 0.
+-- The first streams of a sender, if the first number is 0.
 first_more : (senders sender : ℕ) (given : List KnownSource) (one : KnownSource)
     → share_of senders sender 0 (given ++ one ∷ [])
     ≡ share_of senders sender 0 given ++ cond (nat_eq (length given % senders) sender) ((length given, one) ∷ []) []

@@ -62,7 +62,7 @@ lines_posted stream before between after first second one two =
     ∙ sym (map-append (entry_item before.number stream) first second))
     (then_posted before between after _ _ one two)
 
--- The same, if the number of the stream is known to be the same.
+-- Entries that were posted for a stream whose number is known to be the same.
 pub entries_posted : (stream same : ℕ) (before between after : PostEndState) (first second : List Entry) → same ≡ stream
     → HasPosted before between (map (entry_item before.number stream) first)
     → HasPosted between after (map (entry_item between.number same) second)
@@ -131,7 +131,7 @@ one_sent max_bytes share stream given before between after (lines, posted, expec
   expected-more max_bytes before.number share lines (stream, given) one.entries one.fault expected one.expected,
 )
 
--- What was posted is the items since then.
+-- The posted items are the items since then.
 pub since_is : (before after : PostEndState) (lines : List Item) (posted : HasPosted before after lines)
     → posted_since before after ≡ posted.items
 since_is before after lines posted =

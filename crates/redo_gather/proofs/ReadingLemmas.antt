@@ -1,4 +1,4 @@
--- What a loop over the reads of one stream knows of this stream.
+-- A stream, as a loop over its reads knows it.
 use Rattle.std.proofs.Common.{◌≡◌, ◌≢◌, inl, inr, ℕ, ◌+◌, ◌-◌, ◌<◌, ◌≤◌, Bool, true, false, List, [], ◌++◌, Option, None, Some, IfSome, IfNone, Ok, Err, length, take, drop, option_to_list, filter_map, refl, sym, ap, ◌∙◌, subst, arith}
 use Rattle.std.specs.List.{slice_range}
 use Rattle.std.proofs.lemmas.List.{append_assoc, append-nil, take-append-drop}
@@ -138,7 +138,6 @@ of_either : (entries part : List Entry) (log : Option (List Entry)) → IfSome l
 of_either entries part (Some log) of_log of_part = of_log
 of_either entries part None of_log of_part = of_part
 
--- A prefix of a prefix is a prefix.
 prefix_of_prefix : (first second all : List Entry) → IsPrefix first second → IsPrefix second all → IsPrefix first all
 prefix_of_prefix first second all one two = (one.0 ++ two.0, two.1 ∙ ap (λ es. es ++ two.0) one.1 ∙ append_assoc first one.0 two.0)
 
@@ -149,7 +148,7 @@ module _ (target : List ℕ) (max_bytes : ℕ) (must_close : Bool) where
       log_or_part (unless_fault f (filter_map (λ entry. entry) (entries_of target stream.bytes)))
       (entries_before_fault target max_bytes stream)) is
 
-  -- Bytes that have a fault, whatever follows them.
+  -- Bytes that have a fault, with any bytes after them.
   stopped : (known after : Option Stream) (bytes : List ℕ) (fault : StreamFault) (entries : List Entry) → Gave known bytes after
       → fault ≢ Read → fault_so_far target max_bytes bytes ≡ Some fault
       → entries ≡ entries_so_far target max_bytes bytes → IsExpectedFor max_bytes (source target must_close known) entries (Some fault)

@@ -106,7 +106,7 @@ end capacity number posted =
 abbrev empty : List NumberedSource
 empty = (5, source (codes "d") false (Some (stream_of [] false))) ∷ []
 
--- What an end posted before stays, and isn't part of what it sent.
+-- The items that an end posted before stay, and aren't part of those that it sent.
 has_sent : HasSent 10 ((5, source (codes "d") false (Some stream)) ∷ []) (end 1 3 (item (Line a) ∷ []))
     (end 1 3 (item (Line a) ∷ item (Lines (Text (codes "x") ∷ Text (codes "y") ∷ [])) ∷ item End ∷ []))
 unfolding split_lines ended rest first_fault entry_of record_entry fields_of status_of split_once after_prefix number normal reduce_suffix

@@ -101,7 +101,7 @@ these_faults = (
   ),
 )
 
--- What is known of two readers, of which the second one is opaque.
+-- The known facts about two readers. The second one is opaque.
 these_known : known_inputs (λ (known : Option Stream). known) (true ∷ false ∷ []) (Some (stream_of x false) ∷ None ∷ [])
     ≡ record { must_close = true; stream = Some (stream_of x false) } ∷ record { must_close = false; stream = None } ∷ []
 these_known = refl

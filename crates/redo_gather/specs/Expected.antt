@@ -1,4 +1,4 @@
--- What is expected of a sender for a stream: its entries and its fault, as far as memory allows.
+-- The items that a sender is expected to post for a stream: its entries and its fault, as far as memory allows.
 use Rattle.std.specs.Prelude.{◌≡◌, ℕ, ◌⊎◌, List, Option, None, Some}
 use Rattle.redo_line.specs.declared.entry.Entry.{Entry}
 use Rattle.redo_line.specs.declared.stream_fault.StreamFault.{StreamFault}

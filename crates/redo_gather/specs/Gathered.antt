@@ -1,4 +1,4 @@
--- What a gathering returns.
+-- The results of a gathering.
 use Rattle.std.specs.Prelude.{◌≡◌, ℕ, ◌<◌, true, List, Result, IfOk, length}
 use Rattle.std.specs.List.{list_all}
 use Rattle.redo_logs.specs.Logs.{Log, has_ended, targets_of}

@@ -1,4 +1,4 @@
--- What a sender posts for the streams of its share.
+-- The items that a sender posts for the streams of its share.
 use Rattle.std.specs.Prelude.{◌≡◌, ⊤, ℕ, ◌≤◌, Bool, List, [], ◌∷◌, ◌++◌, Option, None, Some, drop, length, map}
 use Rattle.std.specs.List.{AllByRecursion}
 use Rattle.redo_line.specs.declared.entry.Entry.{Entry}
@@ -55,7 +55,7 @@ AreExpected max_bytes sender (stream ∷ share) items =
     (entries : List Entry) × (fault : Option StreamFault) × (suffix : List Item)
     × (items ≡ stream_items sender stream.0 entries fault ++ suffix) × IsExpectedFor max_bytes stream.1 entries fault × AreExpected max_bytes sender share suffix
 
--- ---- what an end posts
+-- ---- the items of an end
 
 -- An item of several entries has at least two of them, and at most this many.
 abbrev pub max_entries : ℕ

@@ -78,7 +78,8 @@ IsLowestFault max_bytes targets known number fault = SomeMatchingStreams known (
 abbrev pub HasLogsUnlessFault : ℕ → List (List ℕ) → List (StreamInput Stream) → Type 0
 HasLogsUnlessFault max_bytes targets streams = IsSome (logs_of max_bytes targets streams) ↔ (fault_among max_bytes targets streams ≡ None)
 
--- If these streams are known, the logs of their readers (`AreLogsOfReaders`) are the logs of the streams. The same holds for a fault.
+-- If these streams are known, the logs of their readers (`AreLogsOfReaders`) are the logs of the streams. A fault of the logs is a
+-- fault of the streams.
 abbrev pub LogsAreThoseOfStreams : ℕ → List (List ℕ) → List (StreamInput Stream) → Type 0
 LogsAreThoseOfStreams max_bytes targets streams = (logs : List Log) → AreLogsOfReaders max_bytes targets (map fully_known streams) logs → logs_of max_bytes targets streams ≡ Some logs
 

@@ -98,8 +98,8 @@ impl LogCollector {
         self.take_end.meet(rt, end);
     }
 
-    /// Takes what is left after the ends of all senders were met. Returns the table, or the fault of the
-    /// lowest-numbered stream that has one. If an end wasn't met or an allocation failed, it returns `OutOfMemory`.
+    /// Takes the remaining items after the ends of all senders were met. Returns the table, or the fault of the lowest-numbered
+    /// stream that has one. If an end wasn't met or an allocation failed, it returns `OutOfMemory`.
     pub fn finish<T: Wait, G: Gate>(mut self, rt: &T, gate: &G) -> Result<LogTable, GatherFault>
         ensures gathered { (max_bytes : ℕ) (names : List (List ℕ)) (known : List KnownInput) → AllExpected max_bytes names known self →
             IsGathered max_bytes names known result }
@@ -108,7 +108,7 @@ impl LogCollector {
         self.finish_table(rt, gate).and(Ok(self.table))
     }
 
-    // Takes what is left. Returns `OutOfMemory` or the first fault in the table, if there is one.
+    // Takes the remaining items. Returns `OutOfMemory` or the first fault in the table, if there is one.
     fn finish_table<T: Wait, G: Gate>(&mut self, rt: &T, gate: &G) -> Result<(), GatherFault>
         ensures gathered { (max_bytes : ℕ) (names : List (List ℕ)) (known : List KnownInput) → AllExpected max_bytes names known self.old →
             IsGathered max_bytes names known (result_and result (Ok self.new.table)) }
@@ -121,7 +121,7 @@ impl LogCollector {
         self.final_result()
     }
 
-    // Takes what is left after all ends were met.
+    // Takes the remaining items after all ends were met.
     fn drain<T: Wait, G: Gate>(&mut self, rt: &T, gate: &G)
         requires { AreAllMet self.old.take_end }
         ensures met { AreAllMet self.new.take_end }

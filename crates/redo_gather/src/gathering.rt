@@ -1,7 +1,7 @@
-//! `run_next_sender` starts one sender per level of a recursion. The innermost level takes until all streams are over. Each
-//! level then joins its sender and meets its end, and `drain` takes what is left. The recursion joins each sender however the
-//! others end, and no list of threads has to grow. A level borrows the collector, so it takes a few hundred bytes of stack.
-//! `join` instead of `spawn_with` would read a share on the calling thread if no thread can be started.
+//! `run_next_sender` starts one sender per level of a recursion. The innermost level takes until all streams are over. Each level
+//! then joins its sender and meets its end, and `drain` takes the remaining items. The recursion joins each sender however the
+//! others end, and no list of threads has to grow. A level borrows the collector, so it takes a few hundred bytes of stack. `join`
+//! instead of `spawn_with` would read a share on the calling thread if no thread can be started.
 //!
 //! There is no deadlock (tested, not proved): a sender blocks only while the mailbox is full, or in the gate. The collector
 //! takes as long as a stream isn't over, and afterwards no sender posts. If a thread can't be started, the others are served
@@ -41,11 +41,10 @@ use std::thread::{PromisedHandle, Scope, Threads};
 /// the stream must end with the closing record of its log. There must be as many flags and readers as names.
 /// There may be at most 1,048,575 names, or none. No name may occur twice.
 ///
-/// Sender i of n reads the streams i, i + n, i + 2n and so on, in its own thread ([`crate::send`]). If there are
-/// fewer streams than senders, no more senders are started than there are streams. The senders post what they read
-/// to a mailbox of the plan's capacity. The calling thread takes it and stores it in a table. A stream is read even
-/// if another one has a fault. If streams have faults, the fault of the lowest-numbered one is returned. If memory
-/// runs out, even for a thread, `OutOfMemory` is returned instead.
+/// Sender i of n reads the streams i, i + n, i + 2n and so on, in its own thread ([`crate::send`]). If there are fewer streams than
+/// senders, no more senders are started than there are streams. The senders post their entries to a mailbox of the plan's capacity.
+/// The calling thread takes it and stores it in a table. A stream is read even if another one has a fault. If streams have faults,
+/// the fault of the lowest-numbered one is returned. If memory runs out, even for a thread, `OutOfMemory` is returned instead.
 ///
 /// The sender notifies the gate before each read. The calling thread notifies it after it has taken an entry or an
 /// end. Names are looked up by a hash with these keys. The result doesn't depend on them, but with keys that an
@@ -108,7 +107,7 @@ fn gather_by<T: Threads + Wait + Sync, R: Feed + Send, G: Gate>(
     run_senders(&context, ends, shares, collector).finish(rt, gate)
 }
 
-// What all senders of a gathering share.
+// The values that all senders of a gathering share.
 #[derive(Drop)]
 struct Context<'s, T, G> {
     rt: &'s T,
@@ -118,7 +117,7 @@ struct Context<'s, T, G> {
     max_bytes: u64,
 }
 
-// Runs the senders of these ends on their shares, collects what they read, and joins all of them.
+// Runs the senders of these ends on their shares, collects their items, and joins all of them.
 fn run_senders<T: Threads + Wait + Sync, R: Feed + Send, G: Gate>(
     context: &Context<'_, T, G>,
     ends: Vec<PostEnd>,
@@ -182,9 +181,9 @@ fn empty_shares<R: Drop>(alloc: Global, senders: u32) -> Result<Vec<Share<R>>, A
     Ok(shares)
 }
 
-// Starts a sender for each end and its share, in its own thread. Takes what they post meanwhile, joins them and
-// meets their ends. `streams_before` counts the streams of the senders that were started before. If a sender can't be
-// started, no more are started, and what is posted of these streams is taken before the senders are joined.
+// Starts a sender for each end and its share, in its own thread. Takes their items meanwhile, joins them and meets their ends.
+// `streams_before` counts the streams of the senders that were started before. If a sender can't be started, no more are started,
+// and the items of these streams are taken before the senders are joined.
 fn run_next_sender<'s, T: Threads + Wait + Sync, R: Feed + Send + 's, G: Gate, E>(
     scope: &Scope<'s, E>,
     context: &Context<'s, T, G>,

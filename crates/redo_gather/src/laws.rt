@@ -17,8 +17,8 @@ pub fn logs_unless_fault()
         HasLogsUnlessFault max_bytes targets streams }
 {}
 
-/// If every reader's stream is known, these are the streams that the readers give. So what holds of the logs
-/// of the streams that the readers give, or of the fault among them, holds of these streams.
+/// If every reader's stream is known, these are the streams that the readers give. A property of the logs of the streams that the
+/// readers give, or of the fault among them, is a property of these streams.
 pub fn known_streams_decide()
     ensures streams { (streams others : List (StreamInput Stream)) → MatchKnown (map fully_known streams) others → others ≡ streams }
     ensures logs { (max_bytes : ℕ) (targets : List (List ℕ)) (streams : List (StreamInput Stream)) →
@@ -27,8 +27,8 @@ pub fn known_streams_decide()
         FaultIsThatOfStreams max_bytes targets streams }
 {}
 
-/// What is expected of a sender for a stream, in order: its log; or the entries before its fault, and the
-/// fault; or, if memory runs out, the first of these entries. All of these are allowed.
+/// The items that a sender is expected to post for a stream, in order: its log; or the entries before its fault, and the fault; or,
+/// if memory runs out, the first of these entries. All of these are allowed.
 pub fn expected_for_stream()
     ensures order { (max_bytes : ℕ) (source : Source Stream) → ExpectsInOrder max_bytes source }
     ensures log { (max_bytes : ℕ) (source : Source Stream) → ExpectsLog max_bytes source }
@@ -37,8 +37,8 @@ pub fn expected_for_stream()
     ensures prefix { (max_bytes : ℕ) (source : Source Stream) → MayExpectPrefix max_bytes source }
 {}
 
-/// For a share without streams nothing is expected. For one stream, it is what is expected for it; for several, what is expected for
-/// each, one stream after another.
+/// No items are expected for a share without streams. For a share of one stream, the stream's items are expected; for several
+/// streams, the items of each, one stream after another.
 pub fn expected_for_share()
     ensures nothing { (max_bytes sender : ℕ) → ExpectsNothing max_bytes sender }
     ensures one { (max_bytes sender : ℕ) → ExpectsOne max_bytes sender }

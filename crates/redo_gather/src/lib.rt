@@ -13,10 +13,10 @@
 //! # Why the table is right
 //!
 //! A joined thread has fulfilled its `Promise` (`SenderPromise`): it posted what is expected for each stream of its share
-//! (`AreExpected`). That is all entries and an end; or all entries before the fault, and the fault; or some of the first
-//! entries, and out of memory. When all ends are met and nothing is left, what was taken from each sender is what it posted.
-//! Only items of its stream change a log, however the streams interleave (`InterleavingLemmas`), and one sender posts all of
-//! them (`SharesLemmas`). So each log is the log of its stream (`AreSettled`).
+//! (`AreExpected`). That is all entries and an end; or all entries before the fault, and the fault; or some of the first entries,
+//! and out of memory. When all ends are met and nothing is left, the items taken from each sender are all that it posted. Only
+//! items of its stream change a log, however the streams interleave (`InterleavingLemmas`), and one sender posts all of them
+//! (`SharesLemmas`). Therefore each log is the log of its stream (`AreSettled`).
 //!
 //! # What no clause states
 //!

@@ -9,8 +9,8 @@ use std::alloc::Global;
 // How many text lines are consumed at once, at most.
 const MAX_LINES_PER_STEP: u16 = 1024;
 
-/// What was read of a stream: the entries of its log and no fault, or the entries before its fault and the
-/// fault. If memory ran out, it has some of the first entries and the fault `OutOfMemory`.
+/// The result of reading a stream: the entries of its log and no fault, or the entries before its fault and the fault. If memory
+/// ran out, it has some of the first entries and the fault `OutOfMemory`.
 #[derive(Drop)]
 pub struct StreamLog {
     pub entries: Entries,

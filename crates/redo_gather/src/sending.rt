@@ -18,10 +18,9 @@ use std::sync::Wait;
 /// must end with the closing record of this log), and its reader.
 pub type Share<R> = Vec<(u32, TargetName, bool, R)>;
 
-/// Reads the streams of a share one after another, posts what it reads at `end`, and returns `end`. For each stream
-/// it posts the entries of its log and an end. If the stream has a fault, it posts the entries before the fault, and
-/// the fault. If memory runs out, it posts some of the first entries and the fault `OutOfMemory`. Then it goes on
-/// with the next stream.
+/// Reads the streams of a share one after another, posts their entries at `end`, and returns `end`. For each stream it posts the
+/// entries of its log and an end. If the stream has a fault, it posts the entries before the fault, and the fault. If memory runs
+/// out, it posts some of the first entries and the fault `OutOfMemory`. Then it goes on with the next stream.
 ///
 /// Before it reads again, it posts every entry that the bytes so far complete. It uses as few items as possible: an
 /// item has at most 1,024 entries, and gets no more lines once its texts and names have 131,072 bytes. It blocks
@@ -37,11 +36,11 @@ pub fn send<T: Wait, R: Feed, G: Gate>(
 ) -> PostEnd
     requires at_least { 1 ≤ max_bytes }
     requires at_most { max_bytes ≤ 2 ^ 40 }
-    // The same end, with what it posted before.
+    // The end is the same, with the items that it posted before.
     ensures unchanged { (result.mailbox ≡ end.mailbox) × (result.number ≡ end.number) }
     ensures posted { result.posted ≡ end.posted ++ posted_since end result }
 
-    // What it posted since, entry by entry, is as expected for the streams of the share, one after another.
+    // The items that it posted since are, entry by entry, as expected for the streams of the share, one after another.
     ensures expected { AreExpected max_bytes end.number (map (numbered_source R.contents) share.items) (singles (posted_since end result)) }
 
     // No item of several entries has fewer than 2 or more than 1,024.
@@ -91,7 +90,7 @@ fn send_stream<T: Wait, R: Feed, B: Fn(u64)>(
     end
 }
 
-// Returns what is posted after the entries of a stream.
+// Returns the last item of a stream, after its entries.
 fn last_item(outcome: Result<(), StreamFault>) -> What
     ensures { result ≡ final_what (fault_in outcome) }
 {

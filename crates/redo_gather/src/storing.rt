@@ -47,8 +47,8 @@ fn enter_names(table: &mut LogTable, names: Vec<TargetName>) -> Result<(), Alloc
     Ok(())
 }
 
-/// Adds what was read of a stream to its log, and ends the log or lets it fail. Returns an error if memory ran out
-/// while the stream was read.
+/// Adds the entries of a stream to its log, and ends the log or lets it fail. Returns an error if memory ran out while the stream
+/// was read.
 pub fn store(table: &mut LogTable, number: u32, log: StreamLog) -> Result<(), AllocError>
     requires { slice_get (states_of table.old) number ≡ Some Running }
     ensures stored { OnOk result (table.new ≡ update_log number (completed log.entries log.fault) table.old) }

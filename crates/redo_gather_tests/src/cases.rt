@@ -195,7 +195,7 @@ const LOCKED: [Given; 1] = [(
     "@@REDO:locked:7:1.0000@@ x\n@@REDO:unlocked:7:1.0000@@ x\n@@REDO:do:7:1.0000@@ x\n",
 )];
 
-/// Options choose what is shown.
+/// Options choose the shown entries.
 pub const CHOSEN: [Case; 7] = [
     (&CHECKED, QUIET, &["a"], "redo  a\nredo    (b)\n"),
     (

@@ -53,7 +53,7 @@ fn expect_same(rt: &impl Abort, found: Want<'_>, want: Want<'_>, message: &str) 
     assert_eq!(rt; found, want, "{message}");
 }
 
-/// Checks what is gathered from the streams, for all cuts into reads and all ways to read them.
+/// Checks the logs that are gathered from the streams, for all cuts into reads and all ways to read them.
 fn expect(
     rt: &(impl Abort + AllocGlobal + Threads + Wait + Sync),
     given: &[Given<'_>],
@@ -263,7 +263,7 @@ static READS: &[(&[Answer], Answer, u64, Result<&str, StreamFault>)] = &[
     ),
 ];
 
-/// Checks what is gathered from a reader with these results, and after how many reads.
+/// Checks the log that is gathered from a reader with these results, and the number of reads.
 fn expect_reads(
     rt: &(impl Abort + AllocGlobal + Threads + Wait + Sync),
     answers: &[Answer],
@@ -278,7 +278,7 @@ fn expect_reads(
     Ok(())
 }
 
-/// Checks what is gathered from such a reader of the stream of `all`. The reads are counted in `count`.
+/// Checks the log that is gathered from such a reader of the stream of `all`. The reads are counted in `count`.
 fn expect_counted_reads(
     rt: &(impl Abort + AllocGlobal + Threads + Wait + Sync),
     answers: &[Answer],
@@ -474,7 +474,7 @@ fn expect_held(
     Ok(())
 }
 
-/// Checks what two senders gather from the streams with this gate.
+/// Checks the logs that two senders gather from the streams with this gate.
 fn expect_under(
     rt: &(impl Abort + AllocGlobal + Threads + Wait + Sync),
     given: &[Given<'_>],
@@ -490,8 +490,8 @@ fn senders_read_concurrently(rt: HostRuntime) -> Result<(), Fail> {
     expect_held(&rt, &Holding::of_first_reads())
 }
 
-// Each sender reads its second line only after the other's first one was taken. So both post a line before
-// they read again, and what they post is taken meanwhile.
+// Each sender reads its second line only after the other's first one was taken. Both post a line before they read again, and their
+// items are taken meanwhile.
 #[test]
 fn collector_takes_lines_between_reads(rt: HostRuntime) -> Result<(), Fail> {
     expect_held(&rt, &Holding::of_second_reads())
@@ -607,7 +607,7 @@ fn counted_streams(alloc: Global) -> Result<Vec<Given<'static>>, AllocError> {
     Ok(given)
 }
 
-/// Checks what the gate is notified of when the streams are read in this way.
+/// Checks the events that the gate is notified of when the streams are read in this way.
 fn expect_counted(
     rt: &(impl Abort + AllocGlobal + Threads + Wait + Sync),
     given: &[Given<'_>],

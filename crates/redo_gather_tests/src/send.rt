@@ -1,4 +1,4 @@
-//! What senders post for the streams of their shares.
+//! Tests of the items that senders post for the streams of their shares.
 use crate::gate::Holding;
 use crate::sent::sent;
 use redo_gather::{Free, Share};
@@ -64,7 +64,7 @@ fn expect_item(
     Ok(())
 }
 
-/// Returns what a sender posts for these streams, cut into reads, next to a sender whose stream is at its end at once.
+/// Returns the items that a sender posts for these streams, cut into reads, next to a sender whose stream is at its end at once.
 fn posted(
     rt: &(impl AllocGlobal + Threads + Wait + Sync),
     given: &[Given<'_>],
@@ -208,7 +208,7 @@ fn senders_post_before_next_read(rt: HostRuntime) -> Result<(), Fail> {
     Ok(())
 }
 
-/// Checks what two senders of two lines each post with this gate.
+/// Checks the items that two senders of two lines each post with this gate.
 fn expect_pair(
     rt: &(impl Abort + AllocGlobal + Threads + Wait + Sync),
     gate: &Holding,

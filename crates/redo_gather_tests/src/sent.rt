@@ -1,4 +1,4 @@
-//! Two senders that send in parallel, and what is taken from them.
+//! Two senders that send in parallel, and the items taken from them.
 ghost use Rattle.std.specs.Prelude.{◌≡◌};
 
 use redo_gather::{Gate, Share, send};
@@ -12,8 +12,8 @@ use std::thread::{Threads, join};
 /// How many bytes a stream may have.
 const MAX_BYTES: u64 = 1_000_000;
 
-/// Sends two shares in parallel, one of `streams` streams and one of a single stream, through a mailbox of
-/// capacity 1. Takes what they post meanwhile, and notifies the gate. Returns what was taken.
+/// Sends two shares in parallel, one of `streams` streams and one of a single stream, through a mailbox of capacity 1. Takes their
+/// items meanwhile, and notifies the gate. Returns the items taken.
 pub fn sent<T: AllocGlobal + Threads + Wait + Sync, G: Gate>(
     rt: &T,
     first_share: Share<Pieces>,
@@ -43,7 +43,7 @@ pub fn sent<T: AllocGlobal + Threads + Wait + Sync, G: Gate>(
     with_rest(rt, mailbox, taken)
 }
 
-/// Returns what was taken, and what is left in the mailbox.
+/// Returns the items taken, and those left in the mailbox.
 fn with_rest<T: Wait>(
     rt: &T,
     mut mailbox: TakeEnd,

@@ -18,7 +18,7 @@ use std::fmt::Debug;
 use std::process::Abort;
 use std::test::Fail;
 
-/// Views the logs with a writer for `capacity` bytes, and returns the result and what the writer holds.
+/// Views the logs with a writer for `capacity` bytes, and returns the result and the bytes in the writer.
 fn viewed(
     alloc: Global,
     given: &[Given],
@@ -175,7 +175,7 @@ fn expect_unknown(
     Ok(())
 }
 
-/// Checks what a writer for `capacity` bytes gets of the build's text.
+/// Checks how much of the build's text a writer for `capacity` bytes gets.
 fn expect_build(
     rt: &(impl Abort + AllocGlobal),
     capacity: usize,

@@ -41,7 +41,7 @@ IsNotOutOfMemory what = what ≢ Fail OutOfMemory
 abbrev pub NoneOutOfMemory : List Item → Type 0
 NoneOutOfMemory = AllByRecursion (λ (item : Item). IsNotOutOfMemory item.what)
 
--- What a collector that took these items knows of its table, unless an allocation failed.
+-- The table of a collector that took these items, unless an allocation failed.
 abbrev pub StoresAllTaken : List (List ℕ) → List Item → List Log → Bool → Type 0
 StoresAllTaken names taken table refused = refused ≡ false → (table ≡ stored (singles taken) (map new_log names)) × NoneOutOfMemory (singles taken)
 

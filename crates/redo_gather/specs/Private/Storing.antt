@@ -1,4 +1,4 @@
--- How what was read of a stream is stored in a table.
+-- How the entries read from a stream are stored in a table.
 use Rattle.std.specs.Prelude.{◌≡◌, ℕ, List, Option, None, Some}
 use Rattle.redo_line.specs.declared.entry.Entry.{Entry}
 use Rattle.redo_line.specs.declared.stream_fault.StreamFault.{StreamFault}

@@ -1,4 +1,4 @@
--- What holds for the rows that `clap` finds in valid arguments, and for the job that is built from them.
+-- Properties of the rows that `clap` finds in valid arguments, and of the job that is built from them.
 use Rattle.std.specs.Prelude.{ℕ, ◌<◌, Bool, List, Option, IfSome, codes, length}
 use Rattle.std.specs.Global.{Vec}
 use Rattle.clap.specs.Values.{IsUnsignedIn}

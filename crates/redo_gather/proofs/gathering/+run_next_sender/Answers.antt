@@ -12,7 +12,7 @@ use Rattle.redo_gather.specs.Sending.{HasSent, numbered_source}
 use Rattle.redo_gather.proofs.ReadyLemmas.{all_but_last, last_expected, others_ready}
 use Rattle.redo_gather.proofs.gathering.+run_next_sender.Goals as goal
 
--- What was collected if items were taken and no end was met.
+-- The collected items, if items were taken and no end was met.
 none_met : {A : Type 0} (contents : A → Option Stream) (max_bytes : ℕ) (ends : List PostEndState)
     (shares : List (List (ℕ × List ℕ × Bool × A))) (before after : LogCollector)
     → (after.take_end.mailbox ≡ before.take_end.mailbox) × (after.take_end.met ≡ before.take_end.met)
