@@ -21,7 +21,7 @@ use Rattle.redo_html.proofs.TagReading.{element_attributes, emitted, end_tag_rea
 
 -- ---- the context after nodes
 
--- Bytes that are in text in one context are read as these tokens, whatever follows them. What follows is read as text in another context.
+-- Bytes that are in text in one context are read as these tokens, and all bytes after them as text in another context.
 abbrev pub Leads : Context → List ℕ → List Token → Context → Type 0
 Leads context bytes tokens next = (behind : List ℕ)
     → read_from (DataState context) (bytes ++ behind) ≡ tokens ++ read_from (DataState next) behind
@@ -135,7 +135,7 @@ meter_contexts width = refl
 
 -- ---- reading
 
--- What is read of a tag that leads to a context.
+-- The tokens of a tag that leads to a context.
 emits : (context next : Context) (tag behind : List ℕ) → emit_tag context tag ≡ (DataState next, Tag tag ∷ [])
     → emitted context tag behind ≡ Tag tag ∷ read_from (DataState next) behind
 emits context next tag behind is = ap (λ (step : Step). step.1 ++ read_from step.0 behind) is

@@ -11,7 +11,7 @@ use Rattle.redo_html.specs.Chart.Value.{Fixed, Number}
 use Rattle.redo_html.specs.Private.Charting.{chart_start_html, group_start_html, layer_html, shape_html}
 use Rattle.redo_html.specs.Shown.{number_text}
 
--- What precedes one of some things, that thing, and what follows it.
+-- The items before one of some items, that item, and the items after it.
 pub one_of : {X : Type 0} (f : X → List ℕ) (xs : List X) (i : ℕ) (d : X) → i < length xs
     → (flat_map f (take i xs) ++ f (get_or xs i d)) ++ flat_map f (drop (suc i) xs) ≡ flat_map f xs
 one_of f [] i d below = absurd (omega (arith, below))
@@ -37,7 +37,7 @@ each_html nodes [] = refl
 each_html nodes (x ∷ xs) = ap (λ (t : List ℕ). nodes_html (nodes x) ++ t) (each_html nodes xs)
     ∙ sym (flat_map-append node_html (nodes x) (flat_map nodes xs))
 
--- The same, of an equal text.
+-- A write of an equal text.
 pub wrote_as : (before after : Option Output) (text other : List ℕ) → text ≡ other → after ≡ append_output before text 0
     → after ≡ append_output before other 0
 wrote_as before after text other is wrote = wrote ∙ ap (λ (t : List ℕ). append_output before t 0) is

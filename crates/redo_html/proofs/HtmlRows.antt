@@ -1,4 +1,4 @@
--- Rows of reading: what a browser reads, and what is lost because it would go to a state that isn't modelled.
+-- Rows of reading: tokens of a browser, and bytes that are lost because it would go to a state that isn't modelled.
 use Rattle.std.proofs.Common.{◌≡◌, ℕ, true, false, List, [], ◌∷◌, ◌++◌, map, refl}
 use Rattle.std.specs.Prelude.{codes}
 use Rattle.std.specs.List.{AllByRecursion}
@@ -21,7 +21,7 @@ tag bytes = Tag bytes ∷ []
 abbrev is_lost : List ℕ → Row
 is_lost html = row html (Lost ∷ [])
 
--- What is read.
+-- Bytes that are read.
 abbrev read_rows : List Row
 read_rows =
     row (codes "a\n\"'") (text (codes "a\n\"'"))
@@ -102,8 +102,8 @@ reads = (
   ),
 )
 
--- What is lost: other elements, whose content a browser may read by other rules; comments; other references; bytes that a browser rejects or
--- changes; attributes without quotes; text that ends in a tag.
+-- Bytes that are lost: other elements, whose content a browser may read by other rules; comments; other references; bytes that a browser
+-- rejects or changes; attributes without quotes; text that ends in a tag.
 abbrev lost_rows : List Row
 lost_rows =
     is_lost (codes "<script>x")
@@ -378,7 +378,7 @@ loses_tags = (
   ),
 )
 
--- What is read in an `svg`, and after it.
+-- Bytes that are read in an `svg`, and after it.
 abbrev svg_rows : List Row
 svg_rows =
     row (codes "<svg width=\"100%\"><rect x1=\"0.50%\" stroke-width=\".5\" fill=\"#8886\"></rect></svg>")
@@ -406,8 +406,8 @@ svg_rows =
 reads_svg : AllByRecursion (λ r. read r.html ≡ r.tokens) svg_rows
 reads_svg = (refl, (refl, (refl, (refl, (refl, (refl, (refl, tt)))))))
 
--- What is lost there: HTML elements, which would end the `svg`; other elements of SVG; declarations and CDATA; start tags in a `title`, which are
--- HTML; end tags of other elements than the innermost one. Elements of SVG alone are lost in HTML.
+-- Bytes that are lost there: HTML elements, which would end the `svg`; other elements of SVG; declarations and CDATA; start tags in a
+-- `title`, which are HTML; end tags of other elements than the innermost one. Elements of SVG alone are lost in HTML.
 abbrev lost_svg_rows : List Row
 lost_svg_rows =
     row (codes "<svg><b>x") (tag (codes "svg") ++ Lost ∷ [])

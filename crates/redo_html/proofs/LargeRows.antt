@@ -73,7 +73,7 @@ long_sequence :
 unfolding sequence_len sequence_numbers
 long_sequence = (refl, refl, refl)
 
--- A sequence that erases has no numbers, whatever its parameters are.
+-- A sequence that erases has no numbers, for any parameters.
 erasing : map (λ bytes. sequence_numbers (escape bytes)) (codes "[K" ∷ codes "[0K" ∷ codes "[1;31K" ∷ codes "[31;K" ∷ codes "[031K" ∷ [])
     ≡ replicate 5 []
 unfolding sequence_numbers

@@ -82,11 +82,11 @@ tokens = (refl, refl, refl)
 
 -- ---- reading
 
--- Whatever follows, it is read as text again.
+-- All bytes after it are read as text again.
 reads : ReadsAs (codes "<b>&lt;</b>") (Tag (codes "b") ∷ Character 60 ∷ Tag (codes "/b") ∷ [])
 reads = λ behind. refl
 
--- A line feed that follows would be dropped; then a name that goes on; then a tag that isn't ended.
+-- A line feed that follows would be dropped; then a name that goes on; then an unfinished tag.
 no_reads :
     ¬ ReadsAs (codes "<pre>") (Tag (codes "pre") ∷ []) × ¬ ReadsAs (codes "&lt") (Character 60 ∷ []) × ¬ ReadsAs (codes "<b") (Lost ∷ [])
 no_reads = (λ are. let same = are (10 ∷ []) in cc, λ are. let same = are [] in cc, λ are. let same = are (codes ">") in cc)

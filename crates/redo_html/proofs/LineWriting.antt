@@ -48,7 +48,7 @@ code_points_style kind style (suc skipped) (byte ∷ bytes) none =
 pub no_escape_style : (style : Style) (bytes : List ℕ) → list_all is_no_escape bytes ≡ true → style_after style bytes ≡ style
 no_escape_style style bytes none = code_points_style Log style 0 bytes none
 
--- The parts of a line and of what follows it.
+-- The parts of a line and of the lines after it.
 module _ (line : List ℕ) (more : List ℕ) (none : list_all is_no_escape (with_line_feed line ++ more) ≡ true) where
   both : (list_all is_no_escape (with_line_feed line) ≡ true) × (list_all is_no_escape more ≡ true)
   both = and_parts (list_all is_no_escape (with_line_feed line)) (list_all is_no_escape more)
@@ -125,7 +125,6 @@ begins_plain style bytes len is some within complete front_complete none =
     split : ended bytes ≡ ended front ++ ended behind
     split = ap ended (sym whole) ∙ ended-append front behind ∙ ap (λ (r : List ℕ). ended front ++ ended (r ++ behind)) front_complete
 
--- One line.
 pub begins_line : (style : Style) (bytes : List ℕ) (at : ℕ)
     → NoneBefore (Passes (is_byte 10) bytes) 0 (length bytes) at × Passes (is_byte 10) bytes at → rest bytes ≡ []
     → BeginsPassage style bytes (at + 1)

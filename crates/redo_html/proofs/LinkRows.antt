@@ -1,4 +1,5 @@
--- Rows of texts with links: the kind, the bytes, what is shown, and the HTML. An independent program in Python computed the values.
+-- Rows of texts with links: the kind, the bytes, the shown text, and the HTML. An independent program in Python computed the
+-- values.
 use Rattle.std.proofs.Common.{◌≡◌, ℕ, List, [], ◌∷◌, ◌++◌, refl}
 use Rattle.std.specs.Char.{encode_utf8}
 use Rattle.std.specs.Prelude.{codes}

@@ -187,7 +187,7 @@ each_same nodes change same (x ∷ xs) =
     ∙ ap (λ (t : List (List ℕ)). flat_map node_tag (nodes x) ++ t) (each_same nodes change same xs)
     ∙ sym (flat_map-append node_tag (nodes x) (flat_map nodes xs))
 
--- The same between a start tag and an end tag.
+-- Equal tags between a start tag and an end tag.
 element_same : (start end : Node) (one other : List Node) → flat_map node_tag one ≡ flat_map node_tag other
     → flat_map node_tag (start ∷ (one ++ end ∷ [])) ≡ flat_map node_tag (start ∷ (other ++ end ∷ []))
 element_same start end one other same =

@@ -269,7 +269,7 @@ tag_if wanted tag = if wanted then tag ∷ [] else []
 abbrev push_if : Bool → List ℕ → List (List ℕ) → List (List ℕ)
 push_if wanted name around = if wanted then name ∷ around else around
 
--- What is open inside of `open`.
+-- The open elements inside of `open`.
 abbrev opened : Bool → Style → List (List ℕ) → List (List ℕ)
 opened unprintable style around = push_if unprintable (codes "i") (push_if (has_element style) (style_name style.bold) around)
 

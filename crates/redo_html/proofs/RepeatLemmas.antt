@@ -21,11 +21,11 @@ some_count : (count : ℕ) → (count ≡ 0 → ⊥) → 0 < count
 some_count zero not_zero = absurd (not_zero refl)
 some_count (suc count) not_zero = omega arith
 
--- What a loop over the code points in a row keeps.
+-- The invariant of a loop over the code points in a row.
 module _ (kind : TextKind) (code_point : ℕ) (bytes : List ℕ) (count len : ℕ) (within : len ≤ length bytes) (taken : count ≤ len)
     (none : count ≡ 0 → len ≡ 0) (repeated : symbols kind bytes
     ≡ replicate count (CodePoint code_point) ++ symbols kind (drop len bytes)) where
-  -- What is found of the bytes that are left.
+  -- The symbol found in the remaining bytes, and its size.
   pub found : (symbol : Option ℕ) (size : ℕ) → symbol ≡ symbol_code_point (first_symbol kind (take (length bytes - len) (drop len bytes)))
       → size ≡ symbol_len kind (take (length bytes - len) (drop len bytes))
       → (symbol ≡ symbol_code_point (first_symbol kind (drop len bytes))) × (size ≡ symbol_len kind (drop len bytes))

@@ -1,4 +1,4 @@
--- Rows of texts: the kind, the bytes, and what is shown or written. An independent program in Python computed the values.
+-- Rows of texts: the kind, the bytes, and the shown or written text. An independent program in Python computed the values.
 use Rattle.std.proofs.Common.{◌≡◌, ℕ, List, [], ◌∷◌, ◌++◌, refl}
 use Rattle.std.specs.Char.{encode_utf8}
 use Rattle.std.specs.Prelude.{codes}
@@ -19,7 +19,7 @@ record Row : Type 0 where
 abbrev row : TextKind → List ℕ → List ℕ → Row
 row kind bytes value = record { kind = kind; bytes = bytes; value = value }
 
--- What is shown of a text.
+-- The shown text.
 abbrev shown_rows : List Row
 shown_rows =
     row Log (codes "cc -c \"a.c\" <x>&y'\n" ++ (9 ∷ []) ++ codes "ok") (codes "cc -c \"a.c\" <x>&y'\n" ++ (9 ∷ []) ++ codes "ok") ∷

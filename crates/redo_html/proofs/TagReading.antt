@@ -185,7 +185,7 @@ attribute_read context tag state so_far attribute is rest =
     ∙ value_read context value (((opened ++ name) ++ 61 ∷ []) ++ 34 ∷ []) (34 ∷ rest) (values_bytes attribute.values parts.1)
     ∙ ap (λ t. read_from (AfterAttributeValue context t) rest) (attribute_tag tag name value)
 
--- What is read when a tag ends.
+-- The tokens that are read when a tag ends.
 abbrev pub emitted : Context → List ℕ → List ℕ → List Token
 emitted context tag behind = (emit_tag context tag).1 ++ read_from (emit_tag context tag).0 behind
 
@@ -234,7 +234,6 @@ tag_read context (byte ∷ element) attributes is are behind =
     ∙ attributes_read context (byte ∷ element) (TagName context (byte ∷ element))
     (record { space = λ rest. refl; ends = λ rest. refl }) attributes are behind
 
--- An end tag.
 pub end_tag_read : (context : Context) (element : List ℕ) → is_element element ≡ true → (behind : List ℕ)
     → read_from (EndTagOpen context) ((element ++ codes ">") ++ behind) ≡ emitted context (47 ∷ element) behind
 end_tag_read context [] is behind = absurd (cc)

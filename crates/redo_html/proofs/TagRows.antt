@@ -99,7 +99,7 @@ these_sections = (
   ),
 )
 
--- What is in the sections: paragraphs, lists, logs and texts. The style sheet has these classes.
+-- Elements in sections: paragraphs, lists, logs and texts. The style sheet has these classes.
 abbrev blocks : List (Markup × List ℕ)
 blocks =
     (EndArticle, codes "/article") ∷ (Title3, codes "h3") ∷ (EndTitle3, codes "/h3") ∷ (Paragraph, codes "p")

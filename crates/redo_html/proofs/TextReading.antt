@@ -13,7 +13,7 @@ use Rattle.redo_html.specs.Html.{Context, Token, DataState, Normal, Rcdata, Rawt
 use Rattle.redo_html.specs.Html.Token.{Character}
 use Rattle.redo_html.specs.Shown.{is_between, is_unprintable, lower_hex, upper_hex, notation, number_text, unprintable_text, code_points_text}
 
--- Bytes that are in text in this context are read as these tokens, whatever follows them.
+-- Bytes that are in text in this context are read as these tokens, before any bytes.
 abbrev pub ReadsIn : Context → List ℕ → List Token → Type 0
 ReadsIn context bytes tokens = (behind : List ℕ)
     → read_from (DataState context) (bytes ++ behind) ≡ tokens ++ read_from (DataState context) behind

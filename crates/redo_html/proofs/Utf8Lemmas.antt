@@ -1,4 +1,4 @@
--- What is shown of a text is UTF-8, and so is its HTML.
+-- The shown text is UTF-8, and so is its HTML.
 use Rattle.std.proofs.Common.{◌≡◌, ℕ, zero, suc, ◌+◌, ◌-◌, ◌/◌, ◌%◌, ◌<◌, ◌≤◌, Bool, true, false, List, [], ◌∷◌, ◌++◌, Option, None, Some, slice_index, refl, sym, ◌∙◌, ap, subst, arith}
 use Rattle.std.specs.Char.{encode_utf8, IsScalar}
 use Rattle.std.specs.Prelude.{⊤, IsUtf8, ◌==◌, ◌&&◌, not, nat_lt, nat_le, codes, if◌then◌else◌}

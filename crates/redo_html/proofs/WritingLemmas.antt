@@ -12,7 +12,7 @@ use Rattle.redo_html.specs.declared.style.Style.{Style}
 use Rattle.redo_html.specs.Passage.{html_from, passage_html}
 use Rattle.redo_html.specs.Private.Writing.{WroteUpTo, WroteSomeOrFailed, WrotePassage}
 
--- One more part of what is left was written.
+-- One more part of the remaining text was written.
 pub wrote_more : (before middle after : Option Output) (text part rest : List ℕ) → WroteUpTo before middle text (part ++ rest)
     → after ≡ append_output middle part 0 → WroteUpTo before after text rest
 wrote_more before middle after text part rest so_far wrote =
@@ -22,7 +22,7 @@ wrote_more before middle after text part rest so_far wrote =
       splits = append_assoc so_far.prefix part rest ∙ so_far.splits;
     }
 
--- More of what is left was written.
+-- More of the remaining text was written.
 pub wrote_on : (before middle after : Option Output) (text rest left : List ℕ) → WroteUpTo before middle text rest
     → WroteUpTo middle after rest left → WroteUpTo before after text left
 wrote_on before middle after text rest left so_far more =
@@ -40,7 +40,7 @@ pub wrote_all : (before after : Option Output) (text : List ℕ) → WroteUpTo b
 wrote_all before after text so_far =
     so_far.wrote ∙ ap (λ (t : List ℕ). append_output before t 0) (sym (append-nil so_far.prefix) ∙ so_far.splits)
 
--- Whichever error is returned, the failed write returned it.
+-- The failed write returned the error.
 pub same_error : (before after : Option Output) (text : List ℕ) (broken : Broken) (done : Result (Unit {0}) Broken) → IsErr done
     → Writes before after text (Err broken) → Writes before after text done
 same_error before after text broken done failed wrote = at_first before text after text [] broken done failed wrote (append-nil text)
@@ -77,14 +77,13 @@ pub some_failed : (before after : Option Output) (kind : TextKind) (look : Look)
 some_failed before after kind look bytes broken (Ok step) failed wrote = absurd (cc)
 some_failed before after kind look bytes broken (Err other) failed wrote = wrote
 
--- A write of a passage failed.
 pub passage_failed : (before after : Option Output) (kind : TextKind) (style : Style) (bytes : List ℕ) (broken : Broken)
     (done : Result Style Broken) → IsErr done → Writes before after (passage_html kind style bytes) (Err broken)
     → WrotePassage before after kind style bytes done
 passage_failed before after kind style bytes broken (Ok last) failed wrote = absurd (cc)
 passage_failed before after kind style bytes broken (Err other) failed wrote = wrote
 
--- The same writes, of an equal text.
+-- The writes of an equal text.
 pub writes_as : (before after : Option Output) (text other : List ℕ) (done : Result (Unit {0}) Broken) → text ≡ other
     → Writes before after text done → Writes before after other done
 writes_as before after text other done is wrote = subst (λ (t : List ℕ). Writes before after t done) is wrote

@@ -14,7 +14,7 @@ use Rattle.redo_html.specs.Style.{plain_style}
 use Rattle.redo_html.specs.Symbols.{first_code_point, first_symbol, is_sequence, code_point_len, sequence_len, sequence_numbers, symbol_len, symbols_after}
 use Rattle.redo_html.proofs.TextReading.{ReadsIn}
 
--- What `escaped_byte` is for printable text: what it writes is read as the same characters.
+-- A property of `escaped_byte` for printable text: its output is read as the same characters.
 abbrev IsEscape : (ℕ → List ℕ) → List ℕ → Type 0
 IsEscape escape text = ReadsAs (flat_map escape text) (map Character text)
 
@@ -46,14 +46,15 @@ escapes_twice is = let same : Character 38 ∷ Character 108 ∷ Character 116 �
 drops_a_byte : IsEscape (except 7 []) (7 ∷ []) → ⊥
 drops_a_byte is = let same : [] ≡ Character 7 ∷ [] = is [] in cc
 
--- A carriage return and the byte 0 can't be in the text at all: no escape of them is read as themselves. So notations are shown in their place.
+-- A carriage return and the byte 0 can't be in the text at all: no escape of them is read as themselves. Notations are shown in their
+-- place.
 leaves_carriage_return : IsEscape escaped_byte (13 ∷ []) → ⊥
 leaves_carriage_return is = let same : Lost ∷ [] ≡ Character 13 ∷ [] = is [] in cc
 
 leaves_byte_0 : IsEscape escaped_byte (0 ∷ []) → ⊥
 leaves_byte_0 is = let same : Lost ∷ [] ≡ Character 0 ∷ [] = is [] in cc
 
--- The same in the tooltip of a bar.
+-- Escapes in the tooltip of a bar.
 abbrev tooltip : Context
 tooltip = Svg (codes "title") (codes "rect" ∷ codes "a" ∷ codes "g" ∷ codes "svg" ∷ [])
 

@@ -1,4 +1,4 @@
--- Charts: what is in a chart, its elements as they are written and as they are read, and the text that they show.
+-- Charts: their elements, as they are written and as they are read, and the text that they show.
 use Rattle.std.specs.Prelude.{ℕ, ◌+◌, ◌*◌, ◌/◌, ◌%◌, ◌==◌, Bool, List, [], ◌∷◌, ◌++◌, map, Option, None, Some, option_map, codes, if◌then◌else◌}
 use Rattle.std.specs.List.{flat_map}
 use Rattle.redo_html.specs.declared.chart.Anchor.{Anchor}
@@ -17,7 +17,7 @@ use Rattle.redo_html.specs.Passage.{passage_html, passage_tokens}
 use Rattle.redo_html.specs.Shown.{number_text, shown_text}
 use Rattle.redo_html.specs.Style.{plain_style}
 
--- ---- what is in a chart
+-- ---- the elements of a chart
 
 -- A bar: the number of its target, where it is, whether the target failed, its tooltip, and its label, if it has one. `x` and `width` are in
 -- hundredths of a percent.
@@ -187,7 +187,7 @@ layer_nodes layer = element (codes "g") (group_attributes layer.kind) (flat_map 
 abbrev pub lanes_word : ℕ → List ℕ
 lanes_word lanes = if lanes == 1 then codes " lane" else codes " lanes"
 
--- What a screen reader says about the chart.
+-- The text of the chart for a screen reader.
 abbrev pub chart_label : ℕ → List Value
 chart_label lanes = Fixed (codes "A bar for each target, from its start to its end, in ") ∷ Number lanes ∷ Fixed (lanes_word lanes) ∷ []
 

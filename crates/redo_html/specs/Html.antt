@@ -1,13 +1,14 @@
 -- How a browser reads bytes as HTML: the tokenizer of the HTML standard, section 13.2.5. It has the states for a page that consists of
 -- elements, attributes in double quotes, text, and charts in SVG. Each state has the standard's name, and the number of its section.
 --
--- If the standard goes to any other state, or reports a parse error, this reading is `Lost`, and stays lost. So whatever is read here is
--- read in the same way by the standard. The model reads bytes. A browser decodes them first; the pages declare UTF-8, which leaves bytes
--- below 128 as they are.
+-- If the standard goes to any other state, or reports a parse error, this reading is `Lost`, and stays lost. All bytes that this reading
+-- can read, the standard reads in the same way. The model reads bytes. A browser decodes them first; the pages declare UTF-8, which
+-- leaves bytes below 128 as they are.
 use Rattle.std.specs.Prelude.{ℕ, Bool, true, false, ◌==◌, ◌||◌, ◌&&◌, not, nat_le, List, [], ◌∷◌, ◌++◌, Option, None, Some, bytes_eq, codes, if◌then◌else◌}
 use Rattle.std.specs.List.{flat_map}
 
--- What is read: a character of the text, or rather a byte of its UTF-8; a tag, by the bytes between `<` and `>`; or what can't be read.
+-- A token: a character of the text, or rather a byte of its UTF-8; a tag, by the bytes between `<` and `>`; or bytes that can't be
+-- read.
 pub data Token : Type 0 where
   Character : ℕ → Token
   Tag : List ℕ → Token
@@ -24,7 +25,7 @@ pub data Context : Type 0 where
   Rawtext : Context
   Svg : List ℕ → List (List ℕ) → Context
 
--- A state, with what was read of a tag or of a reference.
+-- A state, with the bytes read of a tag or of a reference.
 pub data State : Type 0 where
   -- 13.2.5.1 to 13.2.5.3: the data, RCDATA and RAWTEXT states
   DataState : Context → State
@@ -36,7 +37,7 @@ pub data State : Type 0 where
   TagOpen : Context → State
   -- 13.2.5.7
   EndTagOpen : Context → State
-  -- 13.2.5.9 to 13.2.5.11, 13.2.5.12 to 13.2.5.14: `<` in the text of a `title` or `style`, and what follows it
+  -- 13.2.5.9 to 13.2.5.11, 13.2.5.12 to 13.2.5.14: `<` in the text of a `title` or `style`, and the bytes after it
   TextLessThan : Context → List ℕ → State
   -- 13.2.5.42, 13.2.5.53 to 13.2.5.55
   MarkupDeclaration : List ℕ → State
@@ -95,8 +96,8 @@ start_tag tag =
 abbrev pub svg_elements : List (List ℕ)
 svg_elements = codes "svg" ∷ codes "g" ∷ codes "a" ∷ codes "rect" ∷ codes "line" ∷ codes "text" ∷ codes "title" ∷ []
 
--- A start tag in an `svg`. A `title` there is read in the data state, but start tags in it are HTML again, because it is an HTML integration
--- point (13.2.6). So they are lost here.
+-- A start tag in an `svg`. A `title` there is read in the data state, but start tags in it are lost, because they are HTML again: it is an
+-- HTML integration point (13.2.6).
 abbrev pub svg_start_tag : List ℕ → List (List ℕ) → List ℕ → Step
 svg_start_tag inner outer tag =
     if not (bytes_eq inner (codes "title")) && is_one_of (start_name tag) svg_elements then (DataState (Svg (start_name tag) (inner ∷ outer)), Tag tag ∷ []) else lost
@@ -228,16 +229,16 @@ at_end PreState = []
 at_end LostState = []
 at_end state = Lost ∷ []
 
--- What is read from a state on.
+-- The tokens that are read from a state on.
 abbrev pub read_from : State → List ℕ → List Token
 read_from state [] = at_end state
 read_from state (byte ∷ bytes) = let next = step state byte in next.1 ++ read_from next.0 bytes
 
--- What is read of a page.
+-- The tokens of a page.
 abbrev pub read : List ℕ → List Token
 read bytes = read_from (DataState Normal) bytes
 
--- The text of what was read, and its tags.
+-- The text of tokens, and their tags.
 abbrev pub characters_of : Token → List ℕ
 characters_of (Character byte) = byte ∷ []
 characters_of (Tag tag) = []

@@ -16,7 +16,7 @@ use Rattle.redo_html.specs.Html.{Token, DataState, Normal, read_from, text_of, t
 use Rattle.redo_html.specs.Shown.{shown_text}
 use Rattle.redo_html.specs.Symbols.{is_link_byte}
 
--- Bytes that are in text are read as these tokens, whatever follows them. What follows is read as text again.
+-- Bytes that are in text are read as these tokens, and all bytes after them as text again.
 abbrev pub ReadsAs : List ℕ → List Token → Type 0
 ReadsAs bytes tokens = (behind : List ℕ) → read_from (DataState Normal) (bytes ++ behind) ≡ tokens ++ read_from (DataState Normal) behind
 
@@ -29,7 +29,7 @@ highlights =
 abbrev pub is_highlight : List ℕ → Bool
 is_highlight tag = is_one_of tag highlights
 
--- A passage is read as its tokens, of which the characters are the text that is shown, and the tags are highlights that nest.
+-- A passage is read as its tokens. Their characters are the text that is shown, and their tags are highlights that nest.
 pub record IsReadAsShown (kind : TextKind) (style : Style) (bytes : List ℕ) : Type 0 where
   pub reads : ReadsAs (passage_html kind style bytes) (passage_tokens kind style bytes)
   pub text : text_of (passage_tokens kind style bytes) ≡ shown_text kind bytes

@@ -1,4 +1,5 @@
--- A passage as HTML: what it shows, with highlights for unprintable code points and styles. Elements that begin in a passage end in it.
+-- A passage as HTML: the text that it shows, with highlights for unprintable code points and styles. Elements that begin in a passage
+-- end in it.
 use Rattle.std.specs.Prelude.{ℕ, Bool, true, false, ◌==◌, ◌||◌, ◌&&◌, not, List, [], ◌∷◌, ◌++◌, map, codes, if◌then◌else◌}
 use Rattle.std.specs.List.{flat_map}
 use Rattle.redo_html.specs.declared.text_kind.TextKind.{TextKind}

@@ -1,4 +1,4 @@
--- What a reader sees of a text.
+-- The text that a reader sees.
 use Rattle.std.specs.Prelude.{ℕ, suc, ◌+◌, ◌-◌, ◌/◌, ◌%◌, Bool, true, false, ◌==◌, ◌||◌, ◌&&◌, not, nat_le, nat_lt, List, [], ◌∷◌, ◌++◌, codes, decimal, encode_utf8, if◌then◌else◌}
 use Rattle.std.specs.Fmt.{digit_glyph}
 use Rattle.std.specs.List.{flat_map, list_any, repeat}
@@ -84,7 +84,7 @@ abbrev pub runs_of : List Symbol → List Run
 runs_of [] = []
 runs_of (symbol ∷ symbols) = with_symbol symbol (runs_of symbols)
 
--- What a run shows. A sequence shows nothing.
+-- The text that a run shows. A sequence shows nothing.
 abbrev pub code_points_text : ℕ → ℕ → List ℕ
 code_points_text code_point count = if is_unprintable code_point then unprintable_text code_point count else encode_utf8 code_point
 
@@ -92,6 +92,6 @@ abbrev pub run_text : Run → List ℕ
 run_text (CodePoints code_point count) = code_points_text code_point count
 run_text (Restyle numbers) = []
 
--- What a reader sees of a text.
+-- The text that a reader sees of another one.
 abbrev pub shown_text : TextKind → List ℕ → List ℕ
 shown_text kind bytes = flat_map run_text (runs_of (symbols kind bytes))

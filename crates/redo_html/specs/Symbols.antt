@@ -1,4 +1,4 @@
--- What a text consists of: code points, and the sequences by which compilers set colours.
+-- The symbols of a text: code points, and the sequences by which compilers set colours.
 use Rattle.std.specs.Prelude.{ℕ, zero, suc, ◌+◌, ◌-◌, ◌*◌, min, Bool, true, false, ◌==◌, ◌||◌, ◌&&◌, nat_le, nat_lt, List, [], ◌∷◌, take, drop, Option, None, Some, slice_index, if◌then◌else◌}
 use Rattle.std.specs.List.{list_any, prefix_len}
 use Rattle.bstr.specs.Utf8.{decoded}

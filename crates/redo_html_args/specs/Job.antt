@@ -6,7 +6,7 @@ use Rattle.std.specs.Prelude.{ℕ, Bool, List, [], ◌∷◌, Option, codes, unw
 use Rattle.clap.specs.Walk.{Row, Text, all_of, first_of}
 use Rattle.redo_args.specs.Job.{dir_of, is_on, number_or}
 
--- The capture directory, the output file and the title of the page, what is shown, the number of bytes of text lines that may be
+-- The capture directory, the output file and the title of the page, the options, the number of bytes of text lines that may be
 -- shown, the number of senders, and the arguments that name the requested targets.
 pub record PageParts : Type 0 where
   pub dir : List ℕ

@@ -1,4 +1,4 @@
--- What an index lists, and the map entries that store it.
+-- The targets of an index, and the map entries that store them.
 use Rattle.std.proofs.Common.{◌≡◌, ℕ, ◌+◌, ◌≤◌, List, [], ◌∷◌, ◌++◌, Some, length, map, take, slice_get, refl, sym, ◌∙◌, ap, subst, nat_eq, arith, zero-le}
 use Rattle.std.specs.Cmp.Lexicographic.{pointwise}
 use Rattle.std.specs.List.{IsDistinct}

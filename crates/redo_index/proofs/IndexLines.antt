@@ -1,4 +1,4 @@
--- Consecutive lines of an index: the lines before an offset, and what they list.
+-- Consecutive lines of an index: the lines before an offset, and the targets that they list.
 use Rattle.std.proofs.Common.{◌≡◌, ℕ, true, ◌==◌, List, [], ◌∷◌, ◌++◌, None, Some, Result, Ok, Err, IfErr, IsErrAnd, length, refl, sym, ◌∙◌, ap, subst, arith}
 use Rattle.std.proofs.lemmas.Bool.{eqb-true}
 use Rattle.std.proofs.lemmas.List.{append_assoc, append-nil, length-append, nil_from_length}
@@ -42,7 +42,8 @@ fault_free_more before (next ∷ lines) line fault_free is = (
       (ap (λ b. fault_at b line) (append_assoc before (next ∷ []) lines) ∙ is),
 )
 
--- The state of reading an index: no line before `left` is rejected, and `numbers` and `entries` store what these lines list.
+-- The state of reading an index: no line before `left` is rejected, and `numbers` and `entries` store the targets that these lines
+-- list.
 pub record SoFar (bytes left : List ℕ) (numbers : List ℕ) (entries : List (List ℕ × TargetLog)) : Type 0 where
   pub before : List (List ℕ)
   pub lines_are : all_lines bytes ≡ before ++ all_lines left

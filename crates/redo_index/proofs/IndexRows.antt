@@ -1,4 +1,4 @@
--- Examples of indexes, computed: the lines, and what they list or why one is rejected.
+-- Examples of indexes, computed: the lines, and the targets that they list or why one is rejected.
 use Rattle.std.proofs.Common.{◌≡◌, ℕ, ◌≤◌, true, false, List, [], ◌∷◌, Option, None, Some, length, get_or, arith, refl, ap}
 use Rattle.std.specs.Prelude.{codes}
 use Rattle.std.specs.List.{AllByRecursion, IsDistinct}
@@ -13,11 +13,11 @@ use Rattle.redo_index.specs.Index.{max_targets, IsIndexLine, parse_fields, parse
 abbrev one : ℕ → List ℕ → IndexEntry
 one number target = record { number = number; target = target; must_close = false }
 
--- The same for a line with the must-close flag.
+-- The entry of a line with the must-close flag.
 abbrev flagged : ℕ → List ℕ → IndexEntry
 flagged number target = record { number = number; target = target; must_close = true }
 
--- ---- what lines list
+-- ---- the entries of lines
 
 record LineRow : Type 0 where
   line : List ℕ
@@ -233,7 +233,7 @@ two = flagged 7 (codes "b") ∷ one 3 (codes "a") ∷ []
 two_entries : (numbers_of two ≡ 7 ∷ 3 ∷ []) × (listed_targets two ≡ codes "b" ∷ codes "a" ∷ []) × (must_close_flags two ≡ true ∷ false ∷ [])
 two_entries = (refl, refl, refl)
 
--- The same of three targets. The last one has the flag.
+-- An index of three targets. The last one has the flag.
 abbrev three : List IndexEntry
 three = one 7 (codes "b") ∷ one 3 (codes "a") ∷ flagged 5 (codes "c") ∷ []
 

@@ -54,7 +54,7 @@ number-Decides (first ∷ others) =
 number_found : (digits : List ℕ) → IsNumber digits → parse_number digits ≡ Some (decimal.number digits)
 number_found digits are = ap (λ (is : Bool). cond is (Some (decimal.number digits)) None) ((number-Decides digits).1 are)
 
--- ---- what follows the flag
+-- ---- the bytes after the flag
 
 module _ (must_close : Bool) where
   parts_of_entry : (number : Option ℕ) (name : Option (List ℕ)) (entry : IndexEntry) → entry_of_parts must_close number name ≡ Some entry

@@ -1,4 +1,4 @@
--- What an index lists, and which of its lines is rejected.
+-- The entries of an index, and which of its lines is rejected.
 use Rattle.std.specs.Prelude.{◌≡◌, ◌≢◌, ℕ, ◌+◌, ◌≤◌, nat_le, nat_eq, Bool, true, false, not, ◌==◌, ◌&&◌, List, [], ◌∷◌, ◌++◌, Option, None, Some, length, map, filter_map, codes, if◌then◌else◌}
 use Rattle.std.specs.List.{list_any, before_first, after_first, IsDistinct}
 use Rattle.std.specs.Cmp.Lexicographic.{pointwise}
@@ -37,8 +37,8 @@ pub record IsIndexLine (line : List ℕ) (entry : IndexEntry) : Type 0 where
   pub some : name ≢ []
   pub target_is : normal None name ≡ Some entry.target
 
--- The definitions from here to `parse_line` compute what `IsIndexLine` states. The law `index_line_has_one_parse` says that both agree.
--- Whether these bytes are one to nine digits, the first not `0`.
+-- The definitions from here to `parse_line` compute the entry that `IsIndexLine` states. The law `index_line_has_one_parse` says that
+-- both agree. Whether these bytes are one to nine digits, the first not `0`.
 abbrev pub is_number : List ℕ → Bool
 is_number [] = false
 is_number (first ∷ others) = not (first == 48) && are_digits 9 (first ∷ others)
@@ -55,7 +55,7 @@ entry_of_parts must_close (Some number) (Some name) = Some (record { number = nu
 abbrev pub is_space : ℕ → Bool
 is_space byte = byte == 32
 
--- What a line lists, or what follows its flag, if it is of the form: a number before the first space and a name after it.
+-- The entry of a line, or of its bytes after the flag, if they have the form: a number before the first space and a name after it.
 -- Without a space the name is empty, and an empty name has no normal form.
 unfoldable pub parse_fields : Bool → List ℕ → Option IndexEntry
 parse_fields must_close line = entry_of_parts must_close (parse_number (before_first is_space line)) (normal None (after_first is_space line))
@@ -64,14 +64,14 @@ parse_fields must_close line = entry_of_parts must_close (parse_number (before_f
 abbrev pub is_flag : ℕ → Bool
 is_flag byte = byte == 33
 
--- What a line lists, if it is of the form. If it begins with the flag, `parse_fields` reads what follows the flag.
+-- The entry of a line, if the line has the form. If it begins with the flag, `parse_fields` reads the bytes after the flag.
 abbrev pub parse_line : List ℕ → Option IndexEntry
 parse_line [] = parse_fields false []
 parse_line (first ∷ others) = if is_flag first then parse_fields true others else parse_fields false (first ∷ others)
 
 -- ---- all lines
 
--- What these lines list, in order.
+-- The entries of these lines, in order.
 abbrev pub parse_lines : List (List ℕ) → List IndexEntry
 parse_lines lines = filter_map parse_line lines
 
@@ -84,8 +84,8 @@ listed_targets index = map (λ entry. entry.target) index
 abbrev pub must_close_flags : List IndexEntry → List Bool
 must_close_flags index = map (λ entry. entry.must_close) index
 
--- The fault of a line, if it has one, from the number of lines before it, what those lines list, and what it lists itself.
--- The first cause that holds counts.
+-- The fault of a line, if it has one, from the number of lines before it, their entries, and its own entry. The first cause that
+-- holds counts.
 abbrev pub fault_after : ℕ → List IndexEntry → Option IndexEntry → Option IndexFault
 fault_after lines before None = Some (BadLine (lines + 1))
 fault_after lines before (Some entry) =
@@ -111,7 +111,7 @@ pub record IsRejected (lines : List (List ℕ)) (fault : IndexFault) : Type 0 wh
   pub fault_free_before : AreFaultFree before
   pub fault_is : fault_at before line ≡ Some fault
 
--- Whether these lines are an index: none is rejected, and `index` is what they list.
+-- Whether these lines are an index: none is rejected, and `index` has their entries.
 pub record IsIndexOf (lines : List (List ℕ)) (index : List IndexEntry) : Type 0 where
   pub fault_free : AreFaultFree lines
   pub lists : index ≡ parse_lines lines

@@ -239,7 +239,7 @@ fn parse_line(alloc: Global, line: &[u8]) -> Result<Option<IndexEntry>, AllocErr
     }
 }
 
-// Parses a line, or what follows its must-close flag. `must_close` is the flag.
+// Parses a line, or its bytes after the must-close flag. `must_close` is the flag.
 fn parse_fields(
     alloc: Global,
     must_close: bool,

@@ -5,8 +5,8 @@ ghost use Rattle.redo_index.specs.declared.index_fault.IndexFault.{IndexFault};
 ghost use Rattle.redo_index.specs.Index.{AreFaultFree, IsIndexLine, IsRejected, parse_line};
 
 /// If `parse_line` computes a target from a line, the line lists this target. A line lists nothing else. It has an optional flag, a number
-/// of one to nine digits, the first of which isn't 0, a space, and a name that isn't empty. `IsIndexLine` says this of the name, so that it can be read
-/// without the definition of names.
+/// of one to nine digits that doesn't begin with 0, a space, and a name that isn't empty. `IsIndexLine` says this of the name, so that it
+/// can be read without the definition of names.
 pub fn index_line_has_one_parse()
     ensures is { (line : List ℕ) → IfSome (parse_line line) (IsIndexLine line) }
     ensures only { (line : List ℕ) → IsUnique (IsIndexLine line) (parse_line line) }

@@ -1,4 +1,4 @@
-//! Tests of what JSON says of bytes and of logs. They are in a separate crate so that no crate below is proved a second time.
+//! Tests of bytes and logs as JSON. They are in a separate crate so that no crate below is proved a second time.
 #![tactic(auto)]
 
 #[cfg(test)]

@@ -1,4 +1,4 @@
-//! What is written for bytes and for logs.
+//! The JSON of bytes and of logs.
 use crate::cases::{OBJECTS, STRINGS};
 use redo_device::{Broken, Taker};
 use redo_json::{write_base64, write_object, write_string};

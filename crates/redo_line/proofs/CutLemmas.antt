@@ -46,7 +46,7 @@ pub upto_feed : (bytes : List ℕ) (at : ℕ) → at < length bytes → Passes (
 upto_feed bytes at below passes = take_more bytes at 0 below
     ∙ ap (λ (b : ℕ). take at bytes ++ b ∷ []) (eqb-true (get_or bytes at 0) line_feed passes)
 
--- What a cutter consumes of a chunk with a line feed.
+-- The bytes that a cutter consumes of a chunk with a line feed.
 pub line_in : (before line chunk : List ℕ) (at : ℕ)
     → NoneBefore (Passes (is_byte line_feed) chunk) 0 (length chunk) at × Passes (is_byte line_feed) chunk at
     → line ≡ before ++ take at chunk → Cuts before (take (at + 1) chunk) (line ∷ []) []
@@ -59,7 +59,7 @@ pub holds_none : (chunk : List ℕ) → Nowhere (Passes (is_byte line_feed) chun
 holds_none chunk nowhere = subst HasNoLineFeed (take_all (length chunk) chunk (le_refl (length chunk)))
     (free_before chunk (length chunk) nowhere)
 
--- What a cutter consumes of a chunk without a line feed.
+-- The bytes that a cutter consumes of a chunk without a line feed.
 pub none_in : (before after chunk : List ℕ) → Nowhere (Passes (is_byte line_feed) chunk) 0 (length chunk) → after ≡ before ++ chunk
     → Cuts before chunk [] after
 none_in before after chunk nowhere after_is taken kept =

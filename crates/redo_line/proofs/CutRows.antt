@@ -1,4 +1,4 @@
--- Examples of what a cutter returns, computed: for which results a fact is stated.
+-- Examples of a cutter's results, computed: for which results a fact is stated.
 use Rattle.std.proofs.Common.{◌≡◌, true, false, refl}
 use Rattle.std.specs.Prelude.{codes}
 use Rattle.redo_line.specs.declared.cutter.Cut.{Cut}

@@ -13,7 +13,7 @@ numbers : (number_of 3 (codes "120") ≡ Some 120) × (number_of 3 (codes "007")
 unfolding number
 numbers = (refl, refl, refl, refl)
 
--- What follows if bytes are at most nine digits.
+-- Facts about bytes that are at most nine digits.
 at_least_one : (bytes : List ℕ) → AreDigits 9 bytes → 1 ≤ length bytes
 at_least_one bytes are = are.some
 

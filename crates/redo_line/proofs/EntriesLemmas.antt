@@ -84,7 +84,6 @@ module _ (bytes names bytes' names' : List ℕ) (more_bytes : IsFront bytes byte
   still_seen [] within = refl
   still_seen (place ∷ places) within = λ i. still_one place within.0 i ++ still_seen places within.1 i
 
-  -- With one more place.
   pub more_within : (places : List EntryAt) (place : EntryAt) → AreWithin bytes names places → IsWithin bytes' names' place
       → AreWithin bytes' names' (places ++ place ∷ [])
   more_within [] place within one = (one, tt)
@@ -144,7 +143,6 @@ some_there bytes names (Done pid status start end) within = omega arith
 some_there bytes names (Closing pid status) within = omega arith
 some_there bytes names (Note pid start middle end) within = omega arith
 
--- The place of the only entry.
 pub only_one : (bytes names : List ℕ) (places : List EntryAt) (entries : List Entry) (place d : EntryAt) → AreWithin bytes names places
     → entries_at bytes names places ≡ entries → length entries ≡ 1
     → place ≡ slice_index_or places 0 d → (IsWithin bytes names place) × (entries ≡ entries_at_place bytes names place)
@@ -199,7 +197,6 @@ one_line bytes lines start end order within whole one = by (ended (slice_range b
           is = ap (map entry.Text) found ∙ ap (λ l. entry.Text l ∷ []) (sym is);
         }
 
--- The only entry, if it is a line.
 pub only_line : (bytes names : List ℕ) (places : List EntryAt) (entries : List Entry) (lines start end : ℕ) (d : EntryAt)
     → AreWithin bytes names places → entries_at bytes names places ≡ entries
     → length entries ≡ 1 → Texts lines start end ≡ slice_index_or places 0 d

@@ -55,8 +55,8 @@ are_within = (
   ),
 )
 
--- Not `IsWithin`: lines whose last one isn't ended, one line too many, or none; offsets out of order, or past the end; line feeds
--- in a note; or lines past the end.
+-- Not `IsWithin`: lines with an unended last one, one line too many, or none; offsets out of order, or past the end; line feeds in
+-- a note; or lines past the end.
 not_within :
     (IsWithin bytes names (at.Texts 2 0 5) → ⊥)
     × (IsWithin bytes names (at.Texts 3 0 4) → ⊥)

@@ -1,4 +1,4 @@
--- What the first bytes of a stream determine about its fault and the entries before the fault.
+-- The first bytes of a stream, and how they determine its fault and the entries before the fault.
 use Rattle.std.proofs.Common.{◌≡◌, ◌≢◌, ◌⊎◌, inl, inr, ℕ, zero, suc, ◌+◌, ◌-◌, ◌<◌, ◌≤◌, Bool, true, false, cond, ltb, List, [], ◌∷◌, ◌++◌, Option, None, Some, option_to_list, length, take, map, refl, sym, ◌∙◌, ap, arith}
 use Rattle.std.specs.List.{filter_map, flat_map}
 use Rattle.std.proofs.lemmas.Bool.{ltb-true, ltb-false, lt-ltb, le-ltb}
@@ -44,7 +44,7 @@ pub late_byte : (target : List ℕ) (line byte : ℕ) (bytes : List ℕ)
     → first_fault true line (entries_of target (byte ∷ bytes)) ≡ Some (AfterClose line)
 late_byte target line byte bytes = late target line byte bytes (ended (byte ∷ bytes)) (rest (byte ∷ bytes)) (are_lines (byte ∷ bytes)).whole
 
--- The fault of an unended line stays, whatever bytes follow it.
+-- The fault of an unended line stays with any bytes after it.
 pub rest_fault-append : (target : List ℕ) (closed : Bool) (line : ℕ) (last more : List ℕ) (fault : StreamFault)
     → first_fault closed line (rest_entries target last) ≡ Some fault
     → first_fault closed line (entries_of target (last ++ more)) ≡ Some fault
@@ -53,7 +53,7 @@ rest_fault-append target closed line [] more fault some = absurd (cc)
 rest_fault-append target true line (byte ∷ last) more fault some = late_byte target line byte (last ++ more) ∙ some
 rest_fault-append target false line (byte ∷ last) more fault some = absurd (cc)
 
--- The fault of a line stays, whatever bytes follow.
+-- The fault of a line stays with any bytes after it.
 pub line_fault-append : (target bytes more : List ℕ) (fault : StreamFault) → line_fault target bytes ≡ Some fault
     → line_fault target (bytes ++ more) ≡ Some fault
 line_fault-append target bytes more fault some =
@@ -101,7 +101,7 @@ early target max_bytes bytes failed fault other is = by (line_fault target (take
         (sym (ap (λ o. or_else o (end_fault max_bytes (stream_of bytes failed))) among) ∙ is) in
         inr (among, ltb-true max_bytes (length bytes) ending.0, ending.1)
 
--- So a fault that is known early is the fault of the whole stream, with the same entries before it.
+-- A fault that is known early is the fault of the whole stream, with the same entries before it.
 pub early_fault : (target : List ℕ) (max_bytes : ℕ) (bytes more : List ℕ) (failed fails : Bool) (fault : StreamFault) → fault ≢ Read
     → fault_of target max_bytes (stream_of bytes failed) ≡ Some fault
     → fault_of target max_bytes (stream_of (bytes ++ more) fails) ≡ Some fault
@@ -193,7 +193,7 @@ no_fault target max_bytes stream none =
     let within = ltb-false max_bytes (length stream.bytes) ending.0 in
     (ap (line_fault target) (sym (take_all max_bytes stream.bytes within)) ∙ parts.0, within, ending.1)
 
--- So a log has an entry for each line.
+-- A log has an entry for each line.
 pub an_entry_for_each_line : (target : List ℕ) (max_bytes : ℕ) (stream : Stream) (entries : List Entry)
     → log_of target max_bytes stream ≡ Some entries
     → map Some entries ≡ entries_of target stream.bytes

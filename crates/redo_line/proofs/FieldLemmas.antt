@@ -73,7 +73,7 @@ module _ (bytes : List ℕ) where
           pub fields_refused : (is_kind kind && is_pid pid && is_time time) ≡ false → fields_of bytes ≡ None
           fields_refused is = fields_are ∙ rw is
 
--- The kind, the time and the text of fields of which they are known.
+-- The kind, the time and the text of fields, if they are known.
 pub timed_found : (found : Option Fields) (kind time text : List ℕ) (pid : ℕ) → option_map parts_of found ≡ Some (kind, pid, text)
     → option_map (λ (fields : Fields). fields.time) found ≡ Some time
     → option_map timed_parts found ≡ Some (kind, time, text)

@@ -24,7 +24,7 @@ module _ (p : Progress) (u : List ℕ) (after : IsAfter p u) (byte : ℕ) where
   abbrev one : List ℕ
   one = byte ∷ []
 
-  -- Within the limit and in a log that isn't closed, neither a line feed nor another byte has such a fault.
+  -- Within the limit and before a closing record, neither a line feed nor another byte has such a fault.
   module _ (room : ℕ) (room_is : p.max_bytes - p.taken ≡ suc room) (closed : p.closed ≡ false) (fault : StreamFault)
       (late_or_too_long : IsAfterCloseOrTooLong fault)
       (is : fault_so_far p.target p.max_bytes (u ++ one) ≡ Some fault) where
@@ -86,7 +86,7 @@ first_fault_known p u [] fault after late_or_too_long is =
     absurd (cc)
 first_fault_known p u (byte ∷ left) fault after late_or_too_long is = one_fault p u after byte fault late_or_too_long is
 
--- The same for the model of a scan with this state.
+-- The first byte's fault, for the model of a scan with this state.
 pub known_of : (p : Progress) (u left : List ℕ) (must_close : Bool) (refused : Option StreamFault) (seen : Scanned) (fault : StreamFault)
     → record { target = p.target; max_bytes = p.max_bytes; must_close = must_close; bytes = u; failed_with = refused } ≡ seen → IsAfter p u
     → FirstByteIsPastEnd seen left fault → first_byte_fault p left ≡ Some fault

@@ -140,7 +140,7 @@ compared m n = by (ltb m n) refl
         apart (inl same) = inl (sym same)
         apart (inr more) = inr more
 
--- So the lines at the indexes with `Late` and `Bad` are the lines of the bytes with `IsAfterClose` and `IsBadRecord`.
+-- The lines at the indexes with `Late` and `Bad` are the lines of the bytes with `IsAfterClose` and `IsBadRecord`.
 module _ (target bytes : List ℕ) where
   to_late : (place : ℕ) → Late (entries_of target bytes) place false → IsAfterClose target bytes (1 + place)
   to_late zero late = absurd (not_first (entries_of target bytes) late)

@@ -1,4 +1,4 @@
--- Properties of a log, and what the first bytes of a stream determine of it.
+-- Properties of a log, and the part of it that the first bytes of a stream determine.
 use Rattle.std.proofs.Common.{◌≡◌, inl, inr, ℕ, ◌+◌, ◌-◌, ◌≤◌, Bool, true, false, cond, ltb, List, [], ◌∷◌, ◌++◌, Option, None, Some, IfSome, length, map, take, refl, sym, ◌∙◌, ap, arith}
 use Rattle.std.specs.List.{filter_map}
 use Rattle.std.proofs.lemmas.List.{length-map}
@@ -107,7 +107,7 @@ module _ (target : List ℕ) (max_bytes : ℕ) (u more : List ℕ) (fails : Bool
       placed place fault number (inl is) = inl (is ∙ ap AfterClose number)
       placed place fault number (inr is) = inr (is ∙ ap BadRecord number)
 
-  -- So all these lines are before the fault.
+  -- All these lines are before the fault.
   lines_lead : (others : List (List ℕ))
       × (lines_before (fault_of target max_bytes stream) (ended (take max_bytes stream.bytes)) ≡ ended u ++ others)
   lines_lead = by (line_fault target (u ++ within)) refl

@@ -44,14 +44,12 @@ kind-free : (kind : List ℕ) → AllByRecursion IsKindByte kind → HasNo colon
 kind-free [] each = tt
 kind-free (byte ∷ kind) each = (kind_byte-free byte each.0, kind-free kind each.1)
 
--- A pid.
 abbrev IsPid : List ℕ → Type 0
 IsPid pid = AreDigits 10 pid × (number pid ≤ max_pid)
 
 pid-Decides : (pid : List ℕ) → Decides (is_pid pid) (IsPid pid)
 pid-Decides pid = Decides-and (are_digits 10 pid) (leb (number pid) max_pid) (are_digits-Decides 10 pid) (leb-Decides (number pid) max_pid)
 
--- A time.
 time_cut : (time : List ℕ) (cut : Option (List ℕ × List ℕ)) → split_once period time ≡ cut → is_time_parts time cut ≡ true → IsTime time
 time_cut time None none is = inl ((are_digits-Decides 20 time).0 is)
 time_cut time (Some parts) cut is =
@@ -229,7 +227,7 @@ fields_record line bytes fields begins are fits =
       text_fits = fits;
     }
 
--- So it is read in only one way.
+-- A record is read in only one way.
 pub one_reading : (line : List ℕ) (fields others : Fields) → IsRecord line fields → IsRecord line others → fields ≡ others
 one_reading line fields others is also =
     let begins = record_begins line fields is in

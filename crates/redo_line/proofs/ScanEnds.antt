@@ -1,4 +1,4 @@
--- The faults that a scan returns, and what it gives at the end.
+-- The faults that a scan returns, and its log at the end.
 use Rattle.std.proofs.Common.{◌≡◌, ◌≢◌, ◌⊎◌, inl, inr, ℕ, List, [], ◌∷◌, ◌++◌, Bool, true, false, cond, ltb, Option, None, Some, length, take, option_to_list, refl, sym, ◌∙◌, ap, zero-le}
 use Rattle.std.specs.List.{filter_map, cons_option}
 use Rattle.std.proofs.lemmas.List.Elements.{filter_map-append}
@@ -44,7 +44,6 @@ pub refused_early : (p : Progress) (u left : List ℕ) (fault : StreamFault) →
 refused_early p u left fault (inl memory) = ((λ read. absurd (cc)), (λ not_closed. absurd (cc)))
 refused_early p u left fault (inr refuses) = so_far_early p.target p.max_bytes (u ++ left) fault refuses.fault_is
 
--- The entries of lines.
 pub each_found : (target : List ℕ) (lines : List (List ℕ)) → filter_map (λ entry. entry) (line_entries target lines) ≡ found target lines
 each_found target [] = refl
 each_found target (line ∷ lines) = ap (cons_option (entry_of target line true)) (each_found target lines)
@@ -65,7 +64,7 @@ whole_log p bytes after =
     (each_found p.target (ended bytes) ∙ sym (part_u p bytes after))
     ∙ ap (λ es. entries_so_far p.target p.max_bytes bytes ++ es) (rest_found p.target (rest bytes)))
 
--- The same, with the unended line as the code has it.
+-- The log, with the unended line as the code has it.
 pub log_with : (p : Progress) (bytes : List ℕ) (after : IsAfter p bytes) (last : Option (List ℕ)) → last ≡ unended p.kept
     → log_of p.target p.max_bytes (so_far bytes) ≡ Some (entries_so_far p.target p.max_bytes bytes ++ option_to_list (unended_entry last))
 log_with p bytes after last is =

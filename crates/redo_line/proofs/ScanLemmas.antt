@@ -53,7 +53,7 @@ fine_part target max_bytes bytes none within =
     ap (λ o. found target (lines_before o (ended (take max_bytes bytes)))) none
     ∙ ap (λ f. found target (ended f)) (take_all max_bytes bytes within)
 
--- One line, if the log isn't closed.
+-- One line, if no entry closed the log.
 pub one_fine : (closed : Bool) (line : ℕ) (entry : Entry) → closed ≡ false → first_fault closed line (Some entry ∷ []) ≡ None
 one_fine closed line entry is =
     ap (λ c. first_fault c line (Some entry ∷ [])) is ∙ first_fault-fine line entry [] ∙ first_fault-nil (closes (Some entry)) (line + 1)
@@ -185,7 +185,7 @@ module _ (p : Progress) (u : List ℕ) (after : IsAfter p u) where
           (ap ended parts ∙ ended-append (u ++ slice) more ∙ ap (λ ls. ls ++ ended (rest (u ++ slice) ++ more)) lines_then
           ∙ append_assoc (ended u) lines (ended (rest (u ++ slice) ++ more)))
 
-      -- Lines with entries, none of which follows an entry that closes the log.
+      -- Lines with entries. None of them follows an entry that closes the log.
       module _ (entries : List Entry) (entries_are : line_entries p.target lines ≡ map Some entries)
           (fine : first_fault p.closed (p.lines + 1) (map Some entries) ≡ None) where
         slice_within : length (u ++ slice) ≤ p.max_bytes

@@ -1,4 +1,4 @@
--- Examples of what a scan consumes and returns, computed: in the log of the target `a`, which may have nine bytes.
+-- Examples of a scan, computed: its bytes and results, in the log of the target `a`, which may have nine bytes.
 use Rattle.std.proofs.Common.{◌≡◌, ◌≢◌, ℕ, true, false, inl, inr, List, [], ◌∷◌, ◌++◌, Option, None, Some, Ok, Err, refl, ap, arith, length}
 use Rattle.std.specs.Prelude.{codes}
 use Rattle.redo_line.specs.declared.entry.Entry.TheVariants.{Text}
@@ -79,7 +79,7 @@ at_no_fault = (
   (λ is. let same : Text (codes "x") ∷ [] ≡ [] = is.entries in absurd (cc)),
 )
 
--- ---- what a scan returns
+-- ---- the results of a scan
 
 fine : IsFaultFree (scanned (codes "x") None)
 unfolding split_lines ended rest first_fault entry_of record_entry split_once after_prefix
@@ -140,7 +140,7 @@ finds_two = record {
   put = refl;
 }
 
--- Not `EndLines`: lines whose last one isn't ended, entries of other lines, too many bytes, or no bytes after too many.
+-- Not `EndLines`: lines with an unended last one, entries of other lines, too many bytes, or no bytes after too many.
 end_no_lines :
     (EndLines a 9 [] (line (codes "x") ++ codes "y") (Text (codes "x") ∷ []) → ⊥)
     × (EndLines a 9 [] (line (codes "x")) [] → ⊥)

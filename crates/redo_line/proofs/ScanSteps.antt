@@ -1,4 +1,4 @@
--- What one step of a scan gives, by the line that was found in the bytes of a chunk within the limit.
+-- The result of one step of a scan, by the line that was found in the bytes of a chunk within the limit.
 use Rattle.std.proofs.Common.{◌≡◌, ◌⊎◌, inl, inr, ℕ, zero, suc, ◌+◌, ◌-◌, ◌<◌, ◌≤◌, Bool, true, false, List, [], ◌∷◌, ◌++◌, None, Some, length, map, get_or, nat_eq, take, drop, refl, sym, ◌∙◌, ap, subst, arith}
 use Rattle.std.specs.List.{AllByRecursion, slice_range, starts_with}
 use Rattle.std.proofs.lemmas.List.{append-nil, length-map, length-take, take_all, take-append-le, take-append-drop, take-take}
@@ -44,7 +44,7 @@ module _ (now p : Progress) (same : p ≡ now) (u : List ℕ) (after_now : IsAft
   refuses : (fault : StreamFault) → FailsWith p u left fault → FailsWith now u (drop from chunk) fault
   refuses fault is = subst (λ (l : List ℕ). FailsWith now u l fault) left_is (subst (λ q. FailsWith q u left fault) same is)
 
-  -- What is known of the first byte.
+  -- The fault of the first byte.
   first_is : (byte : ℕ) (bytes : List ℕ) (room : ℕ) (closed : Bool) → left ≡ byte ∷ bytes → p.max_bytes - p.taken ≡ room → p.closed ≡ closed
       → first_byte_fault p left ≡ byte_fault room p.lines closed
   first_is byte bytes room closed some room_is closed_is =
@@ -190,7 +190,7 @@ texts_close_none : (lines : List (List ℕ)) → closed_by false (map Some (map 
 texts_close_none [] = refl
 texts_close_none (line ∷ lines) = texts_close_none lines
 
--- From an offset of a chunk on, `upto` bytes are text lines, no line has begun, and the log isn't closed.
+-- From an offset of a chunk on, `upto` bytes are text lines, no line has begun, and no entry closed the log.
 module _ (now p : Progress) (same : p ≡ now) (u : List ℕ) (after_now : IsAfter now u) (chunk left : List ℕ) (from : ℕ)
     (left_is : left ≡ drop from chunk)
     (upto count : ℕ) (are : AreTextLines (take upto left) count) (within : upto ≤ length left) (room_now : now.taken + upto ≤ now.max_bytes)
@@ -254,7 +254,7 @@ module _ (now p : Progress) (same : p ≡ now) (u : List ℕ) (after_now : IsAft
       subst (λ (s : List ℕ). AdvancesBy now then u s text_entries) (sym slice_is)
       (subst (λ (q : Progress). AdvancesBy q then u slice text_entries) same finds)
 
-  -- So the first byte of the text lines has no fault by its position.
+  -- The first byte of the text lines has no fault by its position.
   pub texts_at_once : first_byte_fault now (drop from chunk) ≡ None
   texts_at_once = ap (first_byte_fault now) (sym left_is) ∙ ap (λ q. first_byte_fault q left) (sym same)
       ∙ by left (p.max_bytes - p.taken) refl refl

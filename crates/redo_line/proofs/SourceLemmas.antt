@@ -21,7 +21,7 @@ module _ (max_bytes : ℕ) (given : Source Stream) where
       → source_fault max_bytes given ≡ Some fault
   fault_met fault is = ap (λ first. or_else first (closing_fault given)) is
 
-  -- If there is none, the only fault that is left is that the log isn't closed.
+  -- If there is none, only `NotClosed` may be left.
   pub fault_left : fault_of given.target max_bytes given.stream ≡ None → source_fault max_bytes given ≡ closing_fault given
   fault_left none = ap (λ first. or_else first (closing_fault given)) none
 

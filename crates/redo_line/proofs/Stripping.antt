@@ -4,7 +4,7 @@ use Rattle.std.specs.Prelude.{if◌then◌else◌}
 use Rattle.std.specs.Cmp.Lexicographic.{nat_list_eq_equiv, pointwise}
 use Rattle.redo_line.specs.Parts.{after_prefix}
 
--- What the test for a prefix means for the bytes after it.
+-- The bytes after a prefix, by the test for the prefix.
 abbrev stripped : Bool → List ℕ → List ℕ → Option (List ℕ)
 stripped begins front bytes = if begins then Some (drop (length front) bytes) else None
 

@@ -1,4 +1,4 @@
--- What a cutter returns for a chunk.
+-- The results of a cutter for a chunk.
 use Rattle.std.specs.Prelude.{ℕ, Bool, true, false, List}
 use Rattle.redo_line.specs.declared.cutter.Cut.{Cut}
 use Rattle.redo_line.specs.declared.cutter.Cut.TheVariants.{Line, More}

@@ -9,7 +9,7 @@ use Rattle.redo_line.specs.Log.{stream_of, closes, entries_of}
 use Rattle.redo_line.specs.Source.{Source, source_fault, source_log, source_entries_before_fault, source}
 use Rattle.redo_line.specs.Scan.{fault_so_far, entries_so_far}
 
--- Nothing has the property `P` except what was found, if anything was.
+-- Nothing has the property `P` except the value found, if there is one.
 abbrev pub IsUnique : {A : Type 0} → (A → Type 0) → Option A → Type 0
 IsUnique {A} P found = (other : A) → P other → found ≡ Some other
 

@@ -1,4 +1,4 @@
--- The model of a scan, and what its calls return.
+-- The model of a scan, and the results of its calls.
 use Rattle.std.specs.Prelude.{◌≡◌, ◌≢◌, ◌<◌, ◌≤◌, ℕ, Bool, true, false, ◌⊎◌, List, [], ◌∷◌, ◌++◌, Option, None, Some, Result, Ok, Err, length, map, take, drop, slice_range}
 use Rattle.redo_line.specs.declared.entry.Entry.{Entry}
 use Rattle.redo_line.specs.declared.entry.Entry.TheVariants.{Text}
@@ -12,8 +12,8 @@ use Rattle.redo_line.specs.Entry.{entry_of}
 use Rattle.redo_line.specs.Log.{stream_of, fault_of, line_entries, entries_before_fault}
 use Rattle.redo_line.specs.Source.{Source, source}
 
--- What a scan is modelled as: the target of the log, the maximum number of bytes, whether the log must be closed, the bytes
--- consumed so far, and the fault that was returned, if any.
+-- The model of a scan: the target of the log, the maximum number of bytes, whether the log must be closed, the bytes consumed so
+-- far, and the fault that was returned, if any.
 pub record Scanned : Type 0 where
   pub target : List ℕ
   pub max_bytes : ℕ
@@ -65,7 +65,7 @@ module _ (target : List ℕ) (max_bytes : ℕ) where
     pub fault_is : fault_so_far (before ++ bytes) ≡ Some fault
     pub entries : entries_so_far (before ++ bytes) ≡ entries_so_far before
 
--- ---- what a scan returns
+-- ---- the results of a scan
 
 -- The scan has returned no fault, and the bytes that it consumed have none.
 pub record IsFaultFree (scan : Scanned) : Type 0 where
@@ -107,7 +107,7 @@ pub record FailsWith (old new : Scanned) (bytes : List ℕ) (fault : StreamFault
   pub may_fail : old.failed_with ≡ None → MayFailWith old bytes fault
   pub early : (fault ≢ Read) × (fault ≢ NotClosed)
 
--- What a step does with a chunk from an offset on: it returns the entry of the next line, consumes all bytes, or returns a fault.
+-- A step with a chunk from an offset on: it returns the entry of the next line, consumes all bytes, or returns a fault.
 abbrev pub Steps : Scanned → Scanned → List ℕ → ℕ → Result Step StreamFault → Type 0
 Steps old new chunk from (Ok (Found entry upto)) = (from < upto) × (upto ≤ length chunk) × FindsEntry old new (slice_range chunk from upto) entry
 Steps old new chunk from (Ok More) = ConsumesAll old new (drop from chunk)

@@ -15,7 +15,7 @@ pub record Source (A : Type 0) : Type 0 where
 abbrev pub source : {A : Type 0} → List ℕ → Bool → A → Source A
 source target must_close stream = record { target = target; must_close = must_close; stream = stream }
 
--- The same source with another stream, such as the stream that a reader gives instead of what is known of the reader.
+-- The source with another stream, such as the stream that a reader gives instead of what is known of the reader.
 abbrev pub with_stream : {A B : Type 0} → B → Source A → Source B
 with_stream stream given = source given.target given.must_close stream
 

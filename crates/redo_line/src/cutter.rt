@@ -8,7 +8,7 @@ use crate::partial_line::PartialLine;
 use std::alloc::{AllocError, Global};
 use std::marker::Model;
 
-/// What a cutter found in a chunk.
+/// The result of a cutter for a chunk.
 #[derive(Drop)]
 pub enum Cut {
     /// A line, and the offset in the chunk after its line feed.

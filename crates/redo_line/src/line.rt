@@ -1,6 +1,5 @@
 //! Reads the entry of a line. `BadRecord` is decided before anything is allocated, so it is returned exactly if a line has no
-//! entry. Names of kinds are compared one after another, because a proof can't cite what a pattern over byte strings says
-//! about the bytes.
+//! entry. Names of kinds are compared one after another, because a proof can't cite the bytes of a pattern over byte strings.
 ghost use Rattle.std.specs.Prelude.{◌≡◌, ◌↔◌, ◌&&◌, true, None, Some, Ok, Err, IfOk, IsTrue, nat_eq};
 ghost use Rattle.std.specs.List.{starts_with};
 ghost use Rattle.redo_line.specs.Parts.{split_once};

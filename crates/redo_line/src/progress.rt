@@ -1,8 +1,8 @@
-//! What a scan stores of the bytes that it consumed. `IsAfter` relates it to the definitions: the bytes have no fault, and
-//! what is stored are their unended line, their number, the number of their lines, and whether the last one closes the log.
-//! So a loop over chunks can maintain that it has exactly the entries of the bytes so far.
+//! The state of a scan after the bytes that it consumed. `IsAfter` relates it to the definitions: the bytes have no fault,
+//! and the state has their unended line, their number, the number of their lines, and whether the last one closes the log.
+//! A loop over chunks can maintain that it has exactly the entries of the bytes so far.
 //!
-//! After a fault, a scan never uses its `Progress` again. So `Progress` needs no invariant while it reads a line.
+//! After a fault, a scan never uses its `Progress` again, so `Progress` needs no invariant while it reads a line.
 ghost use Rattle.std.specs.Prelude.{◌≡◌, ◌↔◌, Err, ◌<◌, ◌≤◌, ◌+◌, ◌-◌, false, ◌^◌, ◌⊎◌, List, ℕ, true, None, Some, [], IfOk, IfErr, length, take};
 ghost use Rattle.redo_line.specs.Entry.{entry_of};
 ghost use Rattle.redo_line.specs.Lines.{HasNoLineFeed, unended};

@@ -1,9 +1,9 @@
 //! The scan of a stream. The log and the fault of a stream are defined over its whole list of bytes (`Log`). A scan is
-//! modelled as the bytes that it consumed (a ghost), with its target, size limit, must-close flag and fault, and not as what
-//! it stores. So its clauses read as sentences, and loops mention no chunks or counters.
+//! modelled as the bytes that it consumed (a ghost), with its target, size limit, must-close flag and fault, and not as the
+//! state that it stores. Its clauses read as sentences, and loops mention no chunks or counters.
 //!
 //! A step first checks whether the next byte is invalid because of its position. Then it passes the bytes within the limit to
-//! `PartialLine`, and appends the entry of the line found. Only these bytes are searched for a line feed. So a line that ends
+//! `PartialLine`, and appends the entry of the line found. Only these bytes are searched for a line feed: a line that ends
 //! past the limit isn't found, and the fault is `TooLong`. A byte that is invalid because of its position is reported without
 //! allocating only if a step begins there; otherwise the line before it is copied first.
 //!
@@ -25,7 +25,7 @@ use redo_name::TargetName;
 use std::alloc::Global;
 use std::marker::Model;
 
-/// What a scan found in a chunk.
+/// The result of a scan for a chunk.
 #[derive(Drop)]
 pub enum Step {
     /// The entry of a line, and the offset in the chunk after its line feed.

@@ -10,7 +10,7 @@ use std::test::Fail;
 
 static READS: [&[u8]; 4] = [b"", b"abcde", b"", b"f"];
 
-/// Creates a reader that gives `READS`, two of which are not empty.
+/// Creates a reader that gives `READS`. Two of them are not empty.
 fn two_reads(alloc: Global, fails: bool) -> Result<Pieces, AllocError> {
     let mut reads = Vec::new(alloc);
     for read in &READS {

@@ -1,4 +1,4 @@
-//! Tests of the table of logs: what its calls return, and the logs after them.
+//! Tests of the table of logs: the results of its calls, and the logs after them.
 use redo_line::{Entries, Scan, StreamFault, TargetName, read_line};
 use redo_logs::{LogState, LogTable, Numbered, NumberedEntry, TableFault};
 use redo_test_support::{entry_text, line, logs_text};
@@ -51,7 +51,6 @@ fn add_all(alloc: Global, table: &mut LogTable, number: u32, texts: &[&str]) -> 
     Ok(())
 }
 
-/// Expects these logs in the table.
 fn expect(rt: &(impl Abort + AllocGlobal), table: &LogTable, text: &str) -> Result<(), Fail> {
     expect_text(rt, logs_text(rt.alloc(), table)?.as_str(), text);
     Ok(())

@@ -58,7 +58,7 @@ pub const BOTH_BAD: Streams = Streams {
     ],
 };
 
-/// Two streams with the must-close flag. The second one isn't closed, because its last line is unended.
+/// Two streams with the must-close flag. The second one has no closing record, because its last line is unended.
 pub const OPEN: Streams = Streams {
     index: b"!1 a\n!2 b\n",
     streams: &[

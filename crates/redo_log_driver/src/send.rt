@@ -1,4 +1,4 @@
-//! Senders that send their shares in parallel, and what each one posted.
+//! Senders that send their shares in parallel, and the items of each one.
 ghost use Rattle.std.specs.Prelude.{◌≡◌};
 
 use crate::gather::MAX_BYTES;
@@ -12,7 +12,7 @@ use std::sync::Wait;
 use std::thread::Threads;
 
 /// The streams of a share: number, target, must-close flag and bytes. The first one has a bad record, the second one has
-/// a log, and the third one isn't closed.
+/// a log, and the third one has no closing record.
 const SHARE: [(u32, &[u8], bool, &[u8]); 3] = [
     (0, b"a", true, b"ok\nok\n@@REDO:do:7\n"),
     (1, b"b", false, b"@@REDO:do:7:1.0000@@ c\nb1\nb2"),
@@ -41,8 +41,7 @@ impl Posting for Sending {
     }
 }
 
-/// Sends one share per sender of the plan, through a mailbox of the plan's capacity. Prints what each sender
-/// posted.
+/// Sends one share per sender of the plan, through a mailbox of the plan's capacity. Prints the items of each sender.
 pub fn send_shares(
     rt: &(impl Print + AllocGlobal + Threads + Wait + Sync),
     plan: Option<Plan>,
@@ -90,7 +89,7 @@ fn reader(alloc: Global, stream: &[u8]) -> Result<Pieces, AllocError> {
     Ok(Pieces::new(reads, false))
 }
 
-/// Prints what each sender posted, in order.
+/// Prints the items of each sender, in order.
 fn tell(rt: &impl Print, items: &[Item], senders: u32) -> io::Result<()> {
     for sender in 0..senders {
         for item in items {

@@ -56,7 +56,7 @@ pub const AT_FAULT: Case = Case {
     options: DEEP,
 };
 
-/// A closed stream with the must-close flag, and another one that isn't closed.
+/// A closed stream with the must-close flag, and another one without a closing record.
 pub const NOT_CLOSED: Case = Case {
     given: OPEN,
     asked: b"a",

@@ -1,4 +1,4 @@
-//! Tests of indexes: what they list, and which line is rejected.
+//! Tests of indexes: their entries, and which line is rejected.
 use redo_line::TargetName;
 use redo_log_cli::{Index, IndexFault, read_index};
 use std::alloc::Global;
@@ -87,7 +87,7 @@ fn expect_entries(
     Ok(())
 }
 
-/// Checks what the index lists at this position.
+/// Checks the entry of the index at this position.
 fn expect_entry(rt: &impl Abort, index: &Index, i: u32, number: u32, name: &str) {
     assert!(rt; i < index.len());
     expect_number(rt, index.fid(i), number, name);

@@ -1,4 +1,4 @@
--- What is stored stays the same when more is stored.
+-- Stored entries stay the same when more are stored.
 use Rattle.std.proofs.Common.{◌≡◌, ◌≢◌, ℕ, zero, suc, ◌+◌, ◌-◌, ◌≤◌, ◌<◌, Bool, true, false, if◌then◌else◌, List, [], ◌∷◌, ◌++◌, Option, None, Some, nat_eq, length, map, take, drop, get_or, slice_get, slice_range, Vec, Global, refl, sym, ap, ◌∙◌, subst, arith}
 use Rattle.std.specs.Cmp.Lexicographic.{pointwise, same_text}
 use Rattle.std.specs.List.{AllByRecursion, IsDistinct, flat_map, list_any}
@@ -32,7 +32,7 @@ front_front xs ys zs first second = record {
 pub front_length : {A : Type 0} (xs ys : List A) → IsPrefix xs ys → length xs ≤ length ys
 front_length xs ys front = omega (arith, ap length front.is, length-append xs front.more)
 
--- ---- what is denoted
+-- ---- denoted entries
 
 -- A range within a prefix.
 range_front : (xs more : List ℕ) (start end : ℕ) → start ≤ end → end ≤ length xs
@@ -107,7 +107,7 @@ seen_grown old new (Note note) grows within =
     ap (λ e. e ∷ []) (ap (note_value new) (note_at_grown old.notes new.notes old note grows.notes within)
     ∙ note_grown old new (slice_get old.notes note) grows within)
 
--- What a `PackedEntries` refers to still exists.
+-- The parts that a `PackedEntries` refers to still exist.
 pub within_grown : (old new : Parts) (record' : PackedEntries) → Extends old new → Within old record' → Within new record'
 within_grown old new (Texts lines block start end) grows within =
     let front = block_grown old new block grows in (
@@ -158,7 +158,7 @@ grows_none parts = record {
   names = names_none parts.names;
 }
 
--- What isn't in a list isn't in a prefix of it.
+-- An item that isn't in a list isn't in a prefix of it.
 none_in_front : (p : List ℕ → Bool) (front more : List (List ℕ)) → list_any p (front ++ more) ≡ false → list_any p front ≡ false
 none_in_front p front more none = (or_parts (list_any p front) (list_any p more) (sym (list_any-append p front more) ∙ none)).0
 
@@ -273,7 +273,7 @@ named names number name there at same = record {
   is = get_or_from_slice_get names number there [] at ∙ sym (same_text name there (sym same));
 }
 
--- The range of what was appended, if more follows it.
+-- The range of the appended items, if more follow.
 range_put : (xs ys more : List ℕ) → slice_range ((xs ++ ys) ++ more) (length xs) (length (xs ++ ys)) ≡ ys
 range_put xs ys more =
     range_front (xs ++ ys) more (length xs) (length (xs ++ ys)) (omega (arith, length-append xs ys)) (omega arith)
@@ -290,7 +290,7 @@ get_last xs x ys at is place = (λ i. slice_get (is i) (place i)) ∙ get_put xs
 
 module _ (old new : Parts) (note : ℕ) (at : NoteSpan) (last : slice_get new.notes note ≡ Some at)
     (same : (new.bytes ≡ old.bytes) × (new.taken ≡ old.taken)) where
-  -- A note that was appended refers to what existed before.
+  -- An appended note refers to parts that existed before.
   pub note_last_within : IsNoteWithin old (Some at) → IsNoteWithin new (slice_get new.notes note)
   note_last_within within =
       subst (IsNoteWithin new) (sym last) (
@@ -323,6 +323,6 @@ note_put pid bytes kind text first second first_is second_is start middle end st
     range_last : (xs ys : List ℕ) → slice_range (xs ++ ys) (length xs) (length (xs ++ ys)) ≡ ys
     range_last xs ys = ap (λ bs. slice_range bs (length xs) (length (xs ++ ys))) (sym (append-nil (xs ++ ys))) ∙ range_put xs ys []
 
--- The end of what was appended.
+-- The end of the appended items.
 pub end_of : (end : ℕ) (xs ys new : List ℕ) → end ≡ length xs + length ys → new ≡ xs ++ ys → end ≡ length new
 end_of end xs ys new is new_is = is ∙ sym (length-append xs ys) ∙ ap length (sym new_is)

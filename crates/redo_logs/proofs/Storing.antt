@@ -1,4 +1,4 @@
--- The logs of a table, and what is stored for them.
+-- The logs of a table, and how they are stored.
 use Rattle.std.proofs.Common.{◌≡◌, ℕ, zero, suc, ◌≤◌, ◌<◌, nat_eq, Bool, true, false, ◌&&◌, ◌||◌, true≢false, ◌-◌, List, [], ◌∷◌, ◌++◌, Option, None, Some, length, map, slice_get, slice_set, get_or, ltb, position, is_some, refl, sym, ap, ◌∙◌, subst, arith}
 use Rattle.std.specs.Cmp.Lexicographic.{pointwise}
 use Rattle.std.specs.List.{AllByRecursion, flat_map, list_all, list_any}
@@ -23,7 +23,6 @@ abbrev state_of : Stored → LogState
 state_of stored = stored.state
 
 module _ (parts : Parts) where
-  -- The states are the stored states.
   pub states_stored : (logs : List Stored) → states_of (logs_of parts logs) ≡ map state_of logs
   states_stored [] = refl
   states_stored (log ∷ logs) = ap (λ states. log.state ∷ states) (states_stored logs)
@@ -159,7 +158,7 @@ module _ (parts : Parts) (name : List ℕ) where
       no_place (pointwise nat_eq name) (targets_of (logs_of parts logs))
       (none_targets logs within (sym (some_place (pointwise nat_eq name) parts.names) ∙ ap is_some none))
 
-  -- The same, if its name is not among the names.
+  -- A target has no log if its name is not among the names.
   pub none_placed : (logs : List Stored) → AllByRecursion (IsLogWithin parts) logs → list_any (pointwise nat_eq name) parts.names ≡ false
       → log_number name (logs_of parts logs) ≡ None
   none_placed logs within none = no_place (pointwise nat_eq name) (targets_of (logs_of parts logs)) (none_targets logs within none)

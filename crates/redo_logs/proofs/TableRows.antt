@@ -67,7 +67,7 @@ tables : IsTable two × (IsTable (new_log (codes "a") ∷ new_log (codes "b") �
 unfolding IsDistinct
 tables = (record { size = omega arith; targets_differ = ((refl, tt), (tt, tt)) }, (λ is. let same = is.targets_differ.0.1.0 in cc))
 
--- ---- what entries are modelled as, and names with numbers
+-- ---- the models of entries, and names with numbers
 
 abbrev names : List (List ℕ)
 names = codes "a" ∷ codes "b" ∷ []

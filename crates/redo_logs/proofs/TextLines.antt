@@ -152,7 +152,7 @@ module _ (parts : Parts) where
     bytes_are = lines.bytes_are;
   }
 
--- What is stored for a log exists.
+-- The parts that are stored for a log exist.
 pub stored_at : {A : Type 0} (P : A → Type 0) (xs : List A) (number : ℕ) (x : A) → AllByRecursion P xs → slice_get xs number ≡ Some x → P x
 stored_at P [] number x all at = absurd (none-some x at)
 stored_at P (y ∷ xs) zero x all at = subst P (same_Some y x at) all.0

@@ -1,4 +1,4 @@
--- What the law `lowest_fault_is_first` states about the first fault.
+-- The statements of the law `lowest_fault_is_first` about the first fault.
 use Rattle.std.specs.Prelude.{◌≡◌, ℕ, ◌<◌, List, Option, None, Some, slice_get}
 use Rattle.redo_line.specs.declared.stream_fault.StreamFault.{StreamFault}
 use Rattle.redo_logs.specs.Logs.{lowest_fault}

@@ -1,5 +1,5 @@
 //! A log is the number of its target's name, its `PackedEntries`, and its state. If `add` fails, it may leave bytes, a block
-//! or a name to which no `PackedEntries` refers. Adding never changes what an existing one denotes (`Extends`, `Keeping`),
+//! or a name to which no `PackedEntries` refers. Adding never changes the entries of an existing one (`Extends`, `Keeping`),
 //! and every call is proved from that.
 //!
 //! `enter` looks a target up and then inserts it. An insertion alone would allocate before `Twice` could be returned.

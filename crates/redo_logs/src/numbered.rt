@@ -27,7 +27,7 @@ pub enum NumberedEntry<'a> {
 }
 
 /// A read-only view of a table's logs. Each name, whether it names a log's own target or occurs in an entry, has a
-/// number, counted from 0. So callers can iterate over entries without looking up names by hash.
+/// number, counted from 0. Callers can iterate over entries without looking up names by hash.
 #[derive(Drop)]
 pub struct Numbered<'a> {
     store: &'a Store,

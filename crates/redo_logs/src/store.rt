@@ -59,7 +59,7 @@ pub enum PackedEntries {
     },
 }
 
-// What a table allocates, besides the texts, for consecutive text lines of a batch, and for any other entry.
+// The memory, besides the texts, for consecutive text lines of a batch, and for any other entry.
 const _: () = prove!(std::mem::size_of::<PackedEntries>() == 24);
 
 impl PackedEntries {
@@ -164,8 +164,8 @@ impl Store {
         }
     }
 
-    /// Stores an entry. What was stored before stays the same. If this fails, parts of the entry may be stored, but
-    /// no `PackedEntries` refers to them.
+    /// Stores an entry. Entries that were stored before stay the same. If this fails, parts of the entry may be stored,
+    /// but no `PackedEntries` refers to them.
     pub fn store(&mut self, entry: Entry) -> Result<PackedEntries, AllocError>
         ensures extends { Extends self.old self.new }
         ensures within { IfOk result (Within self.new) }
@@ -186,8 +186,8 @@ impl Store {
         }
     }
 
-    /// Stores entries. What was stored before stays the same. If this fails, parts of the entries may be stored, but
-    /// no `PackedEntries` refers to them.
+    /// Stores entries. Entries that were stored before stay the same. If this fails, parts of the entries may be
+    /// stored, but no `PackedEntries` refers to them.
     pub fn store_all(
         &mut self,
         alloc: Global,

@@ -1,4 +1,4 @@
--- The laws about names: which segments are kept, and what a name in a log is relative to.
+-- The laws about names: which segments are kept, and which directory a name in a log is relative to.
 use Rattle.std.proofs.Common.{◌≡◌, ℕ, zero, suc, Bool, true, false, cond, eqb, List, [], ◌∷◌, ◌++◌, Option, None, Some, replicate, refl, sym, ◌∙◌, ap, add-one}
 use Rattle.std.specs.List.{AllByRecursion}
 use Rattle.std.proofs.lemmas.Bool.{eqb-true}

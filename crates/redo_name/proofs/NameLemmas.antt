@@ -215,7 +215,7 @@ directory-each true target = tt
 directory-each false None = tt
 directory-each false (Some target) = each-without_last (segments target) (cut-each target)
 
--- So every value of `normal` is a normal form.
+-- Every value of `normal` is a normal form.
 pub normal_is_normal : (target : Option (List ℕ)) (name value : List ℕ) → normal target name ≡ Some value → IsNormal value
 unfolding normal
 normal_is_normal target [] value is = cc

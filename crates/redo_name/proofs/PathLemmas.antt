@@ -91,7 +91,7 @@ built-push false [] (part ∷ parts) last some is = let size = join_some part pa
 built-push false (byte ∷ path) (part ∷ parts) last some is =
     append_assoc (byte ∷ path) (slash ∷ []) last ∙ ap (λ (p : List ℕ). p ++ slash ∷ last) is ∙ sym (join-push part parts last)
 
--- What `last_segment` ensures about the length and the segment that it returns.
+-- The postcondition of `last_segment` about the length and the segment that it returns.
 abbrev pub AfterSlash : List ℕ → ℕ → List ℕ → Type 0
 AfterSlash path above last = (front behind : List ℕ) → HasNoSlash behind → path ≡ front ++ slash ∷ behind
     → (above ≡ length front) × (last ≡ behind)

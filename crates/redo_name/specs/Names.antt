@@ -32,7 +32,7 @@ abbrev pub without_last : List (List ℕ) → List (List ℕ)
 without_last (segment ∷ next ∷ others) = segment ∷ without_last (next ∷ others)
 without_last segments = []
 
--- What a segment is for the normal form: empty or `.` (skipped), `..` (upward), or any other (ordinary).
+-- The kind of a segment for the normal form: empty or `.` (skipped), `..` (upward), or any other (ordinary).
 pub data SegmentKind : Type 0 where
   Skipped Upward Ordinary : SegmentKind
 

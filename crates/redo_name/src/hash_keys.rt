@@ -1,6 +1,6 @@
 //! Names are hashed by SipHash-1-3 with random keys. The toolchain's default hash has a fixed seed, so names can be chosen to
-//! collide. A name is one write to the hash, without its length, because a table holds only names. So SipHash-1-3 is as fast
-//! as the default hash was, which was given one byte at a time.
+//! collide. A name is one write to the hash, without its length, because a table holds only names. This makes SipHash-1-3 as
+//! fast as the default hash was, which was given one byte at a time.
 use std::hash::{BuildHasher, DefaultHasher, RandomState};
 use std::random::RandomSource;
 

@@ -1,4 +1,4 @@
-//! What a text shows, the plan of a run with the limits of its numbers, and command-line arguments as bytes.
+//! The options of a text, the plan of a run with the limits of its numbers, and command-line arguments as bytes.
 #![tactic(auto)]
 
 mod options;

@@ -1,4 +1,4 @@
-/// What a text shows.
+/// The options of a text: which entries it shows, and how.
 #[derive(Clone, Copy, Debug, PartialEq, Eq)]
 pub struct Options {
     /// Whether logs of mentioned targets are shown too, each at its target's first mention.

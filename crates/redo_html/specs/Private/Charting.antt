@@ -1,4 +1,4 @@
--- What the writers of charts ensure.
+-- The postconditions of the writers of charts.
 use Rattle.std.specs.Prelude.{ℕ, List, ◌++◌, codes}
 use Rattle.std.specs.List.{flat_map}
 use Rattle.redo_html.specs.declared.chart.GroupKind.{GroupKind}

@@ -1,4 +1,4 @@
--- What writers in parts ensure.
+-- The postconditions of writers in parts.
 use Rattle.std.specs.Prelude.{◌≡◌, ⊤, ℕ, ◌-◌, fold, ◌<◌, ◌≤◌, Bool, true, false, ◌==◌, ◌||◌, ◌&&◌, not, nat_le, encode_utf8, List, [], ◌∷◌, ◌++◌, map, Option, None, Some, length, take, drop, replicate, slice_index, Result, Ok, Err, if◌then◌else◌}
 use Rattle.std.specs.Int.{w64, trailing_zeros}
 use Rattle.std.specs.List.{flat_map, list_all}
@@ -116,7 +116,7 @@ pub record SkipsSequences (style : Style) (bytes : List ℕ) (next : Style) (len
   pub html : (look : Look) → look.wanted ≡ style → html_from Log (with_wanted look next) (drop len bytes) ≡ html_from Log look bytes
   pub style_left : style_in Log next (drop len bytes) ≡ style_in Log style bytes
 
--- Reading a byte of parameters in this state leads to the other state, whatever follows.
+-- Reading a byte of parameters in this state leads to the other state, before any bytes.
 pub record ReadsParameter (before after : Setting) (value byte next : ℕ) : Type 0 where
   pub bound : next ≤ 999
   pub same : (rest : List ℕ) → fold setting_after after (numbers_from next rest) ≡ fold setting_after before (numbers_from value (byte ∷ rest))

@@ -1,4 +1,4 @@
--- What an index lists, as the entries of a map, and its numbers, as the keys of a set.
+-- The targets of an index, as the entries of a map, and its numbers, as the keys of a set.
 use Rattle.std.specs.Prelude.{◌≡◌, ◌⊎◌, ℕ, List, [], ◌∷◌, ◌++◌, Some, None, length, map}
 use Rattle.redo_index.specs.declared.index_fault.IndexFault.{IndexFault}
 use Rattle.redo_index.specs.declared.index_fault.IndexFault.TheVariants.{OutOfMemory}
@@ -6,7 +6,7 @@ use Rattle.redo_index.specs.declared.index.TargetLog.{TargetLog}
 use Rattle.redo_index.specs.declared.index_entry.IndexEntry.{IndexEntry}
 use Rattle.redo_index.specs.Index.{IsIndex, fault_after, parse_line, numbers_of}
 
--- What an entry of the map lists: the key is the target's name, and the value its log file.
+-- The target of a map's entry: the key is the target's name, and the value its log file.
 abbrev pub entry_of_pair : List ℕ × TargetLog → IndexEntry
 entry_of_pair entry = record { number = entry.1.number; target = entry.0; must_close = entry.1.must_close }
 
@@ -19,7 +19,7 @@ pub record Hold (numbers : List ℕ) (entries : List (List ℕ × TargetLog)) (i
   pub entries_are : entries_of_pairs entries ≡ index
   pub fits : IsIndex index
 
--- Whether these numbers and map entries store `index` and after it what `line` lists. The line isn't rejected.
+-- Whether these numbers and map entries store `index` and after it the entry of `line`. The line isn't rejected.
 pub record HoldMore (index : List IndexEntry) (line : List ℕ) (numbers : List ℕ) (entries : List (List ℕ × TargetLog)) : Type 0 where
   pub last : IndexEntry
   pub form : parse_line line ≡ Some last

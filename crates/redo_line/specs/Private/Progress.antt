@@ -1,4 +1,4 @@
--- The state of a scan: what it stores of the bytes that it consumed.
+-- The state of a scan, as it stores the bytes that it consumed.
 use Rattle.std.specs.Prelude.{◌≡◌, ◌≢◌, ◌⊎◌, ℕ, zero, suc, ◌+◌, ◌-◌, ◌≤◌, ◌^◌, ◌<◌, Bool, true, false, List, [], ◌∷◌, ◌++◌, Option, None, Some, Result, Err, IfOk, IfErr, IfSome, IfNone, drop, length}
 use Rattle.std.specs.List.{slice_range}
 use Rattle.redo_line.specs.declared.entry.Entry.{Entry}

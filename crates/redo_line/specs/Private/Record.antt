@@ -1,4 +1,4 @@
--- What is read from a record.
+-- The fields that are read from a record.
 use Rattle.std.specs.Prelude.{ℕ, List, Option, None, Some, if◌then◌else◌}
 use Rattle.redo_line.specs.Decimal.{number}
 use Rattle.redo_line.specs.Record.{Fields, is_pid}

@@ -5,7 +5,7 @@ use Rattle.redo_html.specs.Style.{setting_after}
 use Rattle.redo_html.specs.Symbols.{is_parameter, numbers_from}
 use Rattle.redo_html.proofs.style.read_parameters.Given as goal
 
--- The bytes so far are parameters. Whatever follows, it leads from here to where it leads after them.
+-- The bytes so far are parameters. Any bytes after them lead from here to the same state as after them.
 abbrev pub invariant-loop-at : goal.invariant-loop-at
 invariant-loop-at l = record {
   bound : l.value ≤ 999;
