@@ -1,4 +1,4 @@
--- What a collector has after events.
+-- The state of a collector after events.
 use Rattle.std.proofs.Common.{◌≡◌, ℕ, zero, suc, ◌+◌, ◌<◌, ◌≤◌, true, false, ℤ, List, [], ◌∷◌, ◌++◌, Option, None, Some, length, refl, sym, ap, ◌∙◌, arith, length-append}
 use Rattle.std.specs.Prelude.{◌==◌, is_some, slice_index_or, slice_set}
 use Rattle.std.specs.List.{flat_map}

@@ -63,7 +63,7 @@ ends_are : (count : ℕ) (events : List Event) (contents : List Contents) → Ar
     → Are (suc count) (LogEnds (suc count) ∷ events) (Nothing ∷ contents)
 ends_are count events contents are = record { levels = are.levels; same = ap (λ es. LogEnds (suc count) ∷ es) are.same }
 
--- What is known of the events after one event, if these events are nested.
+-- The property of the events after one event, if these events are nested.
 abbrev Later : List Event → Type 0
 Later events = (count : ℕ) → open_after_all count events ≡ Some 0 → Are count events (contents_from events)
 

@@ -1,4 +1,4 @@
--- Rows of many logs and lines, and what holds for any number of them.
+-- Rows of many logs and lines, and properties of any number of them.
 use Rattle.std.proofs.Common.{◌≡◌, ℕ, zero, suc, true, false, List, [], ◌∷◌, ◌++◌, Option, None, Some, ℤ, pos, negsuc, map, replicate, refl}
 use Rattle.std.specs.Prelude.{◌==◌, codes, option_map, slice_get, if◌then◌else◌}
 use Rattle.redo_line.specs.declared.entry.Entry.{Entry}
@@ -31,7 +31,7 @@ some_statuses = refl
 
 -- ---- logs
 
--- A thousand logs in a row, and a thousand logs each of which is in the one before. The numbers are from 999 to 0.
+-- A thousand logs in a row, and a thousand logs that are each in the one before. The numbers are from 999 to 0.
 abbrev in_a_row : ℕ → Contents
 in_a_row zero = Nothing
 in_a_row (suc number) = Opened (Requested [] NotOpened) number Nothing (in_a_row number)
@@ -139,7 +139,7 @@ parents :
     ≡ Some None)
 parents = (refl, refl, refl, refl)
 
--- ---- what is seen
+-- ---- visible events
 
 abbrev mention : Event
 mention = Mentioned 1 9 Made (codes "x") NotOpened

@@ -1,4 +1,4 @@
--- A node of which nothing is known: what a position past the end has, and what rows update.
+-- A node without known facts: positions past the end have it, and rows update it.
 use Rattle.std.specs.Prelude.{false, None}
 use Rattle.redo_outline.specs.declared.node.Node.{Node}
 

@@ -48,7 +48,7 @@ logs =
     ∷ closed (negsuc 0) ∷ [])
     ∷ []
 
--- What is known of each log, in the order in which they are opened.
+-- The facts about each log, in the order in which the logs are opened.
 abbrev nodes : List Node
 nodes =
     record {
@@ -206,7 +206,7 @@ two_outlines : map part_of (outline_of quiet (shown_events quiet options (codes 
 unfolding show_log_within show_log
 two_outlines = refl
 
--- What a nested log has is not directly in the log around it, but it counts as below.
+-- The logs in a nested log are not directly in the log around it, but they count as below.
 abbrev nested : List Log
 nested = log (codes "p") (made (codes "q") ∷ []) ∷ log (codes "q") (made (codes "r") ∷ [])
     ∷ log (codes "r") (Text (codes "x") ∷ closed (pos 1) ∷ []) ∷ []
@@ -216,7 +216,7 @@ nested_others : map part_of (outline_of nested (shown_events nested options (cod
 unfolding show_log_within show_log
 nested_others = refl
 
--- A target that is done with status 0 is not to be seen between silent logs. `t` printed something.
+-- A target that is done with status 0 is invisible between silent logs. `t` printed something.
 abbrev between : List Log
 between =
     log (codes "p") (made (codes "q") ∷ Done 9 (pos 0) (codes "q") ∷ made (codes "r") ∷ made (codes "t") ∷ []) ∷ log (codes "q") []

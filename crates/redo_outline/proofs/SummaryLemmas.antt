@@ -1,4 +1,4 @@
--- What a sweep knows after the contents of a log, and the nodes of the logs in them.
+-- The summaries of a sweep after the contents of a log, and the nodes of the logs in them.
 use Rattle.std.proofs.Common.{◌≡◌, ℕ, suc, ◌+◌, Bool, true, false, ℤ, List, [], ◌∷◌, ◌++◌, Option, Some, refl, sym, ap, ◌∙◌, arith, add-one, append_assoc}
 use Rattle.std.specs.Prelude.{◌&&◌, ◌||◌, not, reverse, if◌then◌else◌}
 use Rattle.std.proofs.lemmas.List.{append-nil, reverse-append}
@@ -19,7 +19,7 @@ module _ (logs : List Log) (statuses : List (Option ℤ)) where
   abbrev status : ℕ → Option ℤ
   status number = status_of logs statuses number
 
-  -- What is known of a log that has these contents.
+  -- The summary of a log that has these contents.
   abbrev summary_of : Contents → Summary
   summary_of contents = record {
     below = log_count contents;
@@ -86,7 +86,7 @@ module _ (logs : List Log) (statuses : List (Option ℤ)) where
 
   -- ---- contents
 
-  -- What a sweep has before contents, if it had `nodes` after them.
+  -- The state of a sweep before contents, if it had `nodes` after them.
   abbrev After : Contents → Type 0
   After contents =
       (parent : Option ℕ) (position : ℕ) (opened : List OpenedLog) (outer : List Summary) (nodes : List Node)

@@ -1,4 +1,4 @@
--- What a collector has after the events of some contents.
+-- The state of a collector after the events of some contents.
 use Rattle.std.proofs.Common.{◌≡◌, ℕ, suc, ◌+◌, Bool, true, false, ℤ, List, [], ◌∷◌, ◌++◌, Option, Some, length, refl, sym, ap, ◌∙◌, subst, arith, add-one, append_assoc, length-append}
 use Rattle.std.specs.Prelude.{◌||◌, option_and_then, slice_get}
 use Rattle.std.specs.List.{AllByRecursion}
@@ -79,7 +79,7 @@ innermost_right (inner ∷ outer) right = right.0
 pub are_right : (events : List Event) → AreRight (contents_of events)
 are_right events = innermost_right (contents_from events) (all_right events)
 
--- ---- what is opened, and what brackets add
+-- ---- opened logs, and the states that brackets lead to
 
 -- The logs that are opened in contents. The first one has this position.
 abbrev pub opened_in : Option ℕ → ℕ → Contents → List OpenedLog
@@ -102,7 +102,7 @@ length-opened parent position (Opened event number inside rest) =
           (opened_in parent (suc position + log_count inside) rest),
     )
 
--- What a sweep adds for contents.
+-- The state of a sweep after it added contents.
 abbrev pub contents_added : Contents → Swept → Swept
 contents_added Nothing swept = swept
 contents_added (Shown event rest) swept = others_added (is_visible event) (contents_added rest swept)

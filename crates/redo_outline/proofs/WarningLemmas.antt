@@ -192,7 +192,7 @@ module _ (p : ℕ) (ps : List ℕ) where
 
   -- ---- lines
 
-  -- What is found in a line, or else after it.
+  -- The bytes from the part found in a line on, or else from the part found after it.
   abbrev or_after : Option (List ℕ) → List ℕ → Option (List ℕ)
   or_after None more = from_part more
   or_after (Some suffix) more = Some (suffix ++ line_feed ∷ more)
@@ -297,7 +297,7 @@ arning = codes "arning:"
 no_line_feed : HasNoLineFeed (119 ∷ arning)
 no_line_feed = (omega arith, (omega arith, (omega arith, (omega arith, (omega arith, (omega arith, (omega arith, (omega arith, tt))))))))
 
--- What is left to count: these lines have the rest of the warnings.
+-- Lines left to count: they have the rest of the warnings.
 pub record Counts (bytes left : List ℕ) (count : ℕ) : Type 0 where
   pub texts : List (List ℕ)
   pub free : AllByRecursion HasNoLineFeed texts

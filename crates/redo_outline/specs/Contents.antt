@@ -1,16 +1,16 @@
--- What is shown, as a tree: what each log contains, with the logs that are opened in it.
+-- The shown events as a tree: the contents of each log, with the logs that are opened in it.
 use Rattle.std.specs.Prelude.{ℕ, List, [], ◌∷◌, Option, None, Some}
 use Rattle.redo_view.specs.declared.event.Opening.{Opening}
 use Rattle.redo_view.specs.declared.event.Opening.TheVariants.{NotOpened, OpenedBefore, OpensHere}
 use Rattle.redo_view.specs.Event.{Event}
 use Rattle.redo_view.specs.Event.Event.{Requested, Mentioned, EntryShown, LogEnds}
 
--- What a log contains, in order. The requested targets' logs are contained in the whole.
+-- The contents of a log, in order. The requested targets' logs are contained in the whole.
 pub data Contents : Type 0 where
   Nothing : Contents
-  -- An event that opens no log, and what follows it.
+  -- An event that opens no log, and the contents after it.
   Shown : Event → Contents → Contents
-  -- An event that opens the log with this number, what this log contains, and what follows its end.
+  -- An event that opens the log with this number, the contents of this log, and the contents after its end.
   Opened : Event → ℕ → Contents → Contents → Contents
 
 abbrev pub number_of_opening : Opening → Option ℕ
@@ -44,7 +44,7 @@ abbrev pub with_event : Event → List Contents → List Contents
 with_event (LogEnds depth) contents = Nothing ∷ contents
 with_event event contents = with_first event (opened_number event) contents
 
--- What the logs that are open before these events contain from there on, the innermost log first.
+-- The contents from these events on of the logs that are open before them, the innermost log first.
 abbrev pub contents_from : List Event → List Contents
 contents_from [] = Nothing ∷ []
 contents_from (event ∷ events) = with_event event (contents_from events)

@@ -30,7 +30,7 @@ abbrev pub text_of : Entry → Option (List ℕ)
 text_of (Text line) = Some line
 text_of entry = None
 
--- The text lines of a log: what its target printed.
+-- The text lines of a log: the output of its target.
 abbrev pub texts_of : List Entry → List (List ℕ)
 texts_of entries = filter_map text_of entries
 

@@ -1,4 +1,4 @@
--- What the laws state.
+-- The statements of the laws.
 use Rattle.std.specs.Prelude.{◌≡◌, ℕ, suc, ◌+◌, ◌≤◌, ◌&&◌, not, Bool, List, [], ◌∷◌, ◌++◌, None, Some, length, slice_get, take, if◌then◌else◌}
 use Rattle.std.specs.List.{count_by, list_any, sum_by}
 use Rattle.redo_line.specs.declared.entry.Entry.{Entry}
@@ -33,7 +33,7 @@ is_failed node = is_failure node.status
 abbrev pub fails_first : Node → Bool
 fails_first node = is_failed node && not node.fails_below
 
--- What is counted of a text line. Other entries count nothing.
+-- The count for a text line. Other entries count nothing.
 abbrev pub counted : (List ℕ → ℕ) → Entry → ℕ
 counted count (Text line) = count line
 counted count entry = 0

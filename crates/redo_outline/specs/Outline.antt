@@ -1,4 +1,4 @@
--- The outline of what is shown: each log that is opened, in order, with what is known of it and of the logs in it.
+-- The outline: each log that is opened, in order, with the facts about it and about the logs in it.
 use Rattle.std.specs.Prelude.{ℕ, suc, ◌+◌, Bool, true, false, not, ◌&&◌, ◌||◌, ℤ, List, [], ◌∷◌, ◌++◌, Option, None, Some, length, slice_index_or, if◌then◌else◌}
 use Rattle.std.specs.List.{count_by}
 use Rattle.redo_line.specs.declared.entry.Entry.{Entry}
@@ -44,7 +44,7 @@ has_others (Shown event rest) = is_visible event || has_others rest
 has_others (Opened event number inside rest) = has_others rest
 
 module _ (logs : List Log) (status : ℕ → Option ℤ) where
-  -- What a target printed, and how much.
+  -- The output of a target, and its size.
   abbrev pub printed : ℕ → List (List ℕ)
   printed number = texts_of (entries_at number logs)
 
@@ -78,7 +78,7 @@ module _ (logs : List Log) (status : ℕ → Option ℤ) where
   silent_count (Shown event rest) = if is_visible event then 0 else silent_count rest
   silent_count (Opened event number inside rest) = if not (has_failed number) && is_silent inside then suc (silent_count rest) else 0
 
-  -- What is known of the log with which some contents begin. `parent` is the position of the log that contains it.
+  -- The facts about the log with which some contents begin. `parent` is the position of the log that contains it.
   abbrev pub node_of : Option ℕ → ℕ → Contents → Contents → Node
   node_of parent number inside rest = record {
     number = number;

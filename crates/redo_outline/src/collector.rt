@@ -1,8 +1,8 @@
-//! Collects from events what an outline needs.
+//! Collects the facts for an outline from events.
 //!
-//! It is a form that writes nothing. Each of its steps is total, so what it has collected can be stated for any list of
-//! events. It stores the opened logs with their parents, the first status of each target, and *brackets*: the beginnings and
-//! ends of logs, and whether anything else is visible between them.
+//! It is a form that writes nothing. Each of its steps is total, so its state can be defined for any list of events. It
+//! stores the opened logs with their parents, the first status of each target, and *brackets*: the beginnings and ends of
+//! logs, and whether anything else is visible between them.
 ghost use Rattle.std.specs.Prelude.{◌≡◌, ℕ, [], IfOk, OnOk};
 ghost use Rattle.redo_outline.specs.Private.Collecting.{after_event, entry_shown, initial, line_shown, log_begun, log_ended, parent_of, with_status};
 ghost use Rattle.redo_outline.specs.Private.Sweeping.{collected_nodes};
@@ -32,8 +32,8 @@ pub struct Bracket {
     pub after_others: bool,
 }
 
-/// A form that writes nothing, and collects which logs are opened, how they are nested, what else is visible between them,
-/// and which statuses other logs have for their targets.
+/// A form that writes nothing, and collects which logs are opened, how they are nested, whether anything else is visible
+/// between them, and which statuses other logs have for their targets.
 #[derive(Drop)]
 pub struct Collector<'a> {
     table: &'a LogTable,
@@ -109,7 +109,6 @@ impl<'a> Collector<'a> {
         }
     }
 
-    // Begins the log with this number.
     fn begin_log(&mut self, number: u32) -> Result<(), AllocError>
         ensures { OnOk result (self.new ≡ log_begun number self.old) }
     {

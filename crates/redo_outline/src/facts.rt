@@ -12,7 +12,7 @@ use memchr::memchr;
 use memchr::memmem::Finder;
 use redo_logs::{EntryRef, LogTable};
 
-/// What is known of a log by itself. A count that exceeds 2^64 - 1 is 2^64 - 1.
+/// The facts about a log by itself. A count that exceeds 2^64 - 1 is 2^64 - 1.
 #[derive(Clone, Copy)]
 pub struct LogFacts {
     pub lines: u64,

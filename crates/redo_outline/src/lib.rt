@@ -1,12 +1,14 @@
-//! The outline of what is shown: which logs are opened, in which order, how they are nested, and facts of each one.
+//! The outline: which logs are opened, in which order, how they are nested, and facts about each one.
 //!
-//! A page shows at its top, and beside each target, what is known only at the end: how many logs are below, how many
-//! warnings they have, which targets failed. So what is shown is read once before it is written, for its [`Outline`].
+//! A page shows at its top, and beside each target, facts that are known only at the end: how many logs are below, how
+//! many warnings they have, which targets failed. Therefore the logs are walked once before the page is written, for
+//! its [`Outline`].
 //!
 //! # Terms
 //!
-//! - *Contents*: what is shown, as a tree. `specs/Contents.antt` makes this tree of events; a law says that it has each event, in order.
-//! - *Node*: what is known of a log that is opened. Its *position* is the number of nodes before it.
+//! - *Contents*: the shown events, as a tree. `specs/Contents.antt` makes this tree of events; a law says that it has each event, in
+//!   order.
+//! - *Node*: the facts about a log that is opened. Its *position* is the number of nodes before it.
 //! - *Silent*: a target that printed nothing and didn't fail, and so each target below it.
 #![tactic(auto)]
 

@@ -1,9 +1,9 @@
-//! What is known of a log that is opened.
+//! The facts about a log that is opened.
 //!
 //! It says how long its target took, and when it ended, if `set_times` was called. `Outline::new` can't know this, because
 //! entries have no times.
 
-/// What is known of a log that is opened, and of the logs in it. A count that exceeds 2^64 - 1 is 2^64 - 1.
+/// The facts about a log that is opened, and about the logs in it. A count that exceeds 2^64 - 1 is 2^64 - 1.
 #[derive(Clone, Copy, Debug, PartialEq, Eq)]
 pub struct Node {
     /// The number of the log.

@@ -1,4 +1,4 @@
-//! The outline of what is shown.
+//! The outline of the shown logs.
 ghost use Rattle.std.specs.Prelude.{◌≡◌, ◌==◌, true, None, IfOk, map, position};
 ghost use Rattle.std.specs.List.{list_all};
 ghost use Rattle.redo_logs.specs.Logs.{has_ended};
@@ -38,7 +38,8 @@ impl Model for Outline {
 }
 
 impl Outline {
-    /// Makes the outline of what is shown of the requested targets, each of which must have a log. All logs must have ended.
+    /// Makes the outline of the logs that the requested targets open. Each of these targets must have a log. All logs must
+    /// have ended.
     pub fn new(
         alloc: Global,
         table: &LogTable,

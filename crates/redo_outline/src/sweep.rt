@@ -1,7 +1,8 @@
-//! From brackets to nodes: adds brackets from the last one to the first, so that what a log contains is known before its opening.
+//! From brackets to nodes: adds brackets from the last one to the first, so that the contents of a log are known before its
+//! opening.
 //!
-//! So its node is complete then, and so is what follows it. The time is linear, however logs are nested. The number of nodes
-//! bounds each count that isn't saturated (`AreCounted`), so no sum overflows.
+//! When the opening is added, the node is complete. The time is linear, however logs are nested. The number of nodes bounds
+//! each count that isn't saturated (`AreCounted`), so no sum overflows.
 ghost use Rattle.std.specs.Prelude.{◌≡◌, ◌+◌, ◌<◌, ◌^◌, None, OnOk, reverse, slice_index_or};
 ghost use Rattle.redo_outline.specs.Facts.{is_failure};
 ghost use Rattle.redo_outline.specs.Private.Sweeping.{bracket_added, end_added, node_from, nothing_left, opening_added};
@@ -14,7 +15,7 @@ use redo_logs::LogTable;
 use std::alloc::{AllocError, Global};
 use std::marker::Model;
 
-/// What is known of a log from some event in it on.
+/// The summary of a log from some event in it on.
 #[derive(Clone, Copy)]
 pub struct Summary {
     /// The number of logs that are opened there, at any depth.
@@ -34,7 +35,7 @@ pub struct Summary {
 }
 
 impl Summary {
-    // Returns what is known of a log in which nothing follows.
+    // Returns the summary of a log in which nothing follows.
     fn nothing() -> Summary
         ensures { result ≡ nothing_left }
     {
@@ -60,7 +61,8 @@ impl Summary {
         }
     }
 
-    // Returns what is known from the opening of a log on, from its node and its contents. `self` follows its end.
+    // Returns the summary from the opening of a log on, from its node and its contents. `self` is the summary after its
+    // end.
     fn with_log(self, node: &Node, inside: Summary) -> Summary
         requires below { inside.below + self.below + 1 < 2 ^ 64 }
         requires children { self.children + 1 < 2 ^ 64 }
@@ -91,7 +93,8 @@ fn is_failure(status: Option<i32>) -> bool
     }
 }
 
-// Returns the node of a log, from its facts, its target's status, its contents and what follows it.
+// Returns the node of a log, from its facts, its target's status, and the summaries of its contents and of the rest
+// after it.
 fn node_from(
     log: OpenedLog,
     facts: &LogFacts,

@@ -194,7 +194,7 @@ module _ (build : Build) (cap : ℕ) where
   limit_found first (suc count) (suc k) below =
       limit_found (suc first) count k (omega (arith, below)) ∙ ap (λ (n : ℕ). limit_if build cap (position_of build.nodes n)) (omega arith)
 
--- What is left of a log is at most what it may show.
+-- The rest of a log has at most the bytes that it may show.
 abbrev Bounds : Type 0
 Bounds = (limit : Limit) (lines : List (List ℕ)) → text_size (head_and_tail limit lines) ≤ limit.head + (text_size lines - limit.tail)
 
@@ -293,12 +293,12 @@ module _ (build : Build) where
       let others = all_sizes around (suc position + log_count inside) rest in
       omega (arith, both, inner, others)
 
--- ---- what each log may show
+-- ---- the bytes that each log may show
 
 abbrev printed_size : List Log → ℕ → ℕ
 printed_size logs number = text_size (facts.texts_of (entries_at number logs))
 
--- What the logs that are opened in some contents may show.
+-- The bytes that the logs that are opened in some contents may show.
 abbrev most : List Log → Option ℕ → Contents → ℕ
 most logs cap Nothing = 0
 most logs cap (Shown event rest) = most logs cap rest

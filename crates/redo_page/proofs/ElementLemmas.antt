@@ -1,4 +1,4 @@
--- What the elements of logs contain.
+-- The contents of the elements of logs.
 use Rattle.std.proofs.Common.{◌≡◌, ℕ, suc, ◌+◌, ◌<◌, ◌≤◌, ◌⊎◌, inl, inr, Bool, true, false, List, [], ◌∷◌, ◌++◌, Option, None, Some, refl, sym, ◌∙◌, ap, subst, arith}
 use Rattle.std.specs.Prelude.{◌&&◌, ◌==◌, bytes_eq, nat_le, if◌then◌else◌}
 use Rattle.std.specs.List.{AllByRecursion, filter, flat_map}
@@ -274,7 +274,7 @@ located around position (Opened event number inside rest) front back before firs
 abbrev end : Part
 end = MarkupPart markup.EndDetails
 
--- If the elements that are open before some tags end in them, what follows begins with none open.
+-- If the elements that are open before some tags end in them, none is open after them.
 all_closed : (names tags more : List (List ℕ)) → nests_in names tags ≡ true → nests_in names (tags ++ more) ≡ nests_in [] more
 all_closed [] [] more nests = refl
 all_closed (name ∷ names) [] more nests = absurd (cc)
@@ -417,7 +417,7 @@ module _ (build : Build) (all : List PositionedLine) where
     abbrev in_log : List Part
     in_log = contents_parts build (level_of build level position) (suc position) pending.Nothing inside
 
-    -- What is between the tags of the element.
+    -- The parts between the tags of the element.
     abbrev start_inside : List Part
     start_inside = heading ++ ((MarkupPart markup.EndSummary ∷ MarkupPart markup.Unordered ∷ []) ++ moved_parts build position)
 

@@ -25,7 +25,7 @@ module _ (position : ℕ) where
   abbrev others : List Stretch → List Part
   others stretches = flat_map (stretch_parts position) stretches
 
-  -- The parts of stretches, of which the first goes on if it is of the same kind as the open one.
+  -- The parts of stretches. The first one goes on if it is of the same kind as the open one.
   abbrev continued : OpenStretch → List Stretch → List Part
   continued Nothing stretches = others stretches
   continued Shown [] = MarkupPart EndPre ∷ []

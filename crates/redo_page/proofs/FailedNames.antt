@@ -193,7 +193,7 @@ module _ (view : View) where
       → (rows ++ MarkupPart markup.EndOrdered ∷ []) ++ (others ++ rest) ≡ (rows ++ (MarkupPart markup.EndOrdered ∷ others)) ++ rest
   rows_split rows others rest = simp (append_assoc)
 
-  -- A list of targets, and what follows it.
+  -- A list of targets, and the parts after it.
   list_then : (link : ℕ → Markup) (causes : Bool) → LinksTell link → (list : Markup)
       → ((after : List Part) → IsList view.logs view.nodes link after → TellsItsTarget view.logs view.nodes list after)
       → (positions : List ℕ) (others : List Part) → TellingOf others
@@ -224,7 +224,7 @@ module _ (view : View) where
       list_then (λ position. markup.OutputLink position) true (article_link_tells view.logs view.nodes) markup.Ordered (λ after is. inl is)
       (listed_of listed.Articles) [] (none_tell view.logs view.nodes)
 
-  -- How many targets aren't listed, and what ends more targets.
+  -- How many targets aren't listed, and the end of more targets.
   abbrev unlisted : Listed → List Part
   unlisted these =
       MarkupPart markup.QuietParagraph ∷ TextPart AND.now ∷ NumberPart (count_of view (Unlisted these)) ∷ TextPart MORE_IN_TREE.now
@@ -379,7 +379,7 @@ block_rows inner place block = only_rows inner place block.now
 abbrev pub template_rows : Template → Bool
 template_rows = block_rows (block_rows (block_rows (block_rows none_refer))) Outside
 
--- What a template shows for the build of a view.
+-- The parts of a template for the build of a view.
 pub record TellsOfViews {B : Type 0} (parts : B → View → List Part) (only : Place → B → Bool) : Type 0 where
   pub tells : (place : Place) (block : B) → only place block ≡ true → (view : View) → HasValues view → IsNamedRow place view
       → Tells view.logs view.nodes (parts block view)
@@ -419,7 +419,7 @@ module _ {T B : Type 0} (text_of : T → List ℕ) (inner : B → View → List 
   abbrev all_shown : List (Item T B) → List Part
   all_shown items = parts_of_items text_of inner view items
 
-  -- What an item that passes a test shows.
+  -- The parts of an item that passes a test.
   record Step : Type 0 where
     test : Item T B → Bool
     parts : List Part

@@ -66,7 +66,7 @@ module _ (nodes : List Node) where
       → sorted ≡ sort (failure_cmp nodes) positions
   are_sorted positions sorted moved up = sorted_same (failure_cmp nodes) failure_cmp_total failure_cmp_exact positions sorted moved up
 
-  -- ---- what holds of all positions
+  -- ---- properties of all positions
 
   insert-passes : (passes : ℕ → Bool) (position : ℕ) (positions : List ℕ) → passes position ≡ true → list_all passes positions ≡ true
       → list_all passes (insert_sorted (failure_cmp nodes) position positions) ≡ true

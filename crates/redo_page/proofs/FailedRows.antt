@@ -47,7 +47,7 @@ logs =
     ∷ log (codes "d") (Text (27 ∷ codes "[31mone") ∷ Text (codes "two") ∷ [])
     ∷ []
 
--- What is known of log `number`. It is in the log at `parent`.
+-- The facts about log `number`. It is in the log at `parent`.
 abbrev node : ℕ → Option ℕ → Option ℤ → ℕ → ℕ → Bool → Node
 node number parent status lines below fails =
     record no_node {
@@ -70,7 +70,7 @@ c = node 2 (Some 0) (Some (pos 2)) 0 0 false
 abbrev html : List Part → List ℕ
 html parts = flat_map part_html parts
 
--- What a page without times says of some targets.
+-- The view of some targets, for a page without times.
 abbrev view : List Log → List Node → View
 view some nodes = build_view [] [] [] some nodes
     (record {
@@ -104,7 +104,7 @@ no_failure : failed logs (node 0 None (Some (pos 0)) 0 1 false ∷ node 1 (Some 
 unfolding failed_parts
 no_failure = refl
 
--- A target that isn't closed makes no section.
+-- An unfinished target makes no section.
 no_section : take 1 (failed logs (node 0 None (Some (pos 0)) 0 1 false ∷ node 1 (Some 0) None 2 0 false ∷ [])) ≡ []
 unfolding failed_parts
 no_section = refl
@@ -117,7 +117,7 @@ one_failure :
 unfolding failed_parts cause_of_node cause_parts cut_to begins_with article_parts article_of path_parts output_parts whole_parts in_tree_parts symbols_after first_symbol symbol_len is_sequence sequence_len sequence_numbers first_code_point code_point_len is_unprintable notation unprintable_text number_text encode_utf8 digits html_from
 one_failure = refl
 
--- Below the article, there is a list of those above, and then one of those that aren't closed.
+-- Below the article, there is a list of those above, and then one of unfinished targets.
 one_unclosed :
     bytes_eq (html (failed logs (node 0 None (Some (pos 3)) 0 2 true ∷ b ∷ node 3 (Some 0) None 2 0 false ∷ [])))
     (codes "<section id=\"failed\" aria-labelledby=\"h-failed\"><h2 id=\"h-failed\">What failed</h2><article id=\"f1\"><h3><bdi>b</bdi> <strong class=\"x\">exit 1</strong></h3><p class=\"meta\"><bdi>all</bdi>"
@@ -255,7 +255,7 @@ all_listed : bytes_eq (numbers 200) (200 ∷ 200 ∷ 200 ∷ []) ≡ true
 unfolding cause_of_node cause_parts
 all_listed = refl
 
--- What follows the items: of each one there are eleven parts.
+-- The parts after the items. Each item has eleven parts.
 one_unlisted :
     list_all (λ list. bytes_eq (html (drop 2206 (in_list list (many 201))))
     (codes "</ol><p class=\"quiet\">and 1 more, in the tree</p></details>")) lists
@@ -265,7 +265,7 @@ one_unlisted = refl
 
 -- ---- which targets are named
 
--- The first one failed and so did the second one, which is in it. The third one isn't closed; the fourth one is made.
+-- The first one failed and so did the second one, which is in it. The third one is unfinished; the fourth one is made.
 abbrev nodes : List Node
 nodes = node 0 None (Some (pos 2)) 0 3 true ∷ b ∷ node 2 (Some 0) None 0 0 false ∷ node 3 (Some 0) (Some (pos 0)) 0 0 false ∷ []
 

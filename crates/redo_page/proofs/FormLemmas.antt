@@ -1,4 +1,4 @@
--- What the form of a tree writes.
+-- The bytes that the form of a tree writes.
 use Rattle.std.proofs.Common.{◌≡◌, ℕ, ◌+◌, ◌<◌, ◌≤◌, min, ⊎_elim, Bool, true, false, List, [], ◌∷◌, ◌++◌, Option, Result, Ok, Err, length, take, refl, sym, ◌∙◌, ap, arith}
 use Rattle.std.specs.Prelude.{if◌then◌else◌}
 use Rattle.std.specs.List.{flat_map}
@@ -151,7 +151,7 @@ module _ (logs : List Log) (options : Options) (nodes : List Node) (positions : 
       (contents_parts (record { logs = logs; options = options; nodes = nodes; articles = articles nodes }) top_level 0 pending.Nothing
       (contents_of events) ++ section_end))
 
--- The same without the middle of long logs.
+-- A tree without the middle of long logs.
 module _ (logs : List Log) (options : Options) (nodes : List Node) (positions : List ℕ)
     (stay : (limits : List Limit) (events : List Event) → StayInTree limits events)
     (are : (limits : List Limit) (events : List Event) → TreeIsTrimmed limits events)

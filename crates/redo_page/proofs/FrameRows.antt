@@ -37,7 +37,7 @@ number value = NumberPart value
 
 -- ---- the verdict
 
--- What is known of a target that is in the log at `parent`.
+-- The facts about a target that is in the log at `parent`.
 abbrev node : Option ℕ → Option ℤ → Bool → Node
 node parent status fails = record no_node { parent = parent; status = status; fails_below = fails }
 
@@ -94,7 +94,7 @@ titles_are = (refl, refl, refl, refl)
 abbrev logs : List Log
 logs = record { target = codes "a"; entries = []; state = Ended } ∷ record { target = codes "b"; entries = []; state = Ended } ∷ []
 
--- What is known of times: a window, how long it took, and how many recipes have known and unknown times.
+-- The facts about times: a window, how long it took, and how many recipes have known and unknown times.
 abbrev facts : Option Window → ℕ → ℕ → ℕ → Facts
 facts window took recipes marks = record {
   window = window;

@@ -69,7 +69,7 @@ reference (MeterPart width) = []
 abbrev pub references : List Part → List Part
 references parts = flat_map reference parts
 
--- What is found in references is found in all parts.
+-- Items that are found in references are found in all parts.
 pub in_references : {X : Type 0} (f : Part → List X) → ((part : Part) → flat_map f (reference part) ≡ f part) → (parts : List Part)
     → flat_map f parts ≡ flat_map f (references parts)
 in_references f each [] = refl
@@ -93,8 +93,8 @@ section_part (MarkupPart markup) = by markup
     by markup = refl
 section_part part = refl
 
--- What is referred to in parts: the ids of targets and of articles in them, and tags of sections, and charts. Links lead to targets below `count`, and to
--- these articles.
+-- The references in parts: the ids of targets and of articles in them, and tags of sections, and charts. Links lead to targets below
+-- `count`, and to these articles.
 pub record Refers (count : ℕ) (articles : List ℕ) (parts : List Part) (targets ids : List ℕ) (sections : List Part) : Type 0 where
   pub target_ids_are : target_ids parts ≡ targets
   pub article_ids_are : article_ids parts ≡ ids
@@ -102,7 +102,7 @@ pub record Refers (count : ℕ) (articles : List ℕ) (parts : List Part) (targe
   pub article_links_lead : list_all (is_among articles) (article_links parts) ≡ true
   pub sections_are : flat_map section parts ≡ sections
 
--- The same without tags of sections and without charts.
+-- The references, without tags of sections and without charts.
 abbrev pub Refer : ℕ → List ℕ → List Part → List ℕ → List ℕ → Type 0
 Refer count articles parts targets ids = Refers count articles parts targets ids []
 

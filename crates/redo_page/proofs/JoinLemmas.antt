@@ -9,7 +9,7 @@ pub number_is : (number : ℕ) → number < 2 ^ 64 → decimal number ≡ number
 unfolding number_text
 number_is number below = sym (cond-true _ _ _ (lt-ltb number 0x10000000000000000 below))
 
--- The same text in other words.
+-- A text that is equal to the result.
 pub text_as : {E : Type 0} (result : Result (Vec ℕ) E) (one other : List ℕ) → one ≡ other → IfOk result (λ text. text.items ≡ one)
     → IfOk result (λ text. text.items ≡ other)
 text_as result one other same is = subst (λ t. IfOk result (λ text. text.items ≡ t)) same is

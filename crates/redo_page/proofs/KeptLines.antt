@@ -1,4 +1,4 @@
--- What is left of long logs: their heads and their tails.
+-- The rest of long logs: their heads and their tails.
 use Rattle.std.proofs.Common.{◌≡◌, ℕ, zero, suc, ◌+◌, ◌<◌, ◌≤◌, ◌^◌, Bool, true, false, ℤ, List, [], ◌∷◌, ◌++◌, Option, None, Some, get_or, length, map, max, refl, sym, ◌∙◌, ap, subst, arith}
 use Rattle.std.specs.Prelude.{◌&&◌, ◌==◌, ◌||◌, nat_lt, not, if◌then◌else◌}
 use Rattle.std.specs.List.{AllByRecursion}
@@ -54,7 +54,7 @@ number_at [] position = refl
 number_at (node ∷ nodes) zero = refl
 number_at (node ∷ nodes) (suc position) = number_at nodes position
 
--- The same number of logs is opened.
+-- Trimmed contents open the same number of logs.
 abbrev pub KeepCount : List Limit → Contents → Type 0
 KeepCount limits contents = log_count (trim limits [] contents) ≡ log_count contents
 
@@ -89,7 +89,7 @@ module _ (logs : List Log) (limits : List Limit)
     (keep : (number : ℕ) (contents : Contents) (outer : List Gauge) → FitsInto64Bits (limit_of limits number)
     → lines_in (trim limits (gauge_of limits number ∷ outer) contents) ≡ head_and_tail (limit_of limits number) (lines_in contents))
     (fit : (number : ℕ) → FitsInto64Bits (limit_of limits number)) where
-  -- What is left of a log.
+  -- The rest of a log.
   abbrev pub left_of : ℕ → List (List ℕ)
   left_of number = head_and_tail (limit_of limits number) (lines_of_log number logs)
 

@@ -66,7 +66,7 @@ long_title = refl
 
 -- ---- lines with errors
 
--- Of words that often are in such lines, these are none.
+-- None of these words counts, though such lines often have them.
 other_words :
     map begins_with_error
     (codes "denied" ∷ codes "abort" ∷ codes "aborted" ∷ codes "killed" ∷ codes "exception" ∷ codes "panic" ∷ codes "undefined symbol"
@@ -80,7 +80,7 @@ long_line : is_error (replicate 6000 46 ++ codes " error:") ≡ true
 unfolding begins_with
 long_line = refl
 
--- Each byte above 32 is to be seen, also 127 and those above.
+-- Each byte above 32 is visible, including 127 and the bytes above it.
 visible : filter (is_visible Outside) (range_with_len 0 256) ≡ range_with_len 33 223
 visible = refl
 
@@ -89,7 +89,7 @@ late_error : cause_of (replicate 300 (codes "a") ++ codes "error 1" ∷ codes "e
 unfolding begins_with
 late_error = refl
 
--- ---- what is cut
+-- ---- cut lines
 
 long_cut : length (cut_to 10 (replicate 100001 120)) ≡ 10
 unfolding cut_to begins_at symbol_len is_sequence sequence_len code_point_len
@@ -101,7 +101,7 @@ many_left_out = refl
 
 -- ---- lists
 
--- A target that isn't closed may have printed much.
+-- An unfinished target may have printed much.
 unclosed : is_unclosed (record no_node { parent = Some 0; lines = 100000; bytes = 10000000 }) ≡ true
 unclosed = refl
 
@@ -132,7 +132,7 @@ commands = (refl, refl)
 abbrev span : Span
 span = record { began = 0; position = 0; ended = 9; failed = false }
 
--- What is known of times, by the numbers of callers and of marks.
+-- The facts about times, by the numbers of callers and of marks.
 abbrev facts : ℕ → ℕ → Facts
 facts callers marks = record {
   window = None;
@@ -200,7 +200,6 @@ large_facts :
 unfolding duration_words
 large_facts = (refl, refl, refl, refl, refl, refl)
 
--- The texts in some parts.
 abbrev texts_of : Part → List (List ℕ)
 texts_of (TextPart text) = text ∷ []
 texts_of part = []

@@ -48,7 +48,7 @@ caps_are = (refl, refl, refl, refl, refl)
 uneven_cap_is : highest_cap 100 (node 100 ∷ node 30 ∷ node 10 ∷ node 8 ∷ []) ≡ 52
 uneven_cap_is = refl
 
--- A budget of 0 allows all bytes. So does one into which all logs fit, even exactly.
+-- A budget of 0 allows all bytes, and so does one into which all logs fit, even exactly.
 no_caps_are :
     (cap_for 0 (node 9999 ∷ []) ≡ None) × (cap_for 300 (node 200 ∷ node 100 ∷ []) ≡ None) × (cap_for 5000 [] ≡ None)
 no_caps_are = (refl, refl, refl)

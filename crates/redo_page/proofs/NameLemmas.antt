@@ -50,7 +50,7 @@ module _ (logs : List Log) (nodes : List Node) where
   abbrev pub Tell : List Part → Type 0
   Tell parts = FromEach TellHere parts
 
-  -- Parts that tell their targets, whatever follows.
+  -- Parts that tell their targets before any parts.
   pub record Tells (parts : List Part) : Type 0 where
     pub before : (rest : List Part) → Tell rest → Tell (parts ++ rest)
 

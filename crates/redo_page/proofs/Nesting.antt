@@ -31,7 +31,7 @@ then_lead {before} {middle} {after} {parts} {others} first last = record {
       ∙ first.leads around (flat_map markup_tag others ++ tags) ∙ last.leads around tags;
 }
 
--- The same with more elements open around.
+-- Parts whose elements end in them, with more elements open around.
 pub lead_in : {parts : List Part} (outer : List (List ℕ)) → Nest parts → Leads outer parts outer
 lead_in outer nest = record { leads = λ around tags. nest.leads (outer ++ around) tags }
 

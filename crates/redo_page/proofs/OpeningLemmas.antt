@@ -181,7 +181,7 @@ contents_named logs options requested =
     by [] all = tt
     by (inner ∷ outer) all = all.0
 
--- ---- what is left of long logs
+-- ---- the rest of long logs
 
 shown_all_named : (logs : List Log) (events : List Event) (rest : Contents) → AllName logs events → AreNamed logs rest
     → AreNamed logs (with_shown_all events rest)

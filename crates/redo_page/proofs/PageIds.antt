@@ -63,7 +63,7 @@ among_numbers first (suc count) number from below =
     by true is later = refl
     by false is later = let other : number ≡ first → ⊥ = eqb-false number first is in later (omega arith)
 
--- What is found in tags of sections is found in all parts.
+-- Items that are found in tags of sections are found in all parts.
 in_sections : {X : Type 0} (f : Part → List X) → ((part : Part) → flat_map f (section part) ≡ f part) → (parts : List Part)
     → flat_map f parts ≡ flat_map f (flat_map section parts)
 in_sections f each [] = refl
@@ -203,7 +203,7 @@ module _ (have : HavePositions) (lead : BarsLead) (keep : KeepLogs) (request : R
   abbrev events : List Event
   events = page_events request logs requested
 
-  -- What the tree contains.
+  -- The contents of the tree.
   abbrev shown : Contents
   shown = page_contents request logs requested
 

@@ -1,4 +1,4 @@
--- Parts that are written in stages, and what templates say.
+-- Parts that are written in stages, and the parts of templates.
 use Rattle.std.proofs.Common.{◌≡◌, ℕ, ◌+◌, ◌≤◌, List, ◌++◌, Option, Result, Ok, Err, length, take, min, refl, sym, ◌∙◌, ap, subst, arith}
 use Rattle.std.specs.Prelude.{IsErrAnd}
 use Rattle.std.specs.List.{flat_map}
@@ -56,7 +56,6 @@ no_memory output text (Err OutOfMemory) is = (0, append_nothing output)
 
 -- ---- parts in stages
 
--- The first stage failed.
 pub stage_fails : (before after : Option Output) (first second : List Part) (fault : FormFault)
     → FormWrites before after (flat_map part_html first) (Err fault)
     → FormWrites before after (flat_map part_html (first ++ second)) (Err fault)
@@ -72,7 +71,7 @@ next_stage before middle after first second done wrote more =
     subst (λ text. FormWrites before after text done) (sym (flat_map-append part_html first second))
     (after_stage before middle after (flat_map part_html first) (flat_map part_html second) done wrote more)
 
--- ---- what templates say
+-- ---- the parts of templates
 
 module _ (request : Request) (options : Options) (logs : List Log) (requested : List (List ℕ)) (nodes : List Node) (texts : Texts)
     (facts : Facts) (roots dependents unclosed : List ℕ) where

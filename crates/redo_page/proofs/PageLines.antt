@@ -103,7 +103,7 @@ line_left : (logs : List Log) (left : LinesLeft) (depth : ℕ) (line : List ℕ)
 line_left logs left depth line lines [] are = absurd are
 line_left logs left depth line lines (inner ∷ outer) are = (ap (λ t. line ∷ t) are.0, are.1, are.2)
 
--- What is known of the events after one event.
+-- The property of the events after one event.
 abbrev Later : List Log → List Event → Type 0
 Later logs events = (left : LinesLeft) → lines_left_after logs left events ≡ Some [] → AreLeft logs left (contents_from events)
 
@@ -336,7 +336,7 @@ module _ (lines : ℕ → List (List ℕ)) (logs : List Log) (status : ℕ → O
           ∙ append-nil (direct_lines inside) ∙ have.1
       by (suc j) below inner others = split (position + suc j) ∙ later j (nat_lt j (log_count inside)) refl below inner others
 
--- ---- what a log printed
+-- ---- the output of a target
 
 entry_texts : (entries : List Entry) → facts.texts_of entries ≡ text_lines entries
 entry_texts [] = refl
@@ -351,7 +351,7 @@ printed_lines number [] = refl
 printed_lines zero (log ∷ logs) = entry_texts log.entries
 printed_lines (suc number) (log ∷ logs) = printed_lines number logs
 
--- The lines at a position of the tree are what the target at this position printed.
+-- The lines at a position of the tree are the output of the target at this position.
 pub lines_of_position : (logs : List Log) (status : ℕ → Option ℤ) (contents : Contents) (position : ℕ) → HaveLines logs contents
     → position < length (nodes_of logs status None 0 contents)
     → facts.texts_of (entries_at (get_or (nodes_of logs status None 0 contents) position no_node).number logs)

@@ -71,7 +71,7 @@ abbrev before_tiles : List Part
 before_tiles =
     MarkupPart markup.SummarySection ∷ MarkupPart markup.SummaryHeading ∷ TextPart SUMMARY.now ∷ MarkupPart markup.EndHeading ∷ []
 
--- The tiles of the summary, and what is before and after them.
+-- The tiles of the summary, and the parts before and after them.
 abbrev in_tiles : Part → Part → Part → List Part → List Part → List Part → List Part → List Part → List Part
 in_tiles targets roots warnings dependents size took timed rest =
     before_tiles

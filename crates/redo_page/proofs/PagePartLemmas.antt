@@ -52,7 +52,7 @@ part_among f (other ∷ numbers) number among = by (part_among f numbers number)
     }
     by later (inr found) = part_later (f other) (later found)
 
--- What the section shows after some items.
+-- The parts of the section after some items.
 abbrev after : View → ℕ → List Part
 after view count = parts_of_items (λ text. text.now) (block_parts (block_parts nothing)) view (drop count SECTION.now)
 

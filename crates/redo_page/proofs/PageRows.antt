@@ -112,7 +112,7 @@ module _ (logs : List Log) (nodes : List Node) (link : ℕ → Markup) (after : 
             ),
           )
 
--- ---- what is asked
+-- ---- the parameters
 
 abbrev request : List ℕ → Bool → Bool → Request
 request title unchanged locks = record {
@@ -158,7 +158,7 @@ options_are :
     ≡ record { recursive = true; unchanged = false; details = true; debug_locks = true; debug_pids = false })
 options_are = (refl, refl)
 
--- ---- what is shown
+-- ---- the contents
 
 abbrev made : List Log
 made = log (codes "a") (Text (codes "x") ∷ Mention 9 Made (codes "b") ∷ Closing 9 (pos 0) ∷ []) ∷ log (codes "b") (Closing 9 (pos 0) ∷ [])
@@ -284,7 +284,7 @@ contents_are :
 unfolding show_log show_log_within
 contents_are = (refl, refl, refl, refl, refl)
 
--- What is requested is shown, with the text lines of all shown logs.
+-- The tree shows the requested targets, with the text lines of all shown logs.
 made_contents :
     page_contents (request [] false false) made (codes "a" ∷ [])
     ≡ Opened (Requested (codes "a") (OpensHere 0)) 0
@@ -391,7 +391,7 @@ failed_page :
 unfolding page_parts top_parts summary_parts size_words footer_parts failed_parts article_parts article_of path_parts in_tree_parts output_parts whole_parts is_safe number_text digits show_log show_log_within
 failed_page = refl
 
--- The parts of these pages in short: where what begins, the title, the first words, and the command.
+-- The parts of these pages in short: where each section begins, the title, the first words, and the command.
 abbrev milestone : Part → List Markup
 milestone (MarkupPart markup.Head) = markup.Head ∷ []
 milestone (MarkupPart markup.Header) = markup.Header ∷ []

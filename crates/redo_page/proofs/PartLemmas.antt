@@ -6,7 +6,7 @@ use Rattle.redo_html.specs.Html.{read, text_of}
 use Rattle.redo_html.specs.Laws.{ReadsAs}
 use Rattle.redo_html.specs.Parts.{Part, part_html, part_text, part_tokens}
 
--- What is read of parts, if nothing follows them.
+-- The tokens of parts, if nothing follows them.
 pub parts_alone : (parts : List Part) → ReadsAs (flat_map part_html parts) (flat_map part_tokens parts)
     → read (flat_map part_html parts) ≡ flat_map part_tokens parts
 parts_alone parts reads = sym (ap read (append-nil (flat_map part_html parts))) ∙ reads [] ∙ append-nil (flat_map part_tokens parts)

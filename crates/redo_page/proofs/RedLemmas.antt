@@ -107,7 +107,7 @@ module _ (failed unfinished : Bool) (view : View) (rest : List Part) (verdict : 
       by false true = refl
       by false false = refl
 
--- What follows the head of a page.
+-- The parts after the head of a page.
 abbrev pub page_rest : Request → List Log → List (List ℕ) → List Part
 page_rest request logs requested =
     let view = page_view request logs requested in

@@ -254,12 +254,11 @@ milestones_are :
 unfolding summary_parts duration_words size_words tenths_words
 milestones_are = (refl, refl, refl, refl, refl, refl)
 
--- The words of some parts.
 abbrev words_of : Part → List (List ℕ)
 words_of (TextPart text) = text ∷ []
 words_of part = []
 
--- A build of which the times of one target of three are unknown, and in which nothing failed with another target.
+-- A build of three targets. The times of one are unknown, and no target failed with another one.
 few_words_are :
     flat_map words_of (summary_parts (build_view [] [] [] (log (codes "a") ∷ []) (node 0 None (Some (pos 1)) false ∷ []) (record few { warned = [] })))
     ≡ codes "Summary" ∷ codes "Targets" ∷ codes "Failed" ∷ codes "Lines with warning:" ∷ codes "Logs" ∷ codes " byte" ∷ [] ∷ []
@@ -268,7 +267,7 @@ few_words_are :
 unfolding summary_parts duration_words size_words tenths_words
 few_words_are = refl
 
--- A build of which no time is known: 46.0 kB of text.
+-- A build without known times: 46.0 kB of text.
 no_times_words_are :
     flat_map words_of (summary_parts (build_view [] [] [] (log (codes "a") ∷ []) (node 0 None (Some (pos 1)) false ∷ []) unknown))
     ≡ codes "Summary" ∷ codes "Targets" ∷ codes "Failed" ∷ codes "Lines with warning:" ∷ codes "Logs" ∷ codes "." ∷ codes " kB"
@@ -289,8 +288,8 @@ few_values_are :
 unfolding summary_parts duration_words size_words tenths_words
 few_values_are = refl
 
--- 3 targets, of which 1 failed and 1 with it; 7 lines with warnings, 1 byte, 1 min 30 s, in all 2 min 05 s, 1.3 and 2 at once. Status 2,
--- 1 min 00 s; 5.00 s; and 8 lines with warnings.
+-- 3 targets; 1 failed, and 1 with it; 7 lines with warnings, 1 byte, 1 min 30 s, in all 2 min 05 s, 1.3 and 2 at once. Status 2, 1 min
+-- 00 s; 5.00 s; and 8 lines with warnings.
 known_values_are :
     flat_map values_of (summary known)
     ≡ 3 ∷ 1 ∷ 1 ∷ 7 ∷ 1 ∷ 1 ∷ 3 ∷ 0 ∷ 2 ∷ 0 ∷ 5 ∷ 1 ∷ 3 ∷ 2
@@ -325,7 +324,7 @@ warned_words_are :
 unfolding summary_parts duration_words size_words tenths_words
 warned_words_are = refl
 
--- What the heading and the summary say. `E2 9C 97` is a ballot cross.
+-- The texts of the heading and of the summary. `E2 9C 97` is a ballot cross.
 heading_is :
     heading_shown nodes
     ≡ tag markup.Title1 ∷ tag markup.Sign ∷ words (0xE2 ∷ 0x9C ∷ 0x97 ∷ []) ∷ tag markup.EndSign ∷ words (codes " ")

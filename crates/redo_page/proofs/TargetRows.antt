@@ -92,7 +92,7 @@ took_are :
 unfolding duration_words
 took_are = (refl, refl)
 
--- It took 61 seconds and printed three lines, two of which are warnings. Four targets are below it, with one warning.
+-- It took 61 seconds and printed three lines. Two of them are warnings. Four targets are below it, with one warning.
 abbrev node : Node
 node = record no_node {
   status = Some (pos 5);

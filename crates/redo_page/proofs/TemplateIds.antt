@@ -174,7 +174,7 @@ module _ (count : ℕ) (articles : List ℕ) where
       × ((these : Listed) → list_all (is_listed these) (positions_of view these) ≡ true)
       × AreBelow count (positions_of view listed.Articles)
 
-  -- The same where only tags of sections and ids outside of loops count.
+  -- The references, if only tags of sections and ids outside of loops count.
   abbrev RefersAt : Place → List Part → List ℕ → List Part → Type 0
   RefersAt place parts ids sections = Refers count articles parts [] (at place ids) (at place sections)
 

@@ -56,7 +56,7 @@ item_tags (item.Tile term) = flat_map markup_tag (tile_start [])
 item_tags item.EndTile = flat_map markup_tag tile_end
 item_tags item = []
 
--- What an item contains ends what it begins.
+-- The block in an item ends the elements that it begins.
 abbrev if_closed : Open → List (List ℕ) → Open
 if_closed None stack = None
 if_closed (Some []) stack = Some stack
@@ -77,14 +77,14 @@ after_nothing block = Some []
 abbrev pub after_block : {B : Type 0} → (B → Open) → List (List ℕ) → Block B → Open
 after_block inner stack block = after_items inner stack block.now
 
--- What is open after a template, if this is open before it.
+-- The open elements after a template.
 abbrev in_template : Block (Block (Block (Unit {0}))) → Open
 in_template = after_block (after_block (after_block after_nothing []) []) []
 
 abbrev pub after_template : List (List ℕ) → Template → Open
 after_template = after_block in_template
 
--- ---- what is computed is so
+-- ---- the computed elements are open
 
 abbrev stack_of : Open → List (List ℕ)
 stack_of None = []

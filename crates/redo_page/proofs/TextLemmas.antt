@@ -177,7 +177,7 @@ complete_after bytes len front complete =
     sym (ap (λ (r : List ℕ). rest (r ++ drop len bytes)) front) ∙ sym (rest-append (take len bytes) (drop len bytes))
     ∙ ap rest (take-append-drop len bytes) ∙ complete
 
--- The first lines, of which the first one has the size `first`.
+-- The first lines. The first one has the size `first`.
 pub record AreFirst (bytes : List ℕ) (first len count : ℕ) : Type 0 where
   pub some : 0 < len
   pub within : len ≤ length bytes

@@ -88,7 +88,7 @@ timelines_are :
     × (has_timeline (facts (Some window) (some 1) (some 7) (some 1)) ≡ false)
 timelines_are = (refl, refl, refl, refl, refl)
 
--- ---- what precedes the chart
+-- ---- the parts before the chart
 
 abbrev marks_text : ℕ → ℕ → List Part → List Part
 marks_text marks targets rest =
@@ -105,7 +105,7 @@ starts_are :
     × (timeline_start (view (facts (Some window) (some 5) (some 14) (some 2))) ≡ heading (marks_text 2 21 (tag markup.TimelineScroll ∷ [])))
 starts_are = (refl, refl, refl)
 
--- ---- what follows the chart
+-- ---- the parts after the chart
 
 abbrev pale : Part
 pale = words (codes " Pale bars are recipes that ran others. They don't count in the sum of times.")

@@ -52,7 +52,7 @@ nodes_counted logs status parent position (Opened event number inside rest) =
     (nodes_counted logs status (Some position) (suc position) inside)
     ∙ ap (λ n. log_count inside + n) (nodes_counted logs status parent (suc position + log_count inside) rest))
 
--- ---- what has no ids and no links
+-- ---- parts without ids and links
 
 pub end_bare : (before : Pending) → Bare (end_parts before)
 end_bare pending.Nothing = refl

@@ -134,7 +134,7 @@ module _ (build : Build) where
 
   -- ---- logs
 
-  -- The name and the facts of the target at a position, with what is between them.
+  -- The name and the facts of the target at a position, with the parts between them.
   abbrev named_facts : ℕ → List Part → List Part
   named_facts position between = name_parts (name_here position) ++ (between ++ facts_parts (node_at build.nodes position))
 
@@ -171,7 +171,7 @@ module _ (build : Build) where
   event_heads (EntryShown depth entry) number position at is names = absurd (none-some number is)
   event_heads (LogEnds depth) number position at is names = absurd (none-some number is)
 
-  -- A heading, whatever follows.
+  -- A heading before any parts.
   log_heading : (position : ℕ) (heading start others rest : List Part) → Heads position heading
       → IsLogHeading build.logs build.nodes start position ((start ++ (heading ++ others)) ++ rest)
   log_heading position heading start others rest heads = by heads.is

@@ -27,7 +27,7 @@ use Rattle.redo_page.specs.Tree.{Build, after_item, after_log, after_shown, arti
 use Rattle.redo_page.proofs.Nesting.{Leads, Nest, nest_if, lead_around, lead_in, then_lead, joined}
 use Rattle.redo_page.proofs.TargetNesting.{name_nests, exit_nests, facts_nest, how_nests, linked_nests}
 
--- ---- what isn't ended
+-- ---- the open group or block
 
 abbrev list_names : List (List ℕ)
 list_names = codes "ul" ∷ codes "details" ∷ codes "li" ∷ []
@@ -35,13 +35,13 @@ list_names = codes "ul" ∷ codes "details" ∷ codes "li" ∷ []
 abbrev text_names : List (List ℕ)
 text_names = codes "pre" ∷ codes "li" ∷ []
 
--- The elements that are open while something isn't ended.
+-- The elements of the open group or block.
 abbrev open_names : Pending → List (List ℕ)
 open_names pending.Nothing = []
 open_names (pending.Group left) = list_names
 open_names (pending.Text block) = text_names
 
--- Some log is left of a group that isn't ended.
+-- Some log is left of an open group.
 abbrev IsOpen : Pending → Type 0
 IsOpen pending.Nothing = Unit {0}
 IsOpen (pending.Group left) = (left == 0) ≡ false
@@ -80,7 +80,7 @@ lead_unless false leads = leads
 group_leads : (size : ℕ) → Leads [] (group_parts size) (group_names size)
 group_leads size = lead_unless (size == 0) (record { leads = λ around tags. refl })
 
--- The end of a group after a log, and what isn't ended then.
+-- The end of a group after a log, and the group that is still open.
 group_end_leads : (left : ℕ) → Leads (group_names left) (group_end left) (open_names (after_log left))
 group_end_leads zero = record { leads = λ around tags. refl }
 group_end_leads (suc zero) = record { leads = λ around tags. refl }
@@ -100,7 +100,7 @@ after_log_open (suc (suc left)) = by (nat_lt 1 (suc (suc left))) (lt-ltb 1 (suc 
     by : (more : Bool) → more ≡ true → IsOpen (if more then pending.Group (suc (suc left) - 1) else pending.Nothing)
     by more is_more = rw is_more (ne_eqb (suc (suc left) - 1) 0 (omega arith))
 
--- ---- what is seen of an event
+-- ---- the visible item of an event
 
 item_leads : (before : Pending) (seen : Bool) {parts : List Part} → Nest parts
     → Leads (open_names before) (item_parts before seen parts) (open_names (after_item before seen))
@@ -160,7 +160,7 @@ module _ (build : Build) where
   pub moved_nests : (position : ℕ) → Nest (moved_parts build position)
   moved_nests position = nest_if (is_moved build position) (record { leads = λ around tags. refl })
 
-  -- The elements around what a log contains.
+  -- The elements around the contents of a log.
   abbrev inside_names : Level → ℕ → List (List ℕ)
   inside_names level position = if is_empty (node_at build.nodes position) then codes "li" ∷ [] else if nat_le max_depth level.depth then []
       else list_names

@@ -82,7 +82,7 @@ block = pending.Text (record { lines = 1; bytes = 2; style = plain_style })
 abbrev mention : Event
 mention = Mentioned 1 9 Made (codes "a") (OpensHere 0)
 
--- ---- what a target is
+-- ---- facts about a target
 
 failed_are :
     (has_failed a ≡ true) × (has_failed b ≡ false) × (has_failed (node 0 None None 0 0 false) ≡ false) × (is_root_failure a ≡ true)

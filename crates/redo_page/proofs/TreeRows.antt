@@ -237,7 +237,7 @@ short_are :
     × (is_short (node None 301 600 false) ≡ false) × (is_short (node None 2 40001 false) ≡ false)
 short_are = (refl, refl, refl, refl, refl)
 
--- What is known of a log that isn't there.
+-- The facts about a log that doesn't exist.
 none_there :
     node_at (failed ∷ []) 1
     ≡ record {
@@ -321,7 +321,7 @@ fits_are = (refl, refl, refl, refl, refl)
 abbrev line_html : Pending → List ℕ → List ℕ
 line_html before line = flat_map part_html (line_parts before line)
 
--- What a line is written as, and what isn't ended after it. A block goes on with its style, and a new one begins with the plain style.
+-- The parts of a line, and the open block after it. A block goes on with its style, and a new one begins with the plain style.
 lines_are :
     (line_html pending.Nothing (codes "x") ≡ codes "<li><pre>\nx\n")
     × (after_line pending.Nothing (codes "x") ≡ pending.Text (record { lines = 1; bytes = 2; style = plain_style }))

@@ -28,18 +28,18 @@ use Rattle.redo_page.specs.Laws.{HaveSameLogs, blank_event, blank_line, blanked,
 use Rattle.redo_page.specs.Targets.{exit_parts, how_parts, linked_parts}
 use Rattle.redo_page.specs.Tree.{Build, after_item, after_log, after_shown, articles, closing_parts, contents_parts, depth_parts, done_parts, empty_start, flat_end, flat_start, group_end, group_left, group_start, heading_parts, is_empty, is_expanded, is_moved_if, is_seen_done, item_parts, level_of, log_end, log_start, max_depth, mention_parts, moved_parts, nested_start, node_at, note_parts, note_prefix, opening_parts, opening_position, position_of, position_of_name, request_parts, section_end, section_start, shown_parts, is_in_level, top_level, tree_parts}
 
--- ---- what isn't ended
+-- ---- the open group or block
 
 abbrev pub unstyled_block : Block → Block
 unstyled_block block = record { lines = block.lines; bytes = block.bytes; style = plain_style }
 
--- What isn't ended, without the style of the text.
+-- The open group or block, without the style of the text.
 abbrev pub unstyled : Pending → Pending
 unstyled pending.Nothing = pending.Nothing
 unstyled (pending.Group left) = pending.Group left
 unstyled (pending.Text block) = pending.Text (unstyled_block block)
 
--- If a result doesn't depend on the style, it is the same for what is the same without its style.
+-- If a result doesn't depend on the style, it is the same for states that differ only in it.
 same_by : {X : Type 0} (f : Pending → X) → ((before : Pending) → f before ≡ f (unstyled before)) → (before other : Pending)
     → unstyled before ≡ unstyled other → f before ≡ f other
 same_by f plain before other same = plain before ∙ ap f same ∙ sym (plain other)
@@ -54,7 +54,7 @@ line_start_plain size pending.Nothing = refl
 line_start_plain size (pending.Group left) = refl
 line_start_plain size (pending.Text block) = refl
 
--- What isn't ended after a line of this size.
+-- The open block after a line of this size.
 abbrev pub after_size : ℕ → Pending → Pending
 after_size size before = pending.Text
     (record { lines = (block_for before size).lines + 1; bytes = (block_for before size).bytes + size; style = plain_style })

@@ -22,7 +22,6 @@ pub wrote_all : (before after : Option Output) (text : List ℕ) → WroteUpTo b
 wrote_all before after text so_far =
     so_far.wrote ∙ ap (λ (t : List ℕ). append_output before t 0) (sym (append-nil so_far.prefix) ∙ so_far.splits)
 
--- A part failed.
 pub failed_part : (before middle after : Option Output) (text part left : List ℕ) (broken : Broken) (done : Result (Unit {0}) Broken)
     → IsErr done → WroteUpTo before middle text (part ++ left) → Writes middle after part (Err broken) → Writes before after text done
 failed_part before middle after text part left broken done failed so_far wrote =

@@ -121,7 +121,7 @@ module _ (build : Build) where
   abbrev pub walk_at : List OpenLog → ℕ → Pending → Walk
   walk_at logs next before = record { build = build; logs = logs; next = next; before = before }
 
-  -- What isn't ended at the end of some contents.
+  -- The open group or block at the end of some contents.
   abbrev pub pending_after : Level → ℕ → Pending → Contents → Pending
   pending_after level position before Nothing = before
   pending_after level position before (Shown event rest) = pending_after level position (after_shown build level before event) rest

@@ -34,27 +34,27 @@ with_line block line = record { lines = block.lines + 1; bytes = block.bytes + l
 abbrev pub line_part : Style → List ℕ → Part
 line_part style line = LogPart style (with_line_feed line)
 
--- The end of a nested list: of a group, or of what a log contains.
+-- The end of a nested list: of a group, or of the contents of a log.
 abbrev pub nested_end : List Part
 nested_end = MarkupPart EndUnordered ∷ MarkupPart EndDetails ∷ MarkupPart EndItem ∷ []
 
--- The end of what isn't ended yet.
+-- The end of the open group or block.
 abbrev pub end_parts : Pending → List Part
 end_parts pending.Nothing = []
 end_parts (pending.Group left) = nested_end
 end_parts (pending.Text block) = MarkupPart EndPre ∷ MarkupPart EndItem ∷ []
 
--- The block that a line of this size is added to: the block that isn't ended, if the line fits into it, or else a new one.
+-- The block that a line of this size is added to: the open block, if the line fits into it, or else a new one.
 abbrev pub block_for : Pending → ℕ → Block
 block_for (pending.Text block) size = if fits block size then block else new_block
 block_for before size = new_block
 
--- What precedes such a line.
+-- The parts before such a line.
 abbrev pub line_start : Pending → ℕ → List Part
 line_start (pending.Text block) size = if fits block size then [] else MarkupPart EndPre ∷ MarkupPart Pre ∷ []
 line_start before size = end_parts before ++ MarkupPart Item ∷ MarkupPart Pre ∷ []
 
--- A line, and what isn't ended after it.
+-- A line, and the open block after it.
 abbrev pub line_parts : Pending → List ℕ → List Part
 line_parts before line = line_start before (line_size line) ++ line_part (block_for before (line_size line)).style line ∷ []
 

@@ -76,7 +76,7 @@ is_error line = has_error Outside line
 
 -- ---- lines without text
 
--- Whether a byte in this state is to be seen: it is no space, no control character, and in no sequence.
+-- Whether a byte in this state is visible: it is no space, no control character, and in no sequence.
 abbrev pub is_visible : WordState → ℕ → Bool
 is_visible state byte = not (is_in_sequence state) && nat_lt 32 byte
 

@@ -1,4 +1,4 @@
--- What the laws state.
+-- The statements of the laws.
 use Rattle.std.specs.Prelude.{◌≡◌, ◌⊎◌, ℕ, zero, suc, ◌+◌, ◌*◌, ◌^◌, ◌<◌, ◌==◌, ◌||◌, ◌&&◌, nat_le, max, length, Bool, true, not, List, [], ◌∷◌, ◌++◌, map, Option, None, Some, is_none, is_some, codes, false, nat_eq, nat_lt, take, if◌then◌else◌}
 use Rattle.std.specs.List.{AllByRecursion, filter, flat_map, list_any, starts_with}
 use Rattle.redo_line.specs.declared.entry.Entry.TheVariants.{Text, Done, Note}
@@ -48,7 +48,7 @@ use Rattle.redo_units.specs.Sizes.{size_words, tenths_words}
 use Rattle.redo_trim.specs.declared.limit.Limit.{Limit}
 use Rattle.redo_trim.specs.Trim.{limit_of}
 
--- ---- what became of a build
+-- ---- the result of a build
 
 -- The start tag of the body.
 abbrev pub body_tag : Part → List Markup
@@ -210,7 +210,8 @@ module _ (logs : List Log) (nodes : List Node) where
       ((position : ℕ) × (took : ℕ) × ((node_at nodes position).took ≡ Some took) × IsRowWith (words_parts (duration_words (cut took))) position after)
       ⊎ ((position : ℕ) × IsRowWith (NumberPart (node_at nodes position).warnings ∷ []) position after)
 
-  -- What follows a link to a target or to its article, a tag with the id of one of these, and the start of a list of targets or of a row.
+  -- The parts after a link to a target or to its article, after a tag with the id of one of these, and after the start of a list of
+  -- targets or of a row.
   abbrev pub TellsItsTarget : Markup → List Part → Type 0
   TellsItsTarget (TargetLink position) after = IsLinkText (PLACE_IN_TREE.now ∷ IN_ITS_LOG.now ∷ []) position after
   TellsItsTarget (OutputLink position) after = IsLinkText (SHOWN_ABOVE.now ∷ []) position after
@@ -223,7 +224,7 @@ module _ (logs : List Log) (nodes : List Node) where
   TellsItsTarget RowHeading after = IsRow after
   TellsItsTarget tag after = Unit {0}
 
--- What is known of the target of a node: its log has the node's number, and its status and its times are those that the logs say.
+-- The facts about the target of a node: its log has the node's number, and its status and its times are as the logs say.
 pub record IsOfTarget (logs : List Log) (events : List Event) (times : List Times) (node : Node) : Type 0 where
   pub log : log_number (target_at logs node.number) logs ≡ Some node.number
   pub status : node.status ≡ target_status logs events node.number
@@ -241,7 +242,7 @@ abbrev pub heading_with : List ℕ → List ℕ → List Part
 heading_with sign text =
     MarkupPart Title1 ∷ MarkupPart Sign ∷ TextPart sign ∷ MarkupPart EndSign ∷ TextPart (codes " ") ∷ TextPart text ∷ MarkupPart EndTitle1 ∷ []
 
--- A term, and what it is.
+-- A term, and its description.
 abbrev pub tile : List ℕ → List Part → List Part
 tile term value =
     MarkupPart Div ∷ MarkupPart Term ∷ TextPart term ∷ MarkupPart EndTerm ∷ MarkupPart Description
@@ -261,14 +262,14 @@ module _ (nodes : List Node) where
   abbrev pub dependent_count : ℕ
   dependent_count = length (positions_where is_dependent_failure 0 nodes)
 
-  -- What the heading says: how many targets failed; else how many are unfinished, if a requested one is; else how many were made.
+  -- The heading: how many targets failed; else how many are unfinished, if a requested one is; else how many were made.
   abbrev pub heading_shown : List Part
   heading_shown =
       if nat_lt 0 root_count then heading_with FAILED_SIGN.now (number_text root_count ++ (OF.now ++ number_of (length nodes) TARGET_FAILED.now TARGETS_FAILED.now))
       else if list_any is_unfinished nodes then heading_with UNFINISHED_SIGN.now (number_text (unfinished_count nodes) ++ (OF.now ++ number_of (length nodes) TARGET_UNFINISHED.now TARGETS_UNFINISHED.now))
       else heading_with MADE_SIGN.now (number_of (length nodes) TARGET_MADE.now TARGETS_MADE.now)
 
-  -- What the summary says. Times are left out if they aren't known.
+  -- The summary. Unknown times are left out.
   abbrev pub summary_shown : Facts → List Part
   summary_shown facts =
       MarkupPart DescriptionList

@@ -35,7 +35,7 @@ cap_for budget nodes = if budget == 0 || fit_in None budget nodes then None else
 
 -- ---- limits
 
--- A quarter of what a log shows is its head, and the rest is its tail.
+-- A quarter of the bytes that a log shows is its head, and the rest is its tail.
 abbrev pub limit_at : ℕ → ℕ → Limit
 limit_at cap bytes = record { head = cap / 4; tail = bytes - (cap - cap / 4) }
 
@@ -49,7 +49,7 @@ module _ (build : Build) where
   limit_if cap None = no_limit
   limit_if cap (Some position) = position_limit cap position
 
-  -- The limits of `count` logs, of which the first one has the number `number`.
+  -- The limits of `count` logs, from the one with the number `number` on.
   abbrev pub limits_from : ℕ → ℕ → ℕ → List Limit
   limits_from cap number zero = []
   limits_from cap number (suc count) = limit_if cap (position_of build.nodes number) ∷ limits_from cap (suc number) count

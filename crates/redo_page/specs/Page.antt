@@ -25,8 +25,9 @@ use Rattle.redo_summary.specs.Summary.{Facts, summary_of}
 use Rattle.redo_summary.specs.Targets.{time_between}
 use Rattle.redo_times.specs.declared.times.Times.{Times}
 
--- What a page is asked: a title, or none if it is empty; the capture directory as it was given; whether unchanged targets are shown, and
--- what was done about locks; how many bytes of text lines are shown, or 0 for all; and the times of targets, by the numbers of their logs.
+-- The parameters of a page: a title, or none if it is empty; the capture directory as it was given; whether unchanged targets are shown,
+-- and what was done about locks; how many bytes of text lines are shown, or 0 for all; and the times of targets, by the numbers of their
+-- logs.
 pub record Request : Type 0 where
   pub title : List ℕ
   pub dir : List ℕ
@@ -56,7 +57,7 @@ top_parts view = head_parts view ++ (header_parts view ++ (failed_parts view ++ 
 abbrev pub heading_of : List Node → List ℕ
 heading_of nodes = verdict_text (verdict_of nodes) nodes
 
--- What the templates say about a build, whose page was given this title and this directory, and for which this is the command.
+-- The view of a build for the templates, with the title and the directory of its page, and its command.
 abbrev pub build_view : List ℕ → List ℕ → List ℕ → List Log → List Node → Facts → View
 build_view title dir command logs nodes facts = record {
   title = title;
@@ -80,7 +81,7 @@ build_view title dir command logs nodes facts = record {
 abbrev pub run_times : Times → RunTimes
 run_times times = record { took = time_between times.began times.ended; ended = times.ended }
 
--- What the tree shows, without the middle of long logs, so that it has about `budget` bytes of text lines.
+-- The contents of the tree, without the middle of long logs. They have about `budget` bytes of text lines.
 abbrev pub tree_contents : List Log → Options → ℕ → List (List ℕ) → List Node → Contents
 tree_contents logs options budget requested nodes = trim (tree_limits logs options nodes budget) [] (contents_of (shown_events logs options requested))
 
@@ -96,15 +97,15 @@ module _ (request : Request) (logs : List Log) (requested : List (List ℕ)) whe
   abbrev pub page_outline : List Node
   page_outline = map (with_times (map run_times request.times)) (outline_of logs page_events)
 
-  -- What the times of the shown targets say.
+  -- The facts about the times of the shown targets.
   abbrev pub page_facts : Facts
   page_facts = summary_of page_outline request.times
 
-  -- What the tree of the page shows.
+  -- The build that the tree of the page shows.
   abbrev pub page_build : Build
   page_build = record { logs = logs; options = options_of request; nodes = page_outline; articles = articles page_outline }
 
-  -- What is shown in the tree.
+  -- The contents of the tree.
   abbrev pub page_contents : Contents
   page_contents = tree_contents logs (options_of request) request.max_bytes requested page_outline
 

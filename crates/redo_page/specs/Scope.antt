@@ -1,4 +1,4 @@
--- What templates say about a build: the values of their holes, src/scope.rt.
+-- The values for templates: src/scope.rt has the items that show them.
 use Rattle.std.specs.Prelude.{ℕ, ◌+◌, ◌-◌, ◌*◌, ◌/◌, max, ◌==◌, ◌&&◌, nat_lt, not, Bool, List, [], ◌∷◌, Option, None, Some, is_none, is_some, length, take, drop, if◌then◌else◌}
 use Rattle.redo_html.specs.Parts.{Part}
 use Rattle.redo_html.specs.Parts.Part.{TextPart}
@@ -30,8 +30,8 @@ use Rattle.redo_units.specs.Durations.{duration_words}
 use Rattle.redo_units.specs.Sizes.{size_words, tenths_words}
 use Rattle.redo_units.specs.Words.{WordValue}
 
--- The title and the capture directory that the page was given, its verdict, heading, title in a tab and command, the targets of the build, what
--- else is known, which of them failed or aren't closed, and a row of a table: its value, the largest value and its target.
+-- The title and the capture directory that the page was given, its verdict, heading, title in a tab and command, the targets of the build,
+-- the facts about times, which targets failed or are unfinished, and a row of a table: its value, the largest value and its target.
 pub record View : Type 0 where
   pub title : List ℕ
   pub dir : List ℕ
@@ -53,7 +53,7 @@ pub record View : Type 0 where
 abbrev pub shown_longest : Facts → List Rank
 shown_longest facts = if is_timed facts then facts.longest else []
 
--- The number of targets of which at least one time is known.
+-- The number of targets with at least one known time.
 abbrev pub known_count : Facts → ℕ
 known_count facts = saturated (length facts.callers + length facts.recipes + length facts.marks)
 

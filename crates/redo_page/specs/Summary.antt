@@ -1,4 +1,4 @@
--- The section that says how much there was, and what took long: the template `SECTION` in src/summary.rt.
+-- The section with sizes, and with the targets that took long: the template `SECTION` in src/summary.rt.
 use Rattle.std.specs.Prelude.{List}
 use Rattle.redo_html.specs.Parts.{Part}
 use Rattle.redo_page.specs.declared.summary.TheConstants.{SECTION}

@@ -26,7 +26,7 @@ abbrev pub magnitude : ℤ → ℕ
 magnitude (pos value) = value
 magnitude (negsuc value) = suc value
 
--- The badge of a target that failed, or of which no record says how it ended.
+-- The badge of a target that failed or is unfinished.
 abbrev pub exit_parts : ℤ → List Part
 exit_parts status = TextPart (codes " ") ∷ MarkupPart ExitBadge ∷ TextPart EXIT.now ∷ TextPart (sign status) ∷ NumberPart (magnitude status) ∷ MarkupPart EndBadge ∷ []
 

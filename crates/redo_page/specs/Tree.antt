@@ -1,4 +1,4 @@
--- The tree of a page: each log where its target is mentioned first, with what it contains.
+-- The tree of a page: each log where its target is mentioned first, with its contents.
 use Rattle.std.specs.Prelude.{ℕ, suc, ◌+◌, ◌-◌, ◌==◌, ◌||◌, ◌&&◌, not, nat_le, nat_lt, Bool, true, false, ℤ, List, [], ◌∷◌, ◌++◌, Option, None, Some, codes, bytes_eq, length, position, option_and_then, slice_index_or, take, if◌then◌else◌}
 use Rattle.std.specs.declared.cmp.Ordering.{Ordering}
 use Rattle.std.specs.declared.cmp.Ordering.TheVariants.{Less, Equal, Greater}
@@ -41,7 +41,7 @@ node_at nodes position = slice_index_or nodes position no_node
 abbrev pub position_of : List Node → ℕ → Option ℕ
 position_of nodes number = position (λ (node : Node). node.number == number) nodes
 
--- ---- what a target is
+-- ---- facts about a target
 
 abbrev pub has_failed : Node → Bool
 has_failed node = is_failure node.status
@@ -55,7 +55,7 @@ abbrev pub root_failures_from : ℕ → List Node → List ℕ
 root_failures_from position [] = []
 root_failures_from position (node ∷ nodes) = (if is_root_failure node then position ∷ [] else []) ++ root_failures_from (suc position) nodes
 
--- The target that ended first is first. Targets of which it is unknown when they ended are last.
+-- The target that ended first is first. Targets with an unknown end are last.
 abbrev pub end_cmp : Option ℕ → Option ℕ → Ordering
 end_cmp (Some ended) (Some other) = nat_cmp ended other
 end_cmp (Some ended) None = Less
@@ -66,7 +66,7 @@ end_cmp None None = Equal
 abbrev pub failure_cmp : List Node → ℕ → ℕ → Ordering
 failure_cmp nodes position other = ordering_then (end_cmp (node_at nodes position).ended (node_at nodes other).ended) (nat_cmp position other)
 
--- The same positions, in the order in which the targets ended.
+-- The positions of these targets, in the order in which the targets ended.
 abbrev pub root_failures : List Node → List ℕ
 root_failures nodes = sort (failure_cmp nodes) (root_failures_from 0 nodes)
 
@@ -105,7 +105,7 @@ min_group = 5
 abbrev pub top_level : Level
 top_level = record { position = None; expanded = true; depth = 0 }
 
--- What the log at a position is, if there is one.
+-- The node at a position, if there is one.
 abbrev pub node_if : List Node → Option ℕ → Option Node
 node_if nodes None = None
 node_if nodes (Some position) = Some (node_at nodes position)
@@ -136,7 +136,7 @@ group_parts size =
 abbrev pub group_end : ℕ → List Part
 group_end left = parts_if (left == 1) nested_end
 
--- What isn't ended after such a log.
+-- The group that is open after such a log.
 abbrev pub after_log : ℕ → Pending
 after_log left = if nat_lt 1 left then pending.Group (left - 1) else pending.Nothing
 
@@ -153,9 +153,9 @@ depth_parts depth = fact_parts (TextPart LEVEL.now ∷ NumberPart depth ∷ []) 
 abbrev pub details_markup : Bool → ℕ → Markup
 details_markup expanded position = if expanded then markup.OpenDetails position else markup.Details position
 
--- ---- what is seen of an event
+-- ---- the visible item of an event
 
--- What is seen of an event is an item of its own. An event of which nothing is seen ends nothing.
+-- A visible event is an item of its own. An invisible event ends nothing.
 abbrev pub item_parts : Pending → Bool → List Part → List Part
 item_parts before seen parts = if seen then end_parts before ++ parts else []
 
@@ -166,7 +166,7 @@ after_item before seen = if seen then pending.Nothing else before
 abbrev pub request_parts : List ℕ → List Part
 request_parts name = (MarkupPart markup.Item ∷ []) ++ (name_parts name ++ (MarkupPart markup.EndItem ∷ []))
 
--- What precedes the text of a note. A note of an empty kind is in no log: it says what the page shows.
+-- The bytes before the text of a note. A note of an empty kind is in no log: it is a note about the page.
 abbrev pub note_prefix : List ℕ → List ℕ
 note_prefix kind = if length kind == 0 then [] else codes "redo: "
 
@@ -199,7 +199,7 @@ module _ (build : Build) where
 
   -- ---- the start and the end of a log
 
-  -- The name of a target whose log is opened, with what is known of it.
+  -- The name of a target whose log is opened, with the facts about it.
   abbrev pub heading_parts : Event → ℕ → List Part
   heading_parts (Requested name opening) position = name_parts name ++ facts_parts (node_at build.nodes position)
   heading_parts (Mentioned depth pid how name opening) position = name_parts name ++ (how_parts build.options.debug_locks how ++ facts_parts (node_at build.nodes position))
@@ -211,7 +211,7 @@ module _ (build : Build) where
       parts_if (is_moved position)
       (MarkupPart markup.NoteItem ∷ MarkupPart (markup.OutputLink position) ∷ TextPart SHOWN_ABOVE.now ∷ MarkupPart markup.EndLink ∷ MarkupPart markup.EndItem ∷ [])
 
-  -- A log that is not nested. What it contains follows it in the same list.
+  -- A log that is not nested. Its contents follow it in the same list.
   abbrev pub flat_start : ℕ → ℕ → List Part → List Part
   flat_start position depth heading = (MarkupPart (markup.TargetItem position) ∷ []) ++ (heading ++ (depth_parts depth ++ moved_parts position))
 
@@ -248,12 +248,12 @@ module _ (build : Build) where
   group_left level position (pending.Group left) = left
   group_left level position before = group_size level position
 
-  -- What precedes a log: the start of a group, if one begins here.
+  -- The parts before a log: the start of a group, if one begins here.
   abbrev pub group_start : Level → ℕ → Pending → List Part
   group_start level position (pending.Group left) = []
   group_start level position before = end_parts before ++ group_parts (group_size level position)
 
-  -- A log up to what it contains, and after that.
+  -- A log before its contents, and after them.
   abbrev pub log_start : Level → ℕ → Pending → Event → List Part
   log_start level position before event = group_start level position before ++ opening_parts level position (heading_parts event position)
 
@@ -288,7 +288,7 @@ module _ (build : Build) where
   mention_parts how name opening =
       (MarkupPart markup.Item ∷ []) ++ (linked_parts (opening_position opening) name ++ (how_parts build.options.debug_locks how ++ (MarkupPart markup.EndItem ∷ [])))
 
-  -- Whether anything is seen of an event that opens no log and is no text line, and what is seen.
+  -- Whether an event is visible that opens no log and is no text line, and its item.
   abbrev pub is_seen_entry : Level → Entry → Bool
   is_seen_entry level (Done pid status name) = is_seen_done level status name
   is_seen_entry level (Note pid kind text) = true
@@ -318,7 +318,7 @@ module _ (build : Build) where
   abbrev pub after_text : Level → Pending → List ℕ → Pending
   after_text level before line = if is_moved_if level.position then before else after_line before line
 
-  -- An event that opens no log, and what isn't ended after it.
+  -- An event that opens no log, and the open group or block after it.
   abbrev pub shown_parts : Level → Pending → Event → List Part
   shown_parts level before (EntryShown depth (Text line)) = text_parts level before line
   shown_parts level before event = item_parts before (is_seen level event) (seen_parts event)
@@ -329,7 +329,7 @@ module _ (build : Build) where
 
   -- ---- contents
 
-  -- The parts of what a log contains. `position` is the next log's position, and `before` is what isn't ended.
+  -- The parts of a log's contents. `position` is the next log's position, and `before` is the open group or block.
   abbrev pub contents_parts : Level → ℕ → Pending → Contents → List Part
   contents_parts level position before Nothing = end_parts before
   contents_parts level position before (Shown event rest) = shown_parts level before event ++ contents_parts level position (after_shown level before event) rest

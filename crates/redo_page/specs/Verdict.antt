@@ -1,4 +1,4 @@
--- What became of a build, and the heading and the title that say so.
+-- The verdict on a build, and the heading and the title that state it.
 use Rattle.std.specs.Prelude.{ℕ, ◌==◌, ◌&&◌, nat_lt, Bool, List, ◌++◌, is_none, length, codes, if◌then◌else◌}
 use Rattle.std.specs.List.{filter, list_any}
 use Rattle.redo_html.specs.declared.markup.Markup.{Markup}
@@ -11,7 +11,7 @@ use Rattle.redo_page.specs.declared.verdict.Verdict.TheVariants.{Failed, Unfinis
 use Rattle.redo_page.specs.Targets.{plural}
 use Rattle.redo_page.specs.Tree.{root_failures}
 
--- Whether a requested target's log isn't closed: the build goes on, or was killed.
+-- Whether a requested target is unfinished: the build goes on, or was killed.
 abbrev pub is_unfinished : Node → Bool
 is_unfinished node = is_none node.parent && is_none node.status
 
@@ -23,7 +23,7 @@ counted_text number one many = number_text number ++ plural number one many
 abbrev pub share_text : ℕ → ℕ → List ℕ → List ℕ → List ℕ
 share_text part all one many = number_text part ++ (OF.now ++ counted_text all one many)
 
--- The targets of which no record says how they ended.
+-- The number of unfinished targets: no record says how they ended.
 abbrev pub unfinished_count : List Node → ℕ
 unfinished_count nodes = length (filter (λ node. is_none node.status) nodes)
 

@@ -11,7 +11,7 @@ use redo_logs::LogTable;
 use redo_outline::{Node, Outline, target_at};
 use redo_view::{Opening, Options};
 
-/// What the tree depends on.
+/// The values that the tree depends on.
 #[derive(Clone, Copy)]
 pub struct BuildRef<'a> {
     pub table: &'a LogTable,

@@ -112,7 +112,7 @@ pub const UNCLOSED: Block2 = &[
     Tag(EndDetails),
 ];
 
-/// The section.
+/// The items of the section, if a target failed.
 pub const SECTION: Block3 = &[
     Tag(FailedSection),
     Tag(FailedHeading),

@@ -1,4 +1,4 @@
-//! What is seen of events that open no log.
+//! The items of events that open no log.
 ghost use Rattle.std.specs.Prelude.{◌≡◌};
 ghost use Rattle.redo_logs.specs.EntryRef.{entry_value};
 ghost use Rattle.redo_view.specs.EventRef.{IsWrittenAlone, event_value};
@@ -74,7 +74,7 @@ fn write_done<W: Sink>(
     page.put(&[Piece::Markup(Markup::EndItem)])
 }
 
-// Returns what precedes the text of a note of this kind.
+// Returns the bytes before the text of a note of this kind.
 fn note_prefix(kind: &[u8]) -> &'static [u8]
     ensures { result.now ≡ note_prefix kind.now }
 {

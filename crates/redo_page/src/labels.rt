@@ -80,7 +80,7 @@ pub const UNLOCKED: &[u8] = b"unlocked";
 
 pub const UNCHANGED: &[u8] = b"unchanged";
 
-// What failed.
+// The section *What failed*.
 pub const NOTHING_CAPTURED: &[u8] = b"It printed nothing that was captured.";
 
 pub const NO_FAILURE_BELOW: &[u8] =

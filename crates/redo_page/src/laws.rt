@@ -81,8 +81,8 @@ pub fn links_lead_to_ids()
 
 /// Each link to a log or to an article has the name of its target as text, or one of the page's own texts. Each log in the tree, and each
 /// article, begins with the name of its target, its status and how long it took. Each item of a list has the name of a target and its
-/// status, and each row of a table has how long it took too, or its number of warnings. These are what the logs say. The page names the
-/// requested targets, with their statuses.
+/// status, and each row of a table has how long it took too, or its number of warnings. The names, statuses and numbers are those of the
+/// logs. The page names the requested targets, with their statuses.
 pub fn targets_have_their_names()
     ensures names { (request : Request) (logs : List Log) (requested : List (List ℕ)) →
         (before : List Part) (tag : Markup) (after : List Part) → before ++ (MarkupPart tag ∷ after) ≡ page_parts request logs requested →
@@ -215,7 +215,7 @@ pub fn tags_are_its_own()
 /// If a page has a timeline, it has one chart, and otherwise none. Its window runs from the first known time of a shown target to the last
 /// one. The chart shows when each target ran: the span of each shown target whose times are known is in exactly one bar. This bar begins
 /// when the first of its spans began, and leads to the target of that one. It is as wide as the time until the last of them ended, but at
-/// least 0.1 % of the chart. What its tooltip says is `title_of` of its spans. The chart shows marks in the same way.
+/// least 0.1 % of the chart. The text of its tooltip is `title_of` of its spans. The chart shows marks in the same way.
 pub fn times_are_shown()
     ensures chart { (request : Request) (logs : List Log) (requested : List (List ℕ)) (window : Window) →
         HasTimeline request logs requested window →

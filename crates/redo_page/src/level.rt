@@ -1,6 +1,6 @@
 //! Where a log is in the tree.
 
-/// What is around logs that are directly in one log, or around the logs of the requested targets.
+/// The surroundings of logs that are directly in one log, or of the logs of the requested targets.
 #[derive(Clone, Copy)]
 pub struct Level {
     /// The position of the log around, if there is one.

@@ -73,7 +73,8 @@ pub fn cap_for(nodes: &[Node], budget: u64) -> Option<u64>
 
 // ---- limits
 
-// Returns the limit of a log with this many bytes: a quarter of what it shows is its head, and the rest is its tail.
+// Returns the limit of a log with this many bytes: a quarter of the bytes that it shows is its head, and the rest is
+// its tail.
 fn limit_at(cap: u64, bytes: u64) -> Limit
     ensures { result ≡ limit_at cap bytes }
 {

@@ -266,7 +266,7 @@ pub fn after_log(left: usize) -> Pending
     }
 }
 
-/// Writes a log up to what it contains. The event opens the log.
+/// Writes a log up to its contents. The event opens the log.
 pub fn write_log_start<W: Sink>(
     build: &BuildRef<'_>,
     level: Level,
@@ -281,7 +281,7 @@ pub fn write_log_start<W: Sink>(
     write_opening(build, level, position, event, page)
 }
 
-/// Writes a log after what it contains, and the end of its group if it is the last one of the group.
+/// Writes the end of a log, and the end of its group if it is the last one of the group.
 pub fn write_log_end<W: Sink>(
     build: &BuildRef<'_>,
     level: Level,

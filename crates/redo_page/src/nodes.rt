@@ -1,10 +1,10 @@
-//! What is known of targets, by their positions.
+//! The facts about targets, by their positions.
 ghost use Rattle.std.specs.Prelude.{◌≡◌};
 ghost use Rattle.redo_page.specs.Tree.{has_failed, is_short, node_at};
 
 use redo_outline::Node;
 
-/// What is known of no target.
+/// The node of a position past the end.
 pub const NO_NODE: Node = Node {
     number: 0,
     parent: None,

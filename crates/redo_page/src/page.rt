@@ -60,7 +60,7 @@ pub struct PageRequest<'a> {
     pub times: &'a [Times],
 }
 
-/// Writes the page of the requested targets, each of which must have a log. All logs must have ended.
+/// Writes the page of the requested targets. Each of them must have a log. All logs must have ended.
 ///
 /// Writing begins once everything above the tree is computed. A write that fails or takes no byte ends the call, and nothing is written
 /// after it. `out` isn't flushed. Nested logs take memory, but no stack.

@@ -1,4 +1,4 @@
-//! What templates say about a build: the values of their holes.
+//! The values of a build for templates.
 ghost use Rattle.std.specs.Prelude.{◌≡◌, take};
 ghost use Rattle.redo_page.specs.Private.Viewing.{view_of};
 ghost use Rattle.redo_page.specs.Private.Writing.{WroteParts};
@@ -23,7 +23,7 @@ use redo_units::{date, duration, size, tenths};
 /// A number in a template.
 #[derive(Clone, Copy)]
 pub enum Count {
-    /// Targets.
+    /// All targets.
     Targets,
     /// Failed targets without a failure below them.
     Roots,
@@ -67,7 +67,7 @@ pub enum Phrase {
     Title,
     /// The sign before the heading.
     VerdictSign,
-    /// What became of the build.
+    /// The heading, which states the verdict.
     Heading,
     /// The words between the number of logs and the capture directory.
     LogsIn,
@@ -126,7 +126,7 @@ pub enum Rows {
 pub enum Listed {
     /// Failed targets without a failure below them, as far as they have articles.
     Articles,
-    /// The others of these.
+    /// The other failed targets without a failure below them.
     Others,
     /// Failed targets above these.
     Dependents,
@@ -216,7 +216,7 @@ impl<'a> Scope<'a> {
         }
     }
 
-    /// Returns whether this holds.
+    /// Returns whether a test holds.
     pub fn holds(&self, test: Test) -> bool
         ensures { result ≡ holds (view_of self.now) test }
     {

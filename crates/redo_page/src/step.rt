@@ -1,11 +1,11 @@
-//! What an event does to the logs that are open.
+//! The step of an event: how it changes the logs that are open.
 ghost use Rattle.std.specs.Prelude.{◌≡◌};
 ghost use Rattle.redo_view.specs.EventRef.{event_value};
 ghost use Rattle.redo_page.specs.Private.Walking.{step_of, step_of_opening};
 
 use redo_view::{EventRef, Opening};
 
-/// What an event does.
+/// The step of an event.
 #[derive(Clone, Copy)]
 pub enum Step {
     /// It opens a log.
@@ -25,7 +25,7 @@ fn step_of_opening(opening: Opening) -> Step
     }
 }
 
-/// Returns what an event does.
+/// Returns the step of an event.
 pub fn step_of(event: EventRef<'_>) -> Step
     ensures { result ≡ step_of (event_value event.entry) }
 {

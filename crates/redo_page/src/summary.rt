@@ -1,4 +1,4 @@
-//! The summary of a build: how much there was, and what took long.
+//! The summary of a build: sizes, and the targets that took long.
 use crate::labels::{
     AND_COUNT, AT_MOST, AT_ONCE, DEPENDENT, FAILED, FEW_TIMES_OF, LOGS, LONGEST, MOST_WARNINGS,
     NO_TIMES, OF, SUM_OF_TIMES, SUMMARY, TARGETS, TIMES_UNKNOWN, TOOK, WARNED_LINES,
@@ -19,7 +19,7 @@ use redo_html::Markup::{
     TableRow, Title3,
 };
 
-/// The section.
+/// The items of the section.
 pub const SECTION: Template = &[
     Tag(SummarySection),
     Tag(SummaryHeading),

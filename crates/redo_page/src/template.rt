@@ -29,12 +29,12 @@ pub type Block2 = &'static [Item<&'static [u8], Block1>];
 
 pub type Block1 = &'static [Item<&'static [u8], ()>];
 
-/// What a template consists of. `T` is a text, and `B` is what an item contains.
+/// An item of a template. `T` is a text, and `B` is the block in an item.
 #[derive(Clone, Copy)]
 pub enum Item<T, B> {
     /// A tag.
     Tag(Markup),
-    /// The start tag of the body, which says what became of the build.
+    /// The start tag of the body, with the verdict on the build.
     Body,
     /// The title that a browser shows in its tab.
     TabTitle,
@@ -68,11 +68,11 @@ pub enum Item<T, B> {
     Articles,
     /// A meter that shows how large the row's value is.
     Meter,
-    /// What is shown if something holds, or for each row of a table.
+    /// A block that is shown if a test holds, or for each row of a table.
     In(Around, B),
 }
 
-/// When what an item contains is shown.
+/// When the block in an item is shown.
 #[derive(Clone, Copy)]
 pub enum Around {
     /// If this holds.
@@ -87,7 +87,7 @@ pub enum Around {
     EachOf(Listed),
 }
 
-/// What an item can contain.
+/// The block in an item.
 pub trait Block {
     /// The parts that it writes.
     ghost parts: { Self → View → List Part };

@@ -51,7 +51,7 @@ fn block_for(pending: Pending, size: usize) -> Block
     }
 }
 
-// Writes what precedes a line of this size.
+// Writes the parts before a line of this size.
 fn write_line_start<W: Sink>(pending: Pending, size: usize, out: &mut W) -> Result<(), Broken>
     ensures { Writes (W.written out.old) (W.written out.new) (flat_map part_html (line_start pending size)) result }
 {

@@ -24,7 +24,7 @@ use redo_timeline::Window;
 use redo_view::FormFault;
 use std::alloc::Global;
 
-/// What precedes the chart.
+/// The items before the chart.
 pub const START: Template = &[
     Tag(TimelineSection),
     Tag(TimelineHeading),
@@ -45,7 +45,7 @@ pub const START: Template = &[
     Tag(TimelineScroll),
 ];
 
-/// What follows the chart.
+/// The items after the chart.
 pub const END: Template = &[
     Tag(EndDiv),
     Tag(QuietParagraph),

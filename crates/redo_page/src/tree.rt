@@ -100,7 +100,6 @@ fn next_position(nodes: &[Node], position: usize) -> usize
     }
 }
 
-// Returns the log that is opened at a position.
 fn opened_log(build: &BuildRef<'_>, level: Level, position: usize, pending: Pending) -> OpenLog
     ensures { result ≡ opened_log (build_value build.now) level position pending }
 {
@@ -124,7 +123,7 @@ impl<'a> TreeForm<'a> {
         }
     }
 
-    // Writes a log up to what it contains. The event opens the log.
+    // Writes a log up to its contents. The event opens the log.
     fn open_log<W: Sink>(
         &mut self,
         event: EventRef<'_>,

@@ -1,4 +1,4 @@
-//! What became of a build, and the heading and the title that say so.
+//! The verdict on a build, and the heading and the title that state it.
 ghost use Rattle.std.specs.Prelude.{◌≡◌, ◌++◌, IfOk, length};
 ghost use Rattle.std.specs.List.{list_any};
 ghost use Rattle.redo_page.specs.Verdict.{body_markup, counted_text, is_unfinished, share_text, sign_text, title_text, titled, unfinished_count, verdict_of, verdict_text};
@@ -14,7 +14,7 @@ use redo_html::Markup;
 use redo_outline::Node;
 use std::alloc::{AllocError, Global};
 
-/// What became of a build. The page shows it at its top, with a sign.
+/// The verdict on a build. The page shows it at its top, with a sign.
 #[derive(Clone, Copy, Debug, PartialEq, Eq)]
 pub enum Verdict {
     /// A target failed.

@@ -1,4 +1,4 @@
--- What a collector has after events.
+-- The state of a collector after events.
 use Rattle.std.specs.Prelude.{ℕ, zero, suc, Bool, true, false, ◌||◌, ℤ, List, [], ◌∷◌, ◌++◌, Option, None, Some, length, replicate, option_and_then, slice_get}
 use Rattle.redo_line.specs.declared.entry.Entry.{Entry}
 use Rattle.redo_line.specs.declared.entry.Entry.TheVariants.{Done}

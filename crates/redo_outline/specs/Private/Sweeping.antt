@@ -1,4 +1,5 @@
--- What is known of the contents of logs, and of the logs that are opened in them, as brackets are added before them.
+-- The state of a sweep: facts about the contents of logs, and about the logs that are opened in them, as brackets are added before
+-- them.
 use Rattle.std.specs.Prelude.{ℕ, ◌+◌, ◌≤◌, Bool, true, false, not, ◌&&◌, ◌||◌, ℤ, List, [], ◌∷◌, ◌++◌, Option, None, Some, length, reverse, slice_index_or, if◌then◌else◌}
 use Rattle.std.specs.List.{AllByRecursion, sum_by}
 use Rattle.std.specs.Option.{option_or}
@@ -17,13 +18,13 @@ pub record Swept : Type 0 where
   pub statuses : List (Option ℤ)
   -- The logs that are opened before.
   pub opened : List OpenedLog
-  -- What is known of the rest of the innermost log, and of the logs around it, the outermost first.
+  -- The summaries of the rest of the innermost log, and of the logs around it, the outermost first.
   pub inner : Summary
   pub outer : List Summary
   -- The nodes of the logs that were opened, in reverse.
   pub nodes : List Node
 
--- What is known of a log in which nothing follows.
+-- The summary of a log in which nothing follows.
 abbrev pub nothing_left : Summary
 nothing_left = record { below = 0; children = 0; others = false; warnings = 0; fails = false; silent = true; silent_logs = 0 }
 
@@ -38,7 +39,7 @@ with_others_if visible rest = if visible then with_others rest else rest
 abbrev pub is_silent_log : Option ℤ → Summary → Bool
 is_silent_log status inside = not (is_failure status) && inside.silent
 
--- The node of a log, from what is known of its contents and of what follows it.
+-- The node of a log, from its facts, its target's status, and the summaries of its contents and of the rest after it.
 abbrev pub node_from : OpenedLog → LogFacts → Option ℤ → Summary → Summary → Node
 node_from log facts status inside rest = record {
   number = log.number;
@@ -57,7 +58,7 @@ node_from log facts status inside rest = record {
   ended = None;
 }
 
--- What is known of a log from the opening of a log in it on.
+-- The summary of a log from the opening of a log in it on.
 abbrev pub with_log : Node → Summary → Summary → Summary
 with_log node inside rest = record {
   below = inside.below + rest.below + 1;

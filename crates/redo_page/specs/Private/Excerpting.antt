@@ -20,7 +20,7 @@ open_after Nothing false = LeftOut 1
 open_after Shown false = LeftOut 1
 open_after (LeftOut count) false = LeftOut (count + 1)
 
--- What is written before a line.
+-- The parts before a line.
 abbrev pub change_parts : ℕ → OpenStretch → Bool → List Part
 change_parts position Nothing true = MarkupPart Pre ∷ []
 change_parts position Nothing false = []

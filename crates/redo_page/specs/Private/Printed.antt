@@ -20,8 +20,8 @@ pub record AreNextLines (logs : List Log) (number next : ℕ) (lines : List ℕ)
   pub count : next + length (ended lines) ≤ after
   pub none : lines ≡ [] → texts_from logs number next ≡ []
 
--- The same lines are left in `lines` and from entry `after` on as were left in `stretch` and from entry `next` on. If `lines` are none, no line is
--- left.
+-- The lines left in `lines` and from entry `after` on are the lines that were left in `stretch` and from entry `next` on. If `lines` are
+-- none, no line is left.
 pub record IsRefilled (logs : List Log) (number : ℕ) (stretch : List ℕ) (next : ℕ) (lines : List ℕ) (after : ℕ) : Type 0 where
   pub complete : rest lines ≡ []
   pub left : ended stretch ++ texts_from logs number next ≡ ended lines ++ texts_from logs number after

@@ -1,4 +1,4 @@
--- What a `BuildRef` is modelled as.
+-- The model of a `BuildRef`.
 use Rattle.redo_page.specs.declared.build.BuildRef.{BuildRef}
 use Rattle.redo_page.specs.Tree.{Build}
 

@@ -1,4 +1,4 @@
--- What a scope contains.
+-- The view that a scope is modelled as.
 use Rattle.redo_page.specs.declared.scope.Scope.{Scope}
 use Rattle.redo_page.specs.Scope.{View}
 

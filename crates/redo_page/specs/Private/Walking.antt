@@ -1,4 +1,4 @@
--- The tree, event by event: what is written of an event, and what is known after it.
+-- The tree, event by event: the parts of an event, and the state after it.
 use Rattle.std.specs.Prelude.{ℕ, suc, nat_lt, List, [], ◌∷◌, ◌++◌, Some, length, if◌then◌else◌}
 use Rattle.redo_view.specs.declared.event.Opening.{Opening}
 use Rattle.redo_view.specs.Event.{Event, opens_here}
@@ -17,14 +17,15 @@ use Rattle.redo_page.specs.Blocks.{end_parts}
 use Rattle.redo_page.specs.Private.Texts.{after_lines, lines_parts}
 use Rattle.redo_page.specs.Tree.{Build, after_log, after_shown, group_left, is_expanded, is_moved_if, log_end, log_start, node_at, section_end, shown_parts, top_level}
 
--- What is known before an event: the logs that are open, the innermost first; the position of the next log; and what isn't ended.
+-- The state before an event: the logs that are open, the innermost first; the position of the next log; and the open group or
+-- block.
 pub record Walk : Type 0 where
   pub build : Build
   pub logs : List OpenLog
   pub next : ℕ
   pub before : Pending
 
--- What an event does.
+-- The step of an event.
 abbrev pub step_of_opening : Opening → Step
 step_of_opening opening = if opens_here opening then Opens else Shows
 
@@ -88,7 +89,7 @@ start_of build = record { build = build; logs = []; next = 0; before = pending.N
 abbrev pub tree_text : Build → List Event → List ℕ
 tree_text build events = bytes_of tree_bytes after_event (start_of build) events ++ flat_map part_html (end_parts (state_after after_event (start_of build) events).before ++ section_end)
 
--- Text lines, and what is known after them.
+-- Text lines, and the state after them.
 abbrev pub texts_parts : Walk → List (List ℕ) → List Part
 texts_parts walk lines = if is_moved_if walk.build (level_in walk.logs).position then [] else lines_parts walk.before lines
 

@@ -1,4 +1,4 @@
--- What writers of parts ensure.
+-- The postconditions of writers of parts.
 use Rattle.std.specs.Prelude.{◌≡◌, Bool, true, false, List, ◌++◌, Option, Result, Ok, Err}
 use Rattle.std.specs.List.{flat_map}
 use Rattle.redo_device.specs.declared.feed.Broken.{Broken}

@@ -6,7 +6,7 @@ use Rattle.redo_outline.specs.Outline.{with_times}
 use Rattle.redo_outline.proofs.Nodes.{no_node}
 use Rattle.redo_outline.proofs.outline.set_times.Goals as goal
 
--- Nodes of which the first `i` were changed by a function.
+-- A function changed the first `i` of these nodes.
 module _ (f : Node → Node) (nodes done : List Node) (i : ℕ) (below : i < length nodes)
     (so_far : done ≡ map f (take i nodes) ++ drop i nodes) where
   abbrev changed : List Node
