@@ -42,7 +42,7 @@ impl Model for Job {
 }
 
 impl Job {
-    /// Returns what the text shows.
+    /// Returns the options of the text.
     pub fn options(&self) -> &Options
         ensures { result.now ≡ self.now.options }
     {

@@ -45,9 +45,9 @@ IsNoBar (BarShape bar) = ⊥
 abbrev pub Includes : Window → DrawnBar → Span → Type 0
 Includes window bar span = (bar.x ≤ units window span.began) × (units window span.ended ≤ bar.x + bar.width)
 
--- What a bar says of its spans: it leads to the target of the first one, it begins when this one began, it is as wide as the time until
--- the last of them ended, but at least 0.1 %, and it is red and at least 0.3 % wide if one of them failed. It includes all their times.
--- If it has a label, this is the last part of the name of the target. A bar that is 3.5 % wide and more than 10 pixels high has one, unless
+-- A bar states this of its spans: it leads to the target of the first one, it begins when this one began, it is as wide as the time until
+-- the last of them ended, but at least 0.1 %, and it is red and at least 0.3 % wide if one of them failed. It includes all their times. If
+-- it has a label, this is the last part of the name of the target. A bar that is 3.5 % wide and more than 10 pixels high has one, unless
 -- that part is empty.
 pub record SaysOf (logs : List Log) (nodes : List Node) (window : Window) (kind : GroupKind) (spans : List Span) (bar : DrawnBar)
     : Type 0 where

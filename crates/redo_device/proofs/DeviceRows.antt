@@ -1,4 +1,4 @@
--- Examples of reads and writes, computed: what is known of a reader or writer before and after one call, and its result.
+-- Examples of reads and writes, computed: the known stream or output of a device before and after one call, and its result.
 use Rattle.std.proofs.Common.{◌≡◌, ℕ, Bool, true, false, List, [], ◌∷◌, Option, None, Some, Ok, Err, arith, ap, refl}
 use Rattle.redo_device.specs.Feed.{Stream, Pulls, SomeStream}
 use Rattle.redo_device.specs.Pieces.{Reads, ReadsNext, from_first_byte, stream_of}
@@ -21,7 +21,7 @@ failed = record { bytes = []; fails = true }
 abbrev last_byte : Stream
 last_byte = record { bytes = 3 ∷ []; fails = true }
 
--- The parts of what is known of a reader or writer; empty, false or 0 if it is opaque.
+-- The parts of the known stream or output of a device; empty, false or 0 if it is opaque.
 abbrev bytes_left : Option Stream → List ℕ
 bytes_left None = []
 bytes_left (Some stream) = stream.bytes

@@ -4,7 +4,7 @@ use Rattle.std.proofs.lemmas.List.{append_assoc, append-nil, length-append, take
 use Rattle.redo_device.specs.declared.feed.Broken.{Broken}
 use Rattle.redo_device.specs.Feed.{Stream, Pulls, SomeStream}
 
--- `first` and `now` are what is known of a reader at two times. Between them it gave `bytes`.
+-- `first` and `now` are the known stream of a reader at two times. Between them it gave `bytes`.
 abbrev pub Gave : Option Stream → List ℕ → Option Stream → Type 0
 Gave None bytes now = now ≡ None
 Gave (Some stream) bytes now = (coming : Stream) × (now ≡ Some coming) × (stream.bytes ≡ bytes ++ coming.bytes)

@@ -28,8 +28,8 @@ abbrev pub PullsFrom : List ℕ → Bool → Option Stream → Result ℕ Broken
 PullsFrom [] fails after answer buffer = AtEnd fails answer × (after ≡ Some (record { bytes = []; fails = fails }))
 PullsFrom (byte ∷ bytes) fails after answer buffer = MidStream (record { bytes = byte ∷ bytes; fails = fails }) after answer buffer
 
--- One read: what is known of the reader before it and after it, its result, and the contents of the buffer after it.
--- An opaque reader stays opaque.
+-- One read: the known stream of the reader before it and after it, its result, and the contents of the buffer after it. An opaque
+-- reader stays opaque.
 abbrev pub Pulls : Option Stream → Option Stream → Result ℕ Broken → List ℕ → Type 0
 Pulls None after answer buffer = after ≡ None
 Pulls (Some stream) after answer buffer = PullsFrom stream.bytes stream.fails after answer buffer

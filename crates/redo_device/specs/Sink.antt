@@ -7,7 +7,7 @@ pub record Output : Type 0 where
   pub bytes : List ℕ
   pub failures : ℕ
 
--- Adds bytes and failures to what is known of a writer. An opaque writer stays opaque.
+-- Adds bytes and failures to the known output of a writer. An opaque writer stays opaque.
 abbrev pub append_output : Option Output → List ℕ → ℕ → Option Output
 append_output None bytes failures = None
 append_output (Some taken) bytes failures = Some (record { bytes = taken.bytes ++ bytes; failures = taken.failures + failures })
@@ -23,7 +23,7 @@ failures_of (Ok zero) = 1
 failures_of (Ok (suc n)) = 0
 failures_of (Err broken) = 1
 
--- What is known of a writer after one write of `bytes`.
+-- The known output of a writer after one write of `bytes`.
 abbrev pub after_push : Option Output → List ℕ → Result ℕ Broken → Option Output
 after_push before bytes answer = append_output before (taken_prefix bytes answer) (failures_of answer)
 

@@ -11,7 +11,7 @@ pub record TakerState : Type 0 where
   pub room : ℕ
   pub per_call : ℕ
 
--- What is known of it as a writer.
+-- Its known output as a writer.
 abbrev pub output_of : TakerState → Output
 output_of held = record { bytes = held.bytes; failures = held.failures }
 

@@ -12,8 +12,8 @@ pub struct Broken;
 
 /// A reader of bytes.
 pub trait Feed: Drop {
-    /// What is known of the reader: the bytes to come, and whether a failed read ends them. It
-    /// is `None` for an opaque reader, such as a file.
+    /// The known stream of the reader: the bytes to come, and whether a failed read ends them. It is `None` for an
+    /// opaque reader, such as a file.
     ghost contents: { Self → Option Stream };
 
     /// Reads into the start of `buf`, which must not be empty, and returns the number of bytes read:

@@ -5,8 +5,8 @@ use crate::feed::Broken;
 
 /// A writer of bytes.
 pub trait Sink {
-    /// What is known of the writer: the bytes that it took, and how often it failed or took none.
-    /// It is `None` for an opaque writer, such as a terminal.
+    /// The known output of the writer: the bytes that it took, and how often it failed or took none. It is `None` for
+    /// an opaque writer, such as a terminal.
     ghost written: { Self → Option Output };
 
     /// Writes a prefix of `bytes`, which must not be empty, and returns the number of bytes that the

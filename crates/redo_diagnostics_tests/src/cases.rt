@@ -1,4 +1,4 @@
-//! Lines of compilers, linkers and make, and what they say as diagnostics.
+//! Lines of compilers, linkers and make, and the diagnostics in them.
 
 /// A line, and its severity, file, row, column, message, flag and key; `none` if it is no diagnostic.
 pub type Case = (&'static str, &'static str);

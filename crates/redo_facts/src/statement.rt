@@ -1,7 +1,7 @@
 //! The statement of a line of `facts`.
 //!
 //! A line states something if it has one of six forms (`IsStatement`). The law `line_has_one_statement` says that it states
-//! one thing only. No line is a fault, so a damaged line harms only what it would have stated.
+//! one thing only. No line is a fault, so a damaged line harms only its own statement.
 ghost use Rattle.std.specs.Prelude.{◌≡◌, None, Some, IfNone, IfSome};
 ghost use Rattle.redo_index.specs.Index as index;
 ghost use Rattle.redo_facts.specs.Statement as spec;

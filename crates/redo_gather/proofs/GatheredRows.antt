@@ -1,4 +1,4 @@
--- Examples of what gatherings return, computed: the target `a`, whose stream is known and has no bytes.
+-- Examples of the results of gatherings, computed: the target `a`, whose stream is known and has no bytes.
 use Rattle.std.proofs.Common.{◌≡◌, ℕ, Bool, true, false, List, [], ◌∷◌, Option, None, Some, Ok, Err, length, refl, sym, ap, ◌∙◌, arith}
 use Rattle.std.specs.Prelude.{codes}
 use Rattle.redo_line.specs.declared.entry.Entry.{Entry}

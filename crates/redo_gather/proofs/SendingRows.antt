@@ -1,4 +1,4 @@
--- Examples of what is expected and posted, computed.
+-- Examples of expected and posted items, computed.
 use Rattle.std.proofs.Common.{◌≡◌, inl, inr, ℕ, true, false, List, [], ◌∷◌, ◌++◌, Option, None, Some, pos, map, replicate, refl, ap, arith}
 use Rattle.std.specs.Prelude.{codes}
 use Rattle.redo_line.specs.declared.entry.Entry.{Entry}

@@ -28,7 +28,7 @@ module _ (max_bytes : ℕ) (source : Source Stream) (entries : List Entry) (faul
   abbrev pub IsExpected : Type 0
   IsExpected = IsComplete ⊎ IsTruncated
 
--- A stream's target and must-close flag, and what is known of its reader.
+-- A stream's target and must-close flag, and the known stream of its reader.
 abbrev pub KnownSource : Type 0
 KnownSource = Source (Option Stream)
 

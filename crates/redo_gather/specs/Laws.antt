@@ -1,4 +1,4 @@
--- The statements of the laws about what is expected of senders and what they post.
+-- The statements of the laws about the items that senders are expected to post, and those that they post.
 use Rattle.std.specs.Prelude.{◌≡◌, ◌≢◌, ◌↔◌, ℕ, ◌*◌, ◌≤◌, List, [], ◌∷◌, ◌++◌, Option, None, Some, length, map}
 use Rattle.std.specs.List.{AllByRecursion}
 use Rattle.redo_line.specs.declared.entry.Entry.{Entry}
@@ -13,7 +13,7 @@ use Rattle.redo_wire.specs.Mailbox.{PostEndState}
 use Rattle.redo_gather.specs.Expected.{KnownSource, IsExpected, IsExpectedFor, reported_entries}
 use Rattle.redo_gather.specs.Sending.{AreExpected, AreWellSized, HasSent, IsWellSized, NumberedSource, entry_item, posted_since, singles, stream_items}
 
--- ---- what is expected for a stream
+-- ---- the items expected for a stream
 
 module _ (max_bytes : ℕ) (source : Source Stream) where
   -- Entries that are as expected are a prefix of the stream's entries.
@@ -38,7 +38,7 @@ module _ (max_bytes : ℕ) (source : Source Stream) where
   abbrev pub MayExpectPrefix : Type 0
   MayExpectPrefix = (prefix : List Entry) → IsPrefix prefix (reported_entries max_bytes source) → IsExpected max_bytes source prefix (Some OutOfMemory)
 
--- ---- what is expected for a share
+-- ---- the items expected for a share
 
 module _ (max_bytes sender : ℕ) where
   -- For no streams, items are as expected exactly if there are none.
@@ -60,7 +60,7 @@ module _ (max_bytes sender : ℕ) where
   abbrev pub ExpectsConcatenation : Type 0
   ExpectsConcatenation = (first others : List NumberedSource) (items : List Item) → AreExpected max_bytes sender (first ++ others) items ↔ AreConcatenated first others items
 
--- ---- what is posted
+-- ---- the posted items
 
 -- The items of a stream, one for each entry and one for the end or the fault, are already single items.
 abbrev pub AreSingles : ℕ → ℕ → List Entry → Option StreamFault → Type 0

@@ -30,7 +30,7 @@ abbrev pub singles : List Item → List Item
 singles [] = []
 singles (item ∷ items) = singles_in item.sender item.stream item.what ++ singles items
 
--- ---- what is expected
+-- ---- the expected items
 
 abbrev pub final_what : Option StreamFault → What
 final_what None = End
@@ -40,11 +40,11 @@ final_what (Some fault) = Fail fault
 abbrev pub stream_items : ℕ → ℕ → List Entry → Option StreamFault → List Item
 stream_items sender stream entries fault = map (entry_item sender stream) entries ++ item_of sender stream (final_what fault) ∷ []
 
--- A stream's number, with its target, its must-close flag and what is known of its reader.
+-- A stream's number, with its target, its must-close flag and the known stream of its reader.
 abbrev pub NumberedSource : Type 0
 NumberedSource = ℕ × KnownSource
 
--- What is known of a stream of a share. `item` has its number, its target, its must-close flag and its reader.
+-- The known source of a stream of a share. `item` has its number, its target, its must-close flag and its reader.
 abbrev pub numbered_source : {A : Type 0} → (A → Option Stream) → ℕ × List ℕ × Bool × A → NumberedSource
 numbered_source contents item = (item.0, source item.1 item.2 (contents item.3))
 

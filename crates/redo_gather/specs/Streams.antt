@@ -10,11 +10,11 @@ use Rattle.redo_line.specs.Source.{StreamInput, Source, source_fault, source_log
 use Rattle.redo_logs.specs.declared.log_state.LogState.TheVariants.{Ended}
 use Rattle.redo_logs.specs.Logs.{Log, lowest_fault}
 
--- What is known of a reader, and whether the log of its stream must be closed.
+-- The known stream of a reader, and whether the stream's log must be closed.
 abbrev pub KnownInput : Type 0
 KnownInput = StreamInput (Option Stream)
 
--- What is known of readers, each with the must-close flag at the same index.
+-- The known streams of readers, each with the must-close flag at the same index.
 abbrev pub known_input : {A : Type 0} → (A → Option Stream) → Bool × A → KnownInput
 known_input contents given = record { must_close = given.0; stream = contents given.1 }
 
@@ -37,7 +37,7 @@ MatchKnown known streams = ⊥
 abbrev pub SomeMatchingStreams : List KnownInput → (List (StreamInput Stream) → Type 0) → Type 0
 SomeMatchingStreams known P = (streams : List (StreamInput Stream)) × MatchKnown known streams × P streams
 
--- What is known of a reader whose stream is known.
+-- The input of a reader whose stream is known.
 abbrev pub fully_known : StreamInput Stream → KnownInput
 fully_known given = record { must_close = given.must_close; stream = Some given.stream }
 

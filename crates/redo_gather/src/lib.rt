@@ -8,7 +8,7 @@
 //! stream after another and stops at the first fault. [`gather`] distributes the streams round-robin and starts no sender
 //! without a stream. A sender reads a chunk (`reading.rt`), posts its entries (`poster.rt`), then the stream's end or its
 //! fault, and continues with the next stream (`sending.rt`). The calling thread starts the senders (`gathering.rt`), and stores
-//! what they post (`collector.rt`).
+//! their items (`collector.rt`).
 //!
 //! # Why the table is right
 //!

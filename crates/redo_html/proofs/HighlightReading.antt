@@ -13,7 +13,7 @@ use Rattle.redo_html.proofs.TagReading.{names_after_number, number_value, value_
 
 -- ---- numbers in an attribute
 
--- A tag whose last attribute ends with a number. `begin` is what precedes the number.
+-- A tag whose last attribute ends with a number. `begin` precedes the number.
 abbrev numbered : List ℕ → ℕ → List ℕ
 numbered begin number = begin ++ number_text number ++ codes "\""
 

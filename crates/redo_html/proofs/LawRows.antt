@@ -1,4 +1,4 @@
--- Rows of what the laws cite: highlights, bytes, tokens, and how bytes are read. The values are worked out by hand.
+-- Rows of the definitions that the laws cite: highlights, bytes, tokens, and how bytes are read. The values are worked out by hand.
 use Rattle.std.proofs.Common.{◌≡◌, ℕ, Bool, true, false, List, [], ◌∷◌, ◌++◌, inl, inr, map, refl, sym, ◌∙◌}
 use Rattle.std.proofs.lemmas.Bool.{false≢true}
 use Rattle.std.specs.Char.{encode_utf8}

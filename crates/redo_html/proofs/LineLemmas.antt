@@ -28,7 +28,7 @@ use Rattle.redo_html.specs.Private.Writing.{style_in}
 use Rattle.redo_html.proofs.PassageLemmas.{html_of}
 use Rattle.redo_html.proofs.SymbolLemmas.{no_link_start, symbols-nil, symbols-step, symbol_bounds, plain_symbol, plain_visible, plain_encoded, visible_run}
 
--- ---- what follows a line feed is not in the symbol before it
+-- ---- bytes after a line feed are not in the symbol before it
 
 -- A test of a byte, or of 0 after the end, that a line feed and 0 don't pass.
 byte_test : (bytes more : List ℕ) (i byte : ℕ) → i ≤ length bytes → (10 == byte) ≡ false → (0 == byte) ≡ false
@@ -328,7 +328,7 @@ passage-feed kind style bytes more plain =
     ∙ ap (λ (rs : List Run). html_of kind (start_look style) rs ++ html_of kind (start_look plain_style) (runs_of (symbols kind more)))
     (sym (runs-feed kind bytes [] ∙ ap (λ (ss : List Symbol). runs ++ CodePoints 10 1 ∷ runs_of ss) (symbols-nil kind)))
 
--- ---- what is shown
+-- ---- the shown text
 
 pub shown-feed : (kind : TextKind) (bytes more : List ℕ)
     → shown_text kind (bytes ++ 10 ∷ more) ≡ shown_text kind bytes ++ 10 ∷ shown_text kind more

@@ -110,7 +110,7 @@ link_symbols link more is = ⊎_elim bell escape is.ends
     escape same = ap (symbols Log) (whole (27 ∷ 92 ∷ []) same)
         ∙ read text 27 (92 ∷ more) 2 is.are_link_bytes semicolon refl (omega arith) refl
 
--- ---- what it shows
+-- ---- the text that it shows
 
 pub link_written : (style : Style) (link more : List ℕ) → IsLink link → passage_html Log style (link ++ more) ≡ passage_html Log style more
 unfolding html_from

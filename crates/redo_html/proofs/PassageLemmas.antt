@@ -180,7 +180,7 @@ unprintable_written kind look bytes code_point count len unprintable repeated =
     (sym (safe_escaped (unprintable_text code_point count) (unprintable_safe code_point count)))
     ∙ unprintable_step kind look bytes code_point count len unprintable repeated
 
--- ---- what the functions that write highlights find
+-- ---- the results of the functions that write highlights
 
 module _ (kind : TextKind) (look : Look) (unprintable ends_unprintable ends_style starts_style starts_unprintable : Bool)
     (style_end_tag style_start_tag : List ℕ)

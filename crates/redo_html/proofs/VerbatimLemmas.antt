@@ -140,7 +140,7 @@ more_code_points bytes len more first second = record {
       ∙ ap (λ (b : List ℕ). map CodePoint (first.code_points ++ second.code_points) ++ symbols kind b) (drop-drop more len bytes);
 }
 
--- ---- what is written
+-- ---- the written text
 
 abbrev code_point_run : ℕ → Run
 code_point_run code_point = CodePoints code_point 1

@@ -12,8 +12,7 @@ record Row : Type 0 where
   words : List (List ℕ)
   parts_are : PageParts
 
--- A row: the arguments, and their directory, output file, title, what is shown, number of bytes, number of
--- senders and targets.
+-- A row: the arguments, and their directory, output file, title, options, number of bytes, number of senders and targets.
 abbrev asks : List (List ℕ) → List ℕ → Option (List ℕ) → Option (List ℕ) → Bool → Bool → ℕ → ℕ → List (List ℕ) → Row
 asks words dir output title unchanged debug_locks max_bytes senders targets =
     record {

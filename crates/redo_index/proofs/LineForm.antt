@@ -1,4 +1,4 @@
--- A line lists what its parts denote, and nothing else.
+-- A line lists the target that its parts denote, and no other.
 use Rattle.std.proofs.Common.{◌≡◌, ◌≢◌, ◌⊎◌, ◌==◌, ◌+◌, ◌≤◌, ◌<◌, ℕ, Bool, true, false, cond, not, inl, inr, List, [], ◌∷◌, ◌++◌, Option, None, Some, length, get_or, take, drop, refl, sym, ◌∙◌, ap, subst, arith}
 use Rattle.std.specs.Bool.{Decides}
 use Rattle.std.specs.List.{before_first, after_first, position_or_len}

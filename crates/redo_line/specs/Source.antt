@@ -6,7 +6,7 @@ use Rattle.redo_line.specs.declared.stream_fault.StreamFault.TheVariants.{NotClo
 use Rattle.redo_device.specs.Feed.{Stream}
 use Rattle.redo_line.specs.Log.{closes, entries_of, fault_of, or_else, entries_before_fault, unless_fault}
 
--- The target of the log, whether the log must be closed, and its stream, or what is known of the reader that gives the stream.
+-- The target of the log, whether the log must be closed, and its stream, or the known stream of the reader.
 pub record Source (A : Type 0) : Type 0 where
   pub target : List ℕ
   pub must_close : Bool
@@ -15,11 +15,11 @@ pub record Source (A : Type 0) : Type 0 where
 abbrev pub source : {A : Type 0} → List ℕ → Bool → A → Source A
 source target must_close stream = record { target = target; must_close = must_close; stream = stream }
 
--- The source with another stream, such as the stream that a reader gives instead of what is known of the reader.
+-- The source with another stream, such as the stream that a reader gives instead of its known stream.
 abbrev pub with_stream : {A B : Type 0} → B → Source A → Source B
 with_stream stream given = source given.target given.must_close stream
 
--- A stream, or what is known of its reader, and whether its log must be closed.
+-- A stream, or the known stream of its reader, and whether its log must be closed.
 pub record StreamInput (A : Type 0) : Type 0 where
   pub must_close : Bool
   pub stream : A

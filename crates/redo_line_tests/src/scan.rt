@@ -63,7 +63,7 @@ fn finish(alloc: Global, scan: Scan, scanned: &mut Scanned) -> Result<(), AllocE
     Ok(())
 }
 
-/// Returns what a scan of these chunks finds.
+/// Returns the result of a scan of these chunks.
 fn scan(alloc: Global, mut scan: Scan, pieces: &[Vec<u8>]) -> Result<Scanned, Fail> {
     let mut scanned = Scanned {
         entries: String::new(alloc),
@@ -116,7 +116,7 @@ fn step_through(
     Err("more entries than bytes".into())
 }
 
-/// Returns what a scan of these chunks finds if the entries of each chunk are added together to a table.
+/// Returns the result of a scan of these chunks if the entries of each chunk are added together to a table.
 fn scan_together(alloc: Global, mut scan: Scan, pieces: &[Vec<u8>]) -> Result<Scanned, Fail> {
     let mut scanned = take_all_together(alloc, &mut scan, pieces)?;
     finish(alloc, scan, &mut scanned)?;

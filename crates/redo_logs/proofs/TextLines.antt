@@ -170,7 +170,7 @@ drop_map f zero xs = refl
 drop_map f (suc n) [] = refl
 drop_map f (suc n) (x ∷ xs) = drop_map f n xs
 
--- A range of a block, and what follows some lines in it.
+-- A range of a block, and the bytes after some lines in it.
 module _ (parts : Parts) (lines block start end place : ℕ) (range left : List ℕ) (within : Within parts (Texts lines block start end))
     (range_is : range ≡ slice_range (block_of parts block) start end)
     (left_lines : ended left ≡ drop place (ended range)) where

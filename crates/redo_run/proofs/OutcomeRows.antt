@@ -1,4 +1,5 @@
--- Examples of what runs return and write, computed. Without targets, the result of a run is the same for all streams.
+-- Examples of runs, computed: their results, and the texts that they write. Without targets, the result of a run is the same for
+-- all streams.
 use Rattle.std.proofs.Common.{◌≡◌, ℕ, true, false, List, [], ◌∷◌, Option, None, Some, Result, Ok, Err, length, refl, sym, ap, arith, unwrap_or}
 use Rattle.std.specs.Prelude.{codes}
 use Rattle.std.specs.Global.{Vec}
@@ -88,7 +89,7 @@ of_byte other byte = record {
   small = omega arith;
 }
 
--- What a run is asked, computed from an index, a plan, options and arguments. Targets and arguments keep their order.
+-- The request of a run, computed from an index, a plan, options and arguments. Targets and arguments keep their order.
 request_of_run : (other : Vec ℕ)
     → request (record { number = 5; target = codes "x"; must_close = true }
     ∷ record { number = 3; target = codes "w"; must_close = false } ∷ [])

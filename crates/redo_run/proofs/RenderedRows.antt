@@ -70,7 +70,7 @@ of_byte other byte = record {
   small = omega arith;
 }
 
--- What a run is asked, computed from an index, readers, a plan and arguments. All keep their order.
+-- The request of a run, computed from an index, readers, a plan and arguments. All keep their order.
 call_of_run : (other : Vec ℕ)
     → render_call listing (λ (known : Option Stream). known)
     (record { number = 5; target = codes "x"; must_close = true } ∷ record { number = 3; target = codes "w"; must_close = false } ∷ [])

@@ -69,7 +69,7 @@ module _ (call : RenderCall) (streams : List (StreamInput Stream)) where
         → logs_of call.max_bytes call.targets streams ≡ Some logs → rendered_result call streams ≡ Some (text_of call logs)
     rendered-text logs none is = rendered-known None none ∙ ap (option_map (text_of call)) is
 
--- What holds of a fault holds if it is returned.
+-- A property of a fault holds if the fault is returned.
 pub if_rejected : (fault : RunFault) (P : RunFault → Type 0) → P fault → IfNoText (Err fault) P
 if_rejected (fault.Unknown place) P p = p
 if_rejected (fault.Stream number reported) P p = p
@@ -123,7 +123,7 @@ abbrev pub LogsUnlessFault : Type 0
 LogsUnlessFault = (max_bytes : ℕ) (targets : List (List ℕ)) (streams : List (StreamInput Stream))
     → IsSome (logs_of max_bytes targets streams) ↔ (fault_among max_bytes targets streams ≡ None)
 
--- What holds of the text of these logs holds of the run's text.
+-- A property of the text of these logs is a property of the run's text.
 pub some_result_text : (call : RenderCall) (P : List ℕ → Type 0) (requested : List (List ℕ)) (logs : List Log)
     → unknown_argument call.targets call.arguments ≡ None → requested ≡ find_targets call.targets call.arguments → LogsUnlessFault
     → SomeMatchingStreams call.inputs (λ streams. logs_of call.max_bytes call.targets streams ≡ Some logs) → P (call.text logs requested)

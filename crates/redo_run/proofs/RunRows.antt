@@ -38,7 +38,7 @@ record Row : Type 0 where
 abbrev whole : List ℕ → StreamInput Stream
 whole bytes = record { must_close = false; stream = stream_of bytes false }
 
--- The same with the must-close flag.
+-- A stream with the must-close flag.
 abbrev closed : List ℕ → StreamInput Stream
 closed bytes = record { must_close = true; stream = stream_of bytes false }
 

@@ -1,6 +1,6 @@
--- What a run writes, or the fault that it returns.
+-- The text that a run writes, or the fault that it returns.
 --
--- The definitions take a call of `run`, and what is known of its writer before and after it.
+-- The definitions take a call of `run`, and the known output of its writer before and after it.
 use Rattle.std.specs.Prelude.{◌≡◌, ℕ, ◌<◌, List, Option, Some, Ok, Err, length, take}
 use Rattle.std.specs.Global.{Vec}
 use Rattle.redo_device.specs.Feed.{Stream}
@@ -12,7 +12,7 @@ use Rattle.redo_index.specs.Index.{must_close_flags}
 use Rattle.redo_run.specs.declared.run_fault.RunFault.{RunFault}
 use Rattle.redo_run.specs.Run.{Request, request, result_of}
 
--- A call of `run`: its request, and what is known of its readers.
+-- A call of `run`: its request, and the known streams of its readers.
 pub record Call : Type 0 where
   pub request : Request
   pub inputs : List KnownInput

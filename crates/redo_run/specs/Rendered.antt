@@ -15,8 +15,8 @@ use Rattle.redo_run.specs.declared.run_fault.RunFault.TheVariants as fault
 use Rattle.redo_run.specs.Run.{fault_or, find_targets, unknown_argument}
 use Rattle.redo_run.specs.Outcome.{Call}
 
--- A call of `run_as`: the text, from the logs and the requested targets; all targets, the maximum number of bytes of a stream,
--- and the arguments that name the requested targets; and what is known of the readers.
+-- A call of `run_as`: the text, from the logs and the requested targets; all targets, the maximum number of bytes of a stream, and
+-- the arguments that name the requested targets; and the known streams of the readers.
 pub record RenderCall : Type 0 where
   pub text : List Log → List (List ℕ) → List ℕ
   pub targets : List (List ℕ)

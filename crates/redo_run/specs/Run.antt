@@ -15,8 +15,8 @@ use Rattle.redo_run.specs.declared.run_fault.RunFault.TheVariants as fault
 use Rattle.redo_index.specs.declared.index_entry.IndexEntry.{IndexEntry}
 use Rattle.redo_index.specs.Index.{listed_targets}
 
--- The request of a run: all targets, the maximum number of bytes of a stream, what the text shows, and the arguments that
--- name the requested targets.
+-- The request of a run: all targets, the maximum number of bytes of a stream, the options of the text, and the arguments that name
+-- the requested targets.
 pub record Request : Type 0 where
   pub targets : List (List ℕ)
   pub max_bytes : ℕ

@@ -62,12 +62,12 @@ timelines : map (λ targets. is_timed (facts_of [] targets))
     ≡ false ∷ true ∷ true ∷ false ∷ []
 timelines = refl
 
--- A requested target of which only the start is known has a mark, and one of which only the end is known has none.
+-- A requested target has a mark if only its start is known, and none if only its end is known.
 marks : (only_time None (Some 5) None ≡ Some 5) × (only_time None None (Some 5) ≡ None) × (only_time (Some 0) None (Some 5) ≡ Some 5)
     × (only_time (Some 0) (Some 5) None ≡ Some 5) × (only_time (Some 0) (Some 5) (Some 6) ≡ None)
 marks = (refl, refl, refl, refl, refl)
 
--- Eleven recipes, of which the shortest is left out. The position of each row is the recipe's.
+-- Eleven recipes. The shortest one is left out. The position of each row is the recipe's.
 abbrev rank : ℕ → ℕ → Rank
 rank value position = record { value = value; position = position }
 

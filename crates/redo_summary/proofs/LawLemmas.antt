@@ -1,4 +1,4 @@
--- What the laws state.
+-- The statements of the laws.
 use Rattle.std.proofs.Common.{◌≡◌, ℕ, zero, suc, ◌+◌, ◌<◌, ◌≤◌, Bool, true, false, cond, ltb, List, [], ◌∷◌, ◌++◌, Option, None, Some, inl, inr, filter, filter_map, length, map, not, option_map, take, refl, ◌∙◌, ap, subst, arith}
 use Rattle.std.specs.Prelude.{◌-◌, IfSome, slice_get}
 use Rattle.std.specs.declared.cmp.Ordering.{Ordering}
@@ -19,7 +19,7 @@ use Rattle.redo_summary.specs.Ranks.{first_ranks, rank_cmp, rank_of, warnings_fr
 use Rattle.redo_summary.specs.Summary.{summary_of}
 use Rattle.redo_summary.specs.Targets.{duration_of, mark_of, only_time, span_between, span_if, span_of, target_of, targets_from, targets_of, time_between, times_of}
 
--- ---- what holds of each item still holds
+-- ---- properties of each item still hold
 
 module _ {X : Type 0} (P : X → Type 0) where
   all_passed : (test : X → Bool) (xs : List X) → AllByRecursion P xs → AllByRecursion P (filter test xs)

@@ -51,7 +51,7 @@ pub longest_more : (recipes : List Span) (i : ℕ) (d : Span) → i < length rec
 longest_more recipes i d below = first_more (rank_of (get_or recipes i d)) (map rank_of (drop (i + 1) recipes))
     ∙ ap longest_of (sym (drop_more recipes i d below))
 
--- What a position past the end has.
+-- The span of a position past the end.
 abbrev no_span : Span
 no_span = record { began = 0; position = 0; ended = 0; failed = false }
 
@@ -68,7 +68,7 @@ longest_next recipes i value old new some within took so_far inserted =
     (so_far ∙ ap (λ (k : ℕ). longest_of (drop k recipes)) i_is)
     ∙ longest_more recipes (i - 1) no_span (omega arith)
 
--- The targets of some nodes with the most warnings, of which the first one has this position.
+-- The targets with the most warnings of consecutive nodes. The first node has this position.
 abbrev pub warned_from : ℕ → List Node → List Rank
 warned_from position nodes = first_ranks (filter (λ (rank : Rank). ltb 0 rank.value) (warnings_from position nodes))
 

@@ -1,4 +1,4 @@
--- Rows of what the times of shown targets say. The values are worked out by hand.
+-- Rows of the facts about the times of shown targets. The values are worked out by hand.
 use Rattle.std.proofs.Common.{◌≡◌, ℕ, ℤ, pos, negsuc, true, false, List, [], ◌∷◌, Option, None, Some, replicate, refl}
 use Rattle.redo_timeline.specs.declared.span.Span.{Span}
 use Rattle.redo_times.specs.declared.times.Times.{Times}

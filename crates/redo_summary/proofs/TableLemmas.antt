@@ -17,7 +17,7 @@ before_both a b c (inl less) (inr same) = inl (let value = same.0 in omega (arit
 before_both a b c (inr same) (inl more) = inl (let value = same.0 in omega (arith, more, value))
 before_both a b c (inr same) (inr next) = inr (same.0 ∙ next.0, let low = same.1 in let high = next.1 in omega (arith, low, high))
 
--- What is before the first of some ranks in order is before all of them.
+-- A rank before the first of some ranks in order is before all of them.
 before_all : (rank : Rank) (ranks : List Rank) → IsBeforeFirst rank ranks → AreInOrder ranks → AllByRecursion (IsBefore rank) ranks
 before_all rank [] first ordered = tt
 before_all rank (next ∷ rest) first ordered = (first, before_all rank rest (later rest ordered.0) ordered.1)

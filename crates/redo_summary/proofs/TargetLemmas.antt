@@ -7,7 +7,7 @@ use Rattle.redo_summary.specs.declared.target.Target.{Target}
 use Rattle.redo_summary.specs.Private.Marking.{ArePositioned}
 use Rattle.redo_summary.specs.Targets.{no_times, target_of, targets_from, targets_of}
 
--- What a position past the end has.
+-- The target of a position past the end.
 abbrev pub no_target : Target
 no_target = record { position = 0; parent = None; failed = false; times = no_times }
 

@@ -1,4 +1,4 @@
--- What the times of the shown targets say.
+-- The facts about the times of the shown targets.
 use Rattle.std.specs.Prelude.{ℕ, ◌+◌, ◌*◌, Bool, ◌&&◌, leb, ltb, List, Option, length, sum_by}
 use Rattle.redo_timeline.specs.declared.span.Span.{Span}
 use Rattle.redo_timeline.specs.declared.span.Window.{Window}
@@ -31,7 +31,7 @@ pub record Facts : Type 0 where
   pub longest : List Rank
   pub warned : List Rank
 
--- The sum of what is counted of each item, as it fits into 64 bits.
+-- The sum of the counts of all items, as it fits into 64 bits.
 abbrev pub total : {X : Type 0} → (X → ℕ) → List X → ℕ
 total count items = saturated (sum_by count items)
 
@@ -46,7 +46,7 @@ warnings_of nodes = total (λ (node : Node). node.warnings) nodes
 abbrev pub bytes_of : List Node → ℕ
 bytes_of nodes = total (λ (node : Node). node.bytes) nodes
 
--- What some nodes and the targets of them say.
+-- The facts about some nodes and their targets.
 abbrev pub facts_of : List Node → List Target → Facts
 facts_of nodes targets = record {
   window = window_over (known_times targets);

@@ -1,6 +1,7 @@
-//! What the times of the shown targets of a build say: when they ran, how long it took, and which ones took longest.
+//! The facts about the times of a build's shown targets: when they ran, how long the build took, and which ones took
+//! longest.
 //!
-//! [`Summary::new`] computes it from the nodes of an outline and the times of all targets. It makes no HTML.
+//! [`Summary::new`] computes them from the nodes of an outline and the times of all targets. It makes no HTML.
 //!
 //! # Terms
 //!

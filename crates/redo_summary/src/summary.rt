@@ -1,4 +1,4 @@
-//! What the times of the shown targets say.
+//! The facts about the times of the shown targets.
 ghost use Rattle.std.specs.Prelude.{◌≡◌, IfOk, IfSome};
 ghost use Rattle.redo_timeline.specs.Bars.{IsValidWindow};
 ghost use Rattle.redo_summary.specs.Summary.{is_timed, summary_of};
@@ -15,7 +15,7 @@ use redo_times::Times;
 use std::alloc::{AllocError, Global};
 use std::marker::Model;
 
-/// What the times of the shown targets say.
+/// The facts about the times of the shown targets.
 #[derive(Drop)]
 pub struct Summary {
     window: Option<Window>,

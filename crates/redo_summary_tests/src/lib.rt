@@ -1,4 +1,5 @@
-//! Tests of what the times of shown targets say. They are in a separate crate so that no crate below is proved a second time.
+//! Tests of the facts about the times of shown targets. They are in a separate crate so that no crate below is proved a
+//! second time.
 #![tactic(auto)]
 
 #[cfg(test)]

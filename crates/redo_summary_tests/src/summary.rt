@@ -24,8 +24,8 @@ fn summary_of_nothing(rt: HostRuntime) -> Result<(), Fail> {
     Ok(())
 }
 
-// A requested target ran two others at the same time, of which one failed. Of a third one only the end is known, and of a fourth one
-// nothing. Their logs are not numbered in order of position.
+// A requested target ran two others at the same time, and one of these failed. Only the end of a third one is known, and no time of
+// a fourth one. Their logs are not numbered in order of position.
 #[test]
 fn summary_of_small_build(rt: HostRuntime) -> Result<(), Fail> {
     let nodes = [
@@ -64,8 +64,8 @@ fn summary_of_small_build(rt: HostRuntime) -> Result<(), Fail> {
     Ok(())
 }
 
-// A requested target, of which only the end is known, and 30 others one after another: the one at position i took 100 + i milliseconds, and
-// has i % 3 warnings.
+// A requested target with a known end and an unknown start, and 30 others one after another: the one at position i took 100 + i
+// milliseconds, and has i % 3 warnings.
 #[test]
 fn summary_of_larger_build(rt: HostRuntime) -> Result<(), Fail> {
     let mut nodes = Vec::new(rt.alloc());

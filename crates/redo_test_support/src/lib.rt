@@ -4,8 +4,8 @@
 //!
 //! A test iterates over a `static` table by reference and passes each case to a short function, because proofs grow faster
 //! than functions. A `const` is rebuilt wherever it is named. Functions that own a table or readers, also outside tests,
-//! should only create them and lend them out: each exit drops what it owns, and each drop is proved. So `LogTable` and
-//! `Index` implement `Drop` by hand.
+//! should only create them and lend them out: each exit drops what it owns, and each drop is proved. This is why
+//! `LogTable` and `Index` implement `Drop` by hand.
 #![tactic(auto)]
 
 mod counter;

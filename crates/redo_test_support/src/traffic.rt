@@ -9,7 +9,7 @@ use std::sync::Wait;
 use std::thread;
 use std::thread::{Promise, PromisedHandle, Scope, Threads};
 
-/// What a sender posts at its end.
+/// The items that a sender posts at its end.
 pub trait Posting: Drop + Send {
     /// Returns the number of streams that it ends or lets fail.
     fn streams(&self) -> usize;
@@ -130,7 +130,6 @@ fn start<'s, T: Threads + Wait + Sync, P: Posting + 's, E>(
     Ok(scope.spawn_with(promise, move || posting.post(rt, end))?)
 }
 
-/// Posts the items, and returns the end.
 fn post_items<T: Wait>(rt: &T, end: PostEnd, items: Posts) -> PostEnd
     ensures { result.mailbox ≡ end.mailbox }
 {
@@ -187,7 +186,7 @@ impl Emptied {
         self.is_lost |= self.taken.push(item).is_err();
     }
 
-    /// Takes what is left after all ends were met, and returns all that was taken.
+    /// Takes the remaining items after all ends were met, and returns all items taken.
     fn all<T: Wait>(mut self, rt: &T) -> Result<Vec<Item>, &'static str> {
         for _ in rt.forever() {
             let Some(item) = rest(rt, &mut self.mailbox)? else {

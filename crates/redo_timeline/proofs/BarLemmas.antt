@@ -35,7 +35,7 @@ any-last p [] x fails = ap (λ (b : Bool). b || false) fails
 any-last p (y ∷ ys) x fails = ap (λ (b : Bool). p y || b) (any-last p ys x fails)
 
 module _ (window : Window) where
-  -- What is known of a span that joins a bar.
+  -- Facts about a span that joins a bar.
   pub joins_narrow : (bar : List Span) (span : Span) → joins window bar span ≡ true → is_narrow window span ≡ true
   joins_narrow bar span h = and_left _ _ (and_left _ _ (and_left _ _ h))
 

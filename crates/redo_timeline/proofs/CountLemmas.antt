@@ -71,7 +71,7 @@ times_split time spans begins ends begun ended =
     begins_count ∙ both ∙ ap (λ n. n + sum_of (λ (span : Span). one_if (runs_at time span)) spans) (sym ends_count)
     ∙ ap (λ n. count_by test ends + n) running
 
--- What is counted of the times, as it was computed.
+-- The count of the times, as it was computed.
 pub running_is :
     (time : ℕ) (spans : List Span) (begins sorted_begins read_begins ends sorted_ends read_ends : List ℕ) (begun ended : ℕ)
     → begins ≡ begins_of spans → AreSortedTimes begins sorted_begins → read_begins ≡ sorted_begins

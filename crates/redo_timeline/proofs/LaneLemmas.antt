@@ -7,7 +7,7 @@ use Rattle.redo_timeline.specs.declared.span.Span.{Span}
 use Rattle.redo_timeline.specs.Lanes.{ended_of, is_free, take_lane, take_lanes}
 use Rattle.redo_timeline.specs.Private.Placing.{ends_of, lane_for, put_end, put_in_lane}
 
--- What a position past the end has.
+-- The span of a position past the end.
 abbrev pub no_span : Span
 no_span = record { began = 0; position = 0; ended = 0; failed = false }
 
@@ -80,7 +80,7 @@ end_is_new lane ended [] above = refl
 end_is_new zero ended (end ∷ ends) above = absurd (omega (arith, above))
 end_is_new (suc lane) ended (end ∷ ends) above = ap (λ (ends : List ℕ). end ∷ ends) (end_is_new lane ended ends (omega (arith, above)))
 
--- ---- in lists of what has spans
+-- ---- in lists of items with spans
 
 module _ {A : Type 0} (spans_in : A → List Span) where
   pub put_at : (lane : ℕ) (span : Span) (lanes : List A) (old new : A) → lane < length lanes → old ≡ get_or lanes lane old

@@ -1,4 +1,4 @@
--- What holds of all timelines.
+-- Properties of all timelines.
 use Rattle.std.proofs.Common.{◌≡◌, ℕ, ◌+◌, ◌-◌, ◌<◌, ◌≤◌, ◌⊎◌, inl, inr, max, leb, ltb, Bool, true, false, not, cond, List, [], ◌∷◌, ◌++◌, length, map, refl, sym, ap, ◌∙◌, subst, arith, append_assoc, length-append}
 use Rattle.std.specs.Prelude.{◌&&◌, ◌||◌}
 use Rattle.std.specs.List.{AllByRecursion, flat_map, list_all}
@@ -85,7 +85,7 @@ narrow_none_failed window (span ∷ rest) all =
     ap (λ (b : Bool). b || has_failed rest) (narrow_not_failed window span (and_left _ _ all))
     ∙ narrow_none_failed window rest (and_right (is_narrow window span) _ all)
 
--- What holds of each bar.
+-- Properties of each bar.
 record Proper (window : Window) (bar : List Span) : Type 0 where
   some : 0 < length bar
   alone : IsAloneIfFailed bar

@@ -1,4 +1,4 @@
--- What sorting does.
+-- Properties of sorting.
 use Rattle.std.proofs.Common.{◌≡◌, ℕ, zero, suc, ◌+◌, ◌<◌, Bool, true, false, cond, List, [], ◌∷◌, length, get_or, refl, sym, ap, ◌∙◌, subst, arith}
 use Rattle.std.specs.declared.cmp.Ordering.{Ordering}
 use Rattle.std.specs.declared.cmp.Ordering.TheVariants.{Less, Equal, Greater}
@@ -57,7 +57,7 @@ module _ {K : Type 0} (cmp : K → K → Ordering) where
   sort-permutation (x ∷ xs) = IsPermutation-trans _ _ _ (IsPermutation-cons x _ _ (sort-permutation xs))
       (insert-permutation x (sort cmp xs))
 
-  -- ---- what is sorted stays
+  -- ---- a sorted list stays
 
   insert-first : (x : K) (xs : List K) → ((d : K) → 1 < length (x ∷ xs) → is_gt (cmp x (get_or xs 0 d)) ≡ false)
       → insert_sorted cmp x xs ≡ x ∷ xs
@@ -89,7 +89,7 @@ module _ {K : Type 0} (cmp : K → K → Ordering) where
         subst (λ (n : ℕ). is_lt (cmp (get_or (x ∷ xs) n d) (get_or xs k d)) ≡ false) e (up (suc k) d (omega arith) (omega (arith, high)))))
         ∙ insert-first x xs (λ d some. gt_of_lt x (get_or xs 0 d) (up 0 d (omega arith) (omega (arith, some))))
 
-    -- ---- what is sorted rises
+    -- ---- a sorted list rises
 
     all_above : (x y : K) → is_gt (cmp x y) ≡ false → (ys : List K) → AllByRecursion (λ z. is_gt (cmp y z) ≡ false) ys
         → AllByRecursion (λ z. is_gt (cmp x z) ≡ false) ys
@@ -138,7 +138,7 @@ module _ {K : Type 0} (cmp : K → K → Ordering) where
     pub sort-is_sorted : (xs : List K) → IsSorted cmp (sort cmp xs)
     sort-is_sorted xs = λ k d low high. rising-adjacent (sort cmp xs) (sort-rising xs) k d high
 
-    -- ---- what rises is determined by how often each item occurs
+    -- ---- how often each item occurs determines a list that rises
 
     abbrev one_if : Bool → ℕ
     one_if true = 1

@@ -1,4 +1,4 @@
--- What is drawn of lanes.
+-- The bars of lanes.
 use Rattle.std.proofs.Common.{◌≡◌, ℕ, suc, ◌+◌, ◌<◌, ◌≤◌, List, [], ◌∷◌, ◌++◌, length, map, get_or, drop, refl, sym, ap, ◌∙◌, arith, drop-cons, append_assoc}
 use Rattle.std.proofs.lemmas.List.{append-nil, drop_all}
 use Rattle.redo_timeline.specs.declared.bar.Bar.{Bar}

@@ -112,7 +112,7 @@ last_ends :
     × (ended_of (span 0 0 18 ∷ span 1 1 3 ∷ []) ≡ 18) × (ended_of [] ≡ 0)
 last_ends = (refl, refl, refl)
 
--- What is drawn of one span, of a failed one, and of several.
+-- The bar of one span, of a failed one, and of several.
 drawn :
     (bar_of window 3 (span 8 5 8 ∷ []) ≡ record {
       lane = 3;
@@ -155,7 +155,7 @@ all_spans : spans_of (((span 0 0 1 ∷ span 1 1 2 ∷ []) ∷ (span 2 3 4 ∷ []
     ≡ span 0 0 1 ∷ span 1 1 2 ∷ span 2 3 4 ∷ span 3 0 5 ∷ []
 all_spans = refl
 
--- ---- what the laws reject
+-- ---- timelines that the laws reject
 
 -- Two bars overlap in lane 0, though lane 1 is allowed too. Then a higher lane comes first.
 rejected_turns :

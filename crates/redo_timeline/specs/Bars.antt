@@ -53,7 +53,7 @@ has_failed bar = list_any (λ (span : Span). span.failed) bar
 abbrev pub width_of : Window → List Span → ℕ
 width_of window bar = units window (ended_of bar) - units window (began_of bar)
 
--- What is drawn of a bar. A bar is at least 0.1 % wide, and one that failed at least 0.3 %.
+-- The bar, as it is drawn. A bar is at least 0.1 % wide, and one that failed at least 0.3 %.
 abbrev pub bar_of : Window → ℕ → List Span → Bar
 bar_of window lane bar = record {
   lane = lane;

@@ -5,7 +5,7 @@ use Rattle.std.specs.Ordering.{bool_cmp, is_gt, nat_cmp, ordering_then}
 use Rattle.redo_timeline.specs.declared.span.Span.{Span}
 
 -- Spans are ordered by when they began, then by position. If two spans have the same position too, the one that ended first is first, and a
--- span that failed is last. So only equal spans compare as equal.
+-- span that failed is last. Only equal spans compare as equal.
 abbrev pub span_cmp : Span → Span → Ordering
 span_cmp a b =
     ordering_then (nat_cmp a.began b.began)

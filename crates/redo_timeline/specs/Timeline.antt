@@ -6,7 +6,7 @@ use Rattle.redo_timeline.specs.declared.span.Window.{Window}
 use Rattle.redo_timeline.specs.Bars.{bar_of, bars_in}
 use Rattle.redo_timeline.specs.Lanes.{lanes_of}
 
--- What is drawn: the bars, and the number of lanes that they take.
+-- A drawing: the bars, and the number of lanes that they take.
 pub record Drawing : Type 0 where
   pub bars : List Bar
   pub lane_count : ℕ
@@ -15,7 +15,7 @@ pub record Drawing : Type 0 where
 abbrev pub bars_of : Window → ℕ → List Span → List (List (List Span))
 bars_of window max_lanes spans = map (bars_in window) (lanes_of max_lanes spans)
 
--- What is drawn of the bars of some lanes. The first lane has the number `lane`.
+-- The bars of some lanes, as they are drawn. The first lane has the number `lane`.
 abbrev pub drawn_bars : Window → ℕ → List (List (List Span)) → List Bar
 drawn_bars window lane [] = []
 drawn_bars window lane (bars ∷ lanes) = map (bar_of window lane) bars ++ drawn_bars window (lane + 1) lanes

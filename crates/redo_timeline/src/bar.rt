@@ -1,6 +1,6 @@
-//! What is drawn of spans.
+//! A bar of the timeline.
 
-/// What is drawn of one span, or of several that are too narrow to be seen apart.
+/// The bar of one span, or of several that are too narrow to be drawn apart.
 #[derive(Clone, Copy, Debug, PartialEq, Eq)]
 pub struct Bar {
     /// The lane, counted from 0.

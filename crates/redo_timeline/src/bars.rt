@@ -7,7 +7,7 @@ use crate::draft::Draft;
 use crate::span::{Span, Window};
 use std::alloc::AllocError;
 
-/// Adds what is drawn of the spans in a lane.
+/// Adds the bars of the spans in a lane.
 pub fn add_bars(
     window: Window,
     lane: usize,

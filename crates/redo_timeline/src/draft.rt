@@ -27,7 +27,7 @@ const MIN_WIDTH: u64 = 10;
 
 const MIN_FAILED_WIDTH: u64 = 30;
 
-/// What is known of the spans of a bar.
+/// The facts about the spans of a bar.
 #[derive(Clone, Copy)]
 pub struct Draft {
     pub began: u64,
@@ -77,7 +77,7 @@ impl Draft {
         self.count += 1;
     }
 
-    /// Returns what is drawn of the draft's spans.
+    /// Returns the bar of the draft's spans.
     pub fn bar(&self, window: Window, lane: usize) -> Bar
         requires { IsValidWindow window }
         ensures { result ≡ drawn_draft window lane self.now }
@@ -102,7 +102,6 @@ impl Draft {
     }
 }
 
-// Whether a span is narrow.
 fn is_narrow(window: Window, span: &Span) -> bool
     requires { IsValidWindow window }
     ensures { result ≡ is_narrow window span.now }

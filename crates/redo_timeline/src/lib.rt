@@ -6,7 +6,7 @@
 //!
 //! - *Span*: the time from when a target began to when it ended. Its *position* says which target it is.
 //! - *Lane*: a row of the timeline. The spans in a lane follow each other, except in the last lane that is allowed.
-//! - *Bar*: what is drawn of a span, or of several consecutive ones that are too narrow to be seen apart.
+//! - *Bar*: the rectangle for a span, or for several consecutive ones that are too narrow to be drawn apart.
 //! - *Unit*: a hundredth of a percent of the width of the timeline.
 #![tactic(auto)]
 

@@ -62,7 +62,6 @@ fn end_of(span: &Span) -> u64
     }
 }
 
-// Returns the times in order.
 fn in_order(mut times: Vec<u64>) -> Vec<u64>
     ensures { AreSortedTimes times.items result.items }
 {

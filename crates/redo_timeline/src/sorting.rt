@@ -1,6 +1,6 @@
 //! The order of spans.
 //!
-//! It is total. So there is only one sorted list, and the sort may be an unstable one, which allocates nothing.
+//! It is total: there is only one sorted list, and the sort may be an unstable one, which allocates nothing.
 ghost use Rattle.std.specs.Prelude.{◌≡◌, IfOk};
 ghost use Rattle.redo_timeline.specs.Order.{in_order};
 

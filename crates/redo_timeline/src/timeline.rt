@@ -1,6 +1,6 @@
 //! The layout of a timeline.
 //!
-//! A time outside the window is drawn at its edge. So only the window must be valid, and no product of a width overflows.
+//! A time outside the window is drawn at its edge, so only the window must be valid, and no product of a width overflows.
 ghost use Rattle.std.specs.Prelude.{◌≡◌, IfOk};
 ghost use Rattle.redo_timeline.specs.Bars.{IsValidWindow};
 ghost use Rattle.redo_timeline.specs.Timeline.{timeline_of};

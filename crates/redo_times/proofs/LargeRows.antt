@@ -1,4 +1,4 @@
--- Rows of long names, late times and equal times, and what holds of streams of any length.
+-- Rows of long names, late times and equal times, and properties of streams of any length.
 use Rattle.std.proofs.Common.{◌≡◌, ℕ, Bool, false, List, [], ◌∷◌, ◌++◌, None, Some, pos, negsuc, length, map, replicate, refl}
 use Rattle.std.specs.Prelude.{codes, slice_get}
 use Rattle.redo_device.specs.Feed.{Stream}
@@ -62,7 +62,7 @@ whole_streams : (target bytes : List ℕ) (fails : Bool)
     → logs_of (target ∷ []) (record { bytes = bytes; fails = fails } ∷ []) ≡ record { target = target; bytes = bytes } ∷ []
 whole_streams target bytes fails = refl
 
--- Whatever the status of a target is, a `done` record says that it ended.
+-- A `done` record with any status says that a target ended.
 done_records : map (λ status. stage_of (codes "a") (Done 7 status (codes "b")))
     (pos 0 ∷ pos 1 ∷ pos 2 ∷ pos 130 ∷ negsuc 0 ∷ negsuc 8 ∷ []) ≡ replicate 6 (Some (EndedInOtherLog, codes "b"))
 done_records = refl
@@ -71,7 +71,7 @@ closing_records : map (λ status. stage_of (codes "a") (Closing 7 status)) (pos 
     ≡ replicate 6 (Some (EndedInOwnLog, codes "a"))
 closing_records = refl
 
--- Whatever the process is, a `do` record says that a target began.
+-- A `do` record of any process says that a target began.
 do_records : map (λ pid. stage_of (codes "a") (Mention pid Made (codes "b"))) (0 ∷ 1 ∷ 7 ∷ 32768 ∷ 4194304 ∷ [])
     ≡ replicate 5 (Some (Began, codes "b"))
 do_records = refl

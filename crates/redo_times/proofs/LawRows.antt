@@ -108,7 +108,7 @@ not_last = (
 not_never : ¬ Never IsOneOrThree
 not_never = λ never. never 3 (inr refl)
 
--- ---- what logs report
+-- ---- the reports of logs
 
 only : {A : Type 0} (x y : A) → Contains (x ∷ []) y → x ≡ y
 only x y (zero, below, is) = is
@@ -139,7 +139,7 @@ same_target stage other target name same = ap target_in same
 same_time : (time other : ℕ) → Some time ≡ Some other → time ≡ other
 same_time time other same = cc
 
--- What a log with one line says.
+-- The report of a log with one line.
 says_line : (logs : List TimedLog) (log : TimedLog) (line : List ℕ) (stage : Stage) (target : List ℕ) (time : ℕ)
     → ended (take 1000 log.bytes) ≡ line ∷ []
     → (report : IsReported 1000 logs stage target time) → log ≡ report.log
@@ -181,7 +181,7 @@ not_in_logs : ¬ IsReported 1000 [] EndedInOtherLog a 1700000020000
 unfolding split_lines ended record_fields fields_of status_of split_once after_prefix normal reduce_suffix number time_value entry_of record_entry report_of
 not_in_logs = λ report. let below = report.is_log.1 in omega (arith, below)
 
--- The record has 31 bytes with its line feed. Within 30 it isn't ended.
+-- The record has 31 bytes with its line feed. Within 30 it is unended.
 not_within : ¬ IsReported 30 (done_in_all ∷ []) EndedInOtherLog a 1700000020000
 unfolding split_lines ended record_fields fields_of status_of split_once after_prefix normal reduce_suffix number time_value entry_of record_entry report_of
 not_within = λ report.

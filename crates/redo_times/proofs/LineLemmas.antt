@@ -76,7 +76,7 @@ module _ (bytes hay : List ℕ) (upto : ℕ) (hay_is : hay ≡ drop upto bytes) 
         subst (λ (lines : List (List ℕ)). AreTallies targets (reports ++ reports_in log lines) tallies)
         (sym (append-nil (ended (take upto bytes))) ∙ sym cut_last.0 ∙ ap ended all_joined) are
 
--- ---- the lines of a chunk, of which the first one began before it
+-- ---- the lines of a chunk, if the first one began before it
 
 module _ (taken partial chunk : List ℕ) (kept : partial ≡ rest taken) where
   -- No line ends in the chunk.

@@ -17,7 +17,7 @@ weaker_some : (found : Option ℕ) (P Q : ℕ → Type 0) → ((x : ℕ) → P x
 weaker_some None P Q follows holds = tt
 weaker_some (Some x) P Q follows holds = follows x holds
 
--- What holds of some streams, whichever they are.
+-- A property that doesn't depend on the streams.
 in_any_case : (known : List (Option Stream)) (P : Type 0) → SomeStreams known (λ streams. P) → P
 in_any_case [] P holds = holds
 in_any_case (None ∷ known) P holds = in_any_case known P holds.1

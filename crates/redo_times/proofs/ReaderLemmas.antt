@@ -11,7 +11,7 @@ use Rattle.redo_times.specs.Report.{TimedLog, log_reports, reports_of}
 use Rattle.redo_times.specs.Times.{times_in}
 use Rattle.redo_times.specs.Private.Tally.{AreTallies, AreTalliesOfReaders, AreTalliesOfStream, tally_of, times_from}
 
--- If `P` holds of some streams, so does what follows from it. There are as many streams as readers.
+-- If `P` holds of some streams, so does a property that follows from it. There are as many streams as readers.
 pub weaker_all : (known : List (Option Stream)) (P Q : List Stream → Type 0)
     → ((streams : List Stream) → length streams ≡ length known → P streams → Q streams) → SomeStreams known P → SomeStreams known Q
 weaker_all [] P Q follows some = follows [] refl some

@@ -1,4 +1,4 @@
--- Rows of the times of all targets, by the streams of their readers, and of what a record is for the laws.
+-- Rows of the times of all targets, by the streams of their readers, and of records, as the laws define them.
 use Rattle.std.proofs.Common.{◌≡◌, ℕ, false, true, List, [], ◌∷◌, ◌++◌, Option, None, Some, refl}
 use Rattle.std.specs.Prelude.{codes}
 use Rattle.redo_device.specs.Feed.{Stream}

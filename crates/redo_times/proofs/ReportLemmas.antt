@@ -1,4 +1,4 @@
--- What a line reports, from the parts of its record.
+-- The report of a line, from the parts of its record.
 use Rattle.std.proofs.Common.{◌≡◌, ℕ, true, List, [], Option, None, Some, refl, sym, ap, ◌∙◌}
 use Rattle.std.specs.Prelude.{codes, option_map, option_and_then}
 use Rattle.std.specs.Cmp.Lexicographic.{same_text}
@@ -13,7 +13,7 @@ use Rattle.redo_times.specs.declared.report.Stage.{Stage}
 use Rattle.redo_times.specs.Report.{report_at, report_of, stage_of}
 use Rattle.redo_times.specs.Time.{time_value}
 
--- The fields of a line of which three parts are known.
+-- The fields of a line with three known parts.
 record Known (line kind time text : List ℕ) : Type 0 where
   pub fields : Fields
   pub are : record_fields line ≡ Some fields
@@ -64,7 +64,7 @@ module _ (target line : List ℕ) where
         let never : time_value of.fields.time ≡ None = ap time_value of.time_is ∙ sym none in
         rw (of.are, never) refl
 
-    -- What such a record says.
+    -- The stage that such a record states, and its target.
     abbrev pub Says : Option (Stage × List ℕ) → Type 0
     Says said = (pid : ℕ) → said ≡ option_and_then (stage_of target) (entry_of_fields target (kind_of kind) kind pid text)
 

@@ -1,4 +1,4 @@
--- The times of a target, from what the records of logs report.
+-- The times of a target, from the reports of logs.
 use Rattle.std.proofs.Common.{◌≡◌, ℕ, ◌&&◌, ◌⊎◌, inl, inr, Bool, true, false, List, [], ◌∷◌, Option, None, Some, refl, sym, ap, ◌∙◌, subst, arith, leb}
 use Rattle.std.specs.Prelude.{min, max, option_and_then, take}
 use Rattle.std.specs.Cmp.Lexicographic.{same_text}
@@ -49,7 +49,7 @@ first_or_later x y xs here =
       | inr there ↦ inr there
     ]
 
--- What is among the results comes from an element.
+-- Each result comes from an element.
 mapped_from : {X Y : Type 0} (h : X → Option Y) (xs : List X) (y : Y) → Contains (filter_map h xs) y
     → (x : X) × Contains xs x × (h x ≡ Some y)
 mapped_from h [] y here = absurd (nothing y here)

@@ -12,7 +12,7 @@ use Rattle.redo_times.specs.declared.tally.Tally.{Tally}
 use Rattle.redo_times.specs.Private.Tally.{AreTallies, AreTalliesAfter, AreTalliesOfStream}
 use Rattle.redo_times.proofs.LineLemmas.{none_after}
 
--- The bytes that a reader gave so far, of which `left` more count.
+-- The bytes that a reader gave so far. `left` more count.
 pub record Reading (targets : List (List ℕ)) (log : List ℕ) (max_bytes left : ℕ) (known now : Option Stream) (partial : List ℕ)
     (first tallies : List Tally) : Type 0 where
   pub taken : List ℕ

@@ -153,7 +153,7 @@ module _ (stage : Stage) (name : List ℕ) (time : ℕ) (reports : List Report) 
     missing none = are ∙ others_kept targets
         (each_fails (pointwise nat_eq name) targets (sym (some_place (pointwise nat_eq name) targets) ∙ ap is_some none))
 
--- Tallies of which nothing is known.
+-- Tallies without any report.
 pub all_empty : (empty : Tally) → ((target : List ℕ) → empty ≡ tally_of [] target) → (targets : List (List ℕ))
     → AreTallies targets [] (replicate (length targets) empty)
 all_empty empty is [] = refl

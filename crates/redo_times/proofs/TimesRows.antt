@@ -150,7 +150,7 @@ these_prefixes : AllByRecursion (HasTimes 27) prefixes
 unfolding split_lines ended record_fields fields_of status_of split_once after_prefix normal reduce_suffix number time_value entry_of record_entry report_of
 these_prefixes = (refl, (refl, tt))
 
--- If only 26 bytes count, the first record is not ended.
+-- If only 26 bytes count, the first record is unended.
 abbrev cut_records : List Row
 cut_records =
     from (log all (begins (codes "1700000005") (codes "a")) ∷ []) a None None ∷

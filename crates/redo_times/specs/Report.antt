@@ -1,4 +1,4 @@
--- What the records of logs report about targets: that one began or ended, and when.
+-- The reports of the records of logs about targets: that one began or ended, and when.
 use Rattle.std.specs.Prelude.{ℕ, true, List, Option, None, Some, option_and_then, take, filter_map}
 use Rattle.std.specs.List.{flat_map}
 use Rattle.redo_line.specs.declared.entry.Entry.{Entry}
@@ -17,7 +17,7 @@ pub record TimedLog : Type 0 where
   pub target : List ℕ
   pub bytes : List ℕ
 
--- What an entry in the log of `target` reports, and about which target. `do` says that a target began, `done` that it ended.
+-- The stage that an entry in the log of `target` reports, and its target. `do` says that a target began, `done` that it ended.
 abbrev pub stage_of : List ℕ → Entry → Option (Stage × List ℕ)
 stage_of target (Mention pid Made name) = Some (Began, name)
 stage_of target (Mention pid Waiting name) = None
@@ -39,18 +39,18 @@ report_at None said = None
 report_at (Some time) None = None
 report_at (Some time) (Some said) = Some (record { stage = said.0; target = said.1; time = time })
 
--- What an ended line in the log of `target` reports, if it is a record with a time that counts.
+-- The report of an ended line in the log of `target`, if the line is a record with a time that counts.
 unfoldable pub report_of : List ℕ → List ℕ → Option Report
 report_of target line = report_at (line_time line) (option_and_then (stage_of target) (entry_of target line true))
 
--- What some lines in the log of `target` report.
+-- The reports of some lines in the log of `target`.
 abbrev pub reports_in : List ℕ → List (List ℕ) → List Report
 reports_in target lines = filter_map (report_of target) lines
 
--- What a log reports: its ended lines within the first `max_bytes` bytes.
+-- The reports of a log, by its ended lines within the first `max_bytes` bytes.
 abbrev pub log_reports : ℕ → TimedLog → List Report
 log_reports max_bytes log = reports_in log.target (ended (take max_bytes log.bytes))
 
--- What all logs report.
+-- The reports of all logs.
 abbrev pub reports_of : ℕ → List TimedLog → List Report
 reports_of max_bytes logs = flat_map (log_reports max_bytes) logs

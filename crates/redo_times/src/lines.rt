@@ -1,7 +1,7 @@
-//! What the lines of a chunk of a log report.
+//! The reports of the lines of a chunk of a log.
 //!
 //! A line is skipped unless it begins with `@@REDO:`. Only `do` and `done` records are resolved and looked up. A record that
-//! is not valid is skipped, because a run reports it. So a stream with a fault has times too.
+//! is not valid is skipped, because a run reports it. A stream with a fault has times too.
 ghost use Rattle.std.specs.Prelude.{◌≡◌, ◌≤◌, ℕ, List, ◌++◌, ◌∷◌, [], drop, length, IfOk, OnOk};
 ghost use Rattle.redo_index.specs.Index.{listed_targets, IsIndex};
 ghost use Rattle.redo_line.specs.Lines.{ended, rest};
@@ -16,7 +16,7 @@ use redo_index::Index;
 use redo_line::TargetName;
 use std::alloc::{AllocError, Global};
 
-/// Adds what the lines that end in a chunk report. `partial` has the bytes after the last line feed so far.
+/// Adds the reports of the lines that end in a chunk. `partial` has the bytes after the last line feed so far.
 pub fn add_chunk(
     alloc: Global,
     index: &Index,
@@ -45,7 +45,7 @@ pub fn add_chunk(
     Ok(())
 }
 
-// Adds what the ended lines of these bytes report, and returns the number of bytes up to the last line feed.
+// Adds the reports of the ended lines of these bytes, and returns the number of bytes up to the last line feed.
 fn add_lines(
     alloc: Global,
     index: &Index,
@@ -68,7 +68,7 @@ fn add_lines(
     Ok(upto)
 }
 
-// Adds what an ended line reports.
+// Adds the report of an ended line.
 fn add_line(
     alloc: Global,
     index: &Index,

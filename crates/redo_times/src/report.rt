@@ -1,4 +1,4 @@
-//! What a line reports about a target.
+//! The report of a line about a target.
 ghost use Rattle.std.specs.Prelude.{◌≡◌, ℕ, Some, IfOk, option_and_then};
 ghost use Rattle.redo_line.specs.Entry.{done_entry, entry_of_fields};
 ghost use Rattle.redo_line.specs.Parts.{split_once};
@@ -16,7 +16,7 @@ const DO: &[u8] = b"do";
 
 const DONE: &[u8] = b"done";
 
-/// What a record says about a target.
+/// The stage that a record reports of a target.
 #[derive(Clone, Copy)]
 pub enum Stage {
     Began,
@@ -32,7 +32,7 @@ pub struct Report {
     pub time: u64,
 }
 
-/// Returns what an ended line in the log of `log` reports. Only a line that is reported allocates: the target's name.
+/// Returns the report of an ended line in the log of `log`. Only a line that is reported allocates: the target's name.
 pub fn read_report(
     alloc: Global,
     log: &TargetName,
@@ -56,7 +56,7 @@ pub fn read_report(
     }))
 }
 
-// Returns what a record with this kind and text reports.
+// Returns the stage that a record with this kind and text reports, and its target.
 fn read_stage(
     alloc: Global,
     log: &TargetName,
@@ -75,7 +75,7 @@ fn read_stage(
     Ok(None)
 }
 
-// Returns what a `do` record with this text reports.
+// Returns the stage that a `do` record with this text reports, and its target.
 fn read_begin(
     alloc: Global,
     log: &TargetName,
@@ -89,7 +89,7 @@ fn read_begin(
     }
 }
 
-// Returns what a `done` record with this text reports.
+// Returns the stage that a `done` record with this text reports, and its target.
 fn read_end(
     alloc: Global,
     log: &TargetName,

@@ -1,6 +1,6 @@
 //! Reads the stream of one log.
 //!
-//! The line that a chunk ends in is stored until it ends, even if it is text. So the longest line determines the memory.
+//! The line that a chunk ends in is stored until it ends, even if it is text, so the longest line determines the memory.
 ghost use Rattle.std.specs.Prelude.{◌≡◌, ◌<◌, List, ◌++◌, [], IsOk, OnOk, Some, length};
 ghost use Rattle.redo_device.specs.Feed.{SomeStream, Stream};
 ghost use Rattle.redo_index.specs.Index.{listed_targets, IsIndex};
@@ -14,9 +14,8 @@ use redo_index::Index;
 use redo_line::TargetName;
 use std::alloc::{AllocError, Global};
 
-/// Adds what a log reports. It reads the stream up to its end, a failed read or its first `max_bytes` bytes, whichever
-/// comes first, and never more. None of these is an error. `chunk` and `partial` are buffers for the bytes that are read; their contents don't
-/// matter, before or afterwards.
+/// Adds the reports of a log. It reads at most `max_bytes` bytes of the stream, and nothing after its end or a failed read. None of these
+/// is an error. `chunk` and `partial` are buffers for the bytes that are read; their contents don't matter, before or afterwards.
 pub fn add_stream<R: Feed>(
     alloc: Global,
     index: &Index,

@@ -1,4 +1,4 @@
-//! What was found so far about the times of targets.
+//! The times of targets, as they were found so far.
 ghost use Rattle.std.specs.Prelude.{◌≡◌, None, List, ◌++◌, ◌∷◌, [], length};
 ghost use Rattle.redo_index.specs.Index.{listed_targets, IsIndex};
 ghost use Rattle.redo_times.specs.declared.report.Report.{Report};
@@ -9,7 +9,8 @@ use crate::report::{Report, Stage};
 use crate::times::Times;
 use redo_index::Index;
 
-/// What was found about a target so far: when it first began, and when it last ended, as its own log and as other logs say.
+/// The times of a target, as they were found so far: when it first began, and when it last ended, as its own log and as
+/// other logs say.
 #[derive(Clone, Copy)]
 pub struct Tally {
     pub began: Option<u64>,

@@ -49,7 +49,6 @@ fn seconds_of(digits: &[u8]) -> Option<u64>
     Some(seconds)
 }
 
-// Returns the milliseconds of a fraction.
 fn milliseconds(fraction: &[u8]) -> u64
     ensures value { result ≡ spec.milliseconds fraction.now }
     ensures below { result < 100000 }

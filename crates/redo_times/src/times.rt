@@ -1,4 +1,4 @@
-//! The definition collects what all logs report (`reports_of`), and takes the first beginning and the last end of a target
+//! The definition collects the reports of all logs (`reports_of`), and takes the first beginning and the last end of a target
 //! from it. The code keeps one tally for each target. Nothing is proved about two readings of one file: it may change between
 //! `read_times` and a run.
 ghost use Rattle.std.specs.Prelude.{◌≡◌, ◌<◌, [], IfOk, OnOk, length, map};
@@ -95,7 +95,7 @@ fn empty_tallies(alloc: Global, index: &Index) -> Result<Vec<Tally>, AllocError>
     Ok(tallies)
 }
 
-// Adds what all logs report to empty tallies.
+// Adds the reports of all logs to empty tallies.
 fn add_streams<R: Feed>(
     alloc: Global,
     index: &Index,

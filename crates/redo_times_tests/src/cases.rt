@@ -92,7 +92,7 @@ pub const CHOSEN: [Case; 12] = [
         1000,
         "- -\n1000000000000 9999999999999\n1700000000000 -\n",
     ),
-    // Records that are not valid are skipped, and so is the last line, which is not ended.
+    // Records that are not valid are skipped, and so is the last line, which is unended.
     (
         &[(
             "a",

@@ -1,4 +1,4 @@
--- What a form writes for events, and what the adapter writes for them.
+-- The bytes that a form writes for events, and those that the adapter writes.
 use Rattle.std.proofs.Common.{◌≡◌, ℕ, ◌+◌, ◌<◌, ◌≤◌, min, ⊎_elim, List, [], ◌∷◌, ◌++◌, Option, Result, Ok, Err, length, take, refl, sym, ◌∙◌, ap, arith}
 use Rattle.std.proofs.lemmas.Bool.{cases_lt}
 use Rattle.std.proofs.lemmas.List.{append_assoc, append-nil, take-append-le, take_all}
@@ -97,7 +97,7 @@ module _ {F : Type 0} (bytes : F → Event → List ℕ) (after : F → Event �
   alone_bytes form event alone =
       ap (bytes_of bytes after form.form) (kept_alone form.gauges event alone) ∙ append-nil (bytes form.form (event_value event))
 
-  -- What the adapter writes for events is what the inner form writes for what is shown of them.
+  -- For events, the adapter writes the bytes that the inner form writes for the trimmed events.
   pub trimmed_bytes : (form : Trimmed F) (events : List Event)
       → bytes_of (form_bytes bytes after) (form_after after) form events
       ≡ bytes_of bytes after form.form (trimmed form.limits.now form.gauges events)

@@ -1,4 +1,4 @@
--- Rows of long lines and logs, and what holds of any number of logs.
+-- Rows of long lines and logs, and properties of any number of logs.
 use Rattle.std.proofs.Common.{◌≡◌, ℕ, [], ◌∷◌, ◌++◌, Some, length, map, replicate, refl}
 use Rattle.std.specs.Prelude.{codes}
 use Rattle.redo_line.specs.declared.entry.Entry.TheVariants.{Text}

@@ -50,7 +50,7 @@ three_parts limit lines =
 
 -- ---- lines by the byte at which they begin
 
--- What is shown of a line that begins at byte `begin`.
+-- How a line is shown that begins at byte `begin`.
 abbrev showing_at : Limit → ℕ → ℕ → Showing
 showing_at limit begin size =
     if nat_le limit.tail begin || nat_le (begin + size) limit.head then showing.Whole
@@ -85,7 +85,7 @@ module _ (limit : Limit) where
       ∙ ap (λ (b : Bool). if b then showing.Whole else if nat_le begin limit.head then showing.Marker else showing.Nothing)
       (lt-leb (begin + size) limit.head past)
 
-  -- What is shown of lines of which the first one begins at byte `begin`.
+  -- The trimmed events of lines. The first line begins at byte `begin`.
   abbrev shown_at : ℕ → ℕ → List (List ℕ) → List Event
   shown_at depth begin [] = []
   shown_at depth begin (line ∷ lines) =
@@ -280,7 +280,7 @@ keeps_head_and_tail limits number contents outer fits =
     ∙ texts_then 0 first (marker_for 0 (left_out limit lines) ++ text_events 0 last)
     ∙ ap (λ ls. first ++ ls) (marker_then 0 (left_out limit lines) (text_events 0 last) ∙ among_texts 0 last)
 
--- ---- what is no text line
+-- ---- events other than text lines
 
 line_no_other : (s : Showing) (depth : ℕ) (line : List ℕ) (events : List Event)
     → other_events (line_shown s depth line ++ events) ≡ other_events events

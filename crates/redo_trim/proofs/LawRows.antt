@@ -1,4 +1,5 @@
--- Rows of what the laws cite: trees, limits, the lines of one log, and entries of logs. The values are worked out by hand.
+-- Rows of the definitions that the laws cite: trees, limits, the lines of one log, and entries of logs. The values are worked out
+-- by hand.
 use Rattle.std.proofs.Common.{◌≡◌, ℕ, [], ◌∷◌, false, inl, arith, refl}
 use Rattle.std.proofs.lemmas.Bool.{false≢true}
 use Rattle.std.specs.Prelude.{codes}
@@ -26,7 +27,7 @@ not_in_tree = (
 
 -- ---- limits
 
--- A tail at byte 0 has all lines, whatever the head is.
+-- A tail at byte 0 has all lines, for any head.
 no_limits : AreNoLimits (limit 5 0 ∷ limit 0 0 ∷ [])
 no_limits = (refl, (refl, tt))
 

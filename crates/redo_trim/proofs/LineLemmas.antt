@@ -130,7 +130,7 @@ keeps_whole (gauge ∷ outer) size keeps =
     ap (λ (b : Bool). if b || nat_le (gauge.seen + size) gauge.limit.head then showing.Whole
     else if nat_le gauge.seen gauge.limit.head then showing.Marker else showing.Nothing) keeps
 
--- ---- many lines of which none is left out
+-- ---- many lines, if none is left out
 
 module _ {F : Type 0} (bytes : F → Event → List ℕ) (after : F → Event → F) (depth : ℕ) where
   pub kept_all : (lines : List (List ℕ)) (limits : List Limit) (gauges : List Gauge) → TailFits gauges → keeps_all gauges ≡ true
@@ -253,7 +253,6 @@ module _ (before middle after : Option Output) (text part left : List ℕ) (so_f
     splits = append_assoc so_far.prefix part left ∙ so_far.splits;
   }
 
-  -- A part failed.
   pub failed_part : (fault : FormFault) → FormWrites middle after part (Err fault) → FormWrites before after text (Err fault)
   failed_part fault wrote =
       subst (λ t. FormWrites before after t (Err fault)) (append_assoc so_far.prefix part left ∙ so_far.splits)

@@ -1,4 +1,4 @@
--- Rows of what is shown of logs, of their gauges, and of the form that writes it.
+-- Rows of trimmed events, of gauges, and of the form that writes the events.
 use Rattle.std.proofs.Common.{◌≡◌, ℕ, ◌+◌, List, [], ◌∷◌, None, Some, Bor, pos, refl}
 use Rattle.std.specs.Prelude.{codes}
 use Rattle.redo_line.specs.declared.entry.Entry.TheVariants.{Text, Closing, Note}
@@ -104,7 +104,7 @@ text_gauges = (refl, refl, refl, refl, refl)
 abbrev lines : List ℕ → Event
 lines line = EntryShown 2 (Text line)
 
--- The lines of `a` begin at the bytes 0, 6, 12 and 20, and so do those of `b`.
+-- The lines of `a` and the lines of `b` begin at the bytes 0, 6, 12 and 20.
 abbrev pub events : List Event
 events =
     Requested (codes "a") (OpensHere 0) ∷ text (codes "a one") ∷ Mentioned 1 9 Made (codes "b") (OpensHere 1) ∷ lines (codes "b one")
@@ -146,7 +146,7 @@ other_tree :
     (Shown (marker 1) (Shown (text (codes "a four")) Nothing)))) Nothing
 other_tree = refl
 
--- ---- what is no text line
+-- ---- events other than text lines
 
 others : other_events (text (codes "a") ∷ marker 1 ∷ EntryShown 1 (Note 9 (codes "hint") []) ∷ Mentioned 1 9 Made [] NotOpened
     ∷ EntryShown 1 (Closing 9 (pos 0)) ∷ LogEnds 1 ∷ [])

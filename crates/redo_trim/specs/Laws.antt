@@ -1,4 +1,4 @@
--- What the laws state.
+-- The statements of the laws.
 use Rattle.std.specs.Prelude.{◌≡◌, ℕ, ◌+◌, ◌-◌, ◌<◌, ◌^◌, Bool, List, [], ◌∷◌, ◌++◌, nat_le, if◌then◌else◌}
 use Rattle.std.specs.List.{AllByRecursion}
 use Rattle.redo_line.specs.declared.entry.Entry.{Entry}
@@ -21,7 +21,7 @@ use Rattle.redo_trim.specs.Trim.{line_size, marker, trim, trimmed}
 abbrev pub AreInTree : List Event → Type 0
 AreInTree events = events_of 0 (contents_of events) ≡ events
 
--- What is shown makes a tree again.
+-- The trimmed events make a tree again.
 abbrev pub StayInTree : List Limit → List Event → Type 0
 StayInTree limits events = AreInTree events → AreInTree (trimmed limits [] events)
 
@@ -37,7 +37,7 @@ KeepsLogs limits contents = log_count (trim limits [] contents) ≡ log_count co
 abbrev pub AreNoLimits : List Limit → Type 0
 AreNoLimits limits = AllByRecursion (λ limit. limit.tail ≡ 0) limits
 
--- ---- what is no text line
+-- ---- events other than text lines
 
 -- The events that are neither text lines nor notes of an empty kind, as the marker is one.
 abbrev pub other_events : List Event → List Event

@@ -1,4 +1,4 @@
--- What is shown of logs without the middle of long ones.
+-- The trimmed events: logs without the middle of long ones.
 use Rattle.std.specs.Prelude.{ℕ, ◌+◌, Bool, ◌||◌, List, [], ◌∷◌, ◌++◌, Option, None, Some, length, nat_le, codes, slice_index_or, if◌then◌else◌}
 use Rattle.redo_line.specs.declared.entry.Entry.TheVariants.{Text, Note}
 use Rattle.redo_view.specs.Event.{Event}
@@ -36,7 +36,7 @@ showing_of gauge size =
     else if nat_le gauge.seen gauge.limit.head then showing.Marker
     else showing.Nothing
 
--- The same in the innermost open log. If none is open, each line is shown.
+-- How a line is shown in the innermost open log. If none is open, each line is shown.
 abbrev pub showing_in : Option Gauge → ℕ → Showing
 showing_in None size = showing.Whole
 showing_in (Some gauge) size = showing_of gauge size
@@ -55,7 +55,7 @@ line_shown showing.Whole depth line = EntryShown depth (Text line) ∷ []
 line_shown showing.Marker depth line = marker depth ∷ []
 line_shown showing.Nothing depth line = []
 
--- What is shown in place of an event in a log with this gauge.
+-- The events that replace an event in a log with this gauge.
 abbrev pub kept_in : Option Gauge → Event → List Event
 kept_in gauge (EntryShown depth (Text line)) = line_shown (showing_in gauge (line_size line)) depth line
 kept_in gauge event = event ∷ []
@@ -64,7 +64,7 @@ abbrev pub innermost : List Gauge → Option Gauge
 innermost [] = None
 innermost (gauge ∷ outer) = Some gauge
 
--- What is shown in place of an event. There is a gauge for each open log, the innermost log first.
+-- The events that replace an event. There is a gauge for each open log, the innermost log first.
 abbrev pub kept : List Gauge → Event → List Event
 kept gauges event = kept_in (innermost gauges) event
 
@@ -87,7 +87,7 @@ abbrev pub after_end : List Gauge → List Gauge
 after_end [] = []
 after_end (gauge ∷ outer) = outer
 
--- These events, none of which opens a log, and what follows them.
+-- These events and the contents after them. None of the events opens a log.
 abbrev pub with_shown_all : List Event → Contents → Contents
 with_shown_all [] rest = rest
 with_shown_all (event ∷ events) rest = Shown event (with_shown_all events rest)
@@ -108,12 +108,12 @@ module _ (limits : List Limit) where
 
   -- ---- everything
 
-  -- What is shown of events. There is a gauge for each log that is open before them.
+  -- The events that are shown of all events. There is a gauge for each log that is open before them.
   abbrev pub trimmed : List Gauge → List Event → List Event
   trimmed gauges [] = []
   trimmed gauges (event ∷ events) = kept gauges event ++ trimmed (gauges_after gauges event) events
 
-  -- The same for the tree: what is shown of the contents of the innermost log.
+  -- The trimmed tree: the contents of the innermost log that are shown.
   abbrev pub trim : List Gauge → Contents → Contents
   trim gauges Nothing = Nothing
   trim gauges (Shown event rest) = with_shown_all (kept gauges event) (trim (after_shown event gauges) rest)

@@ -1,7 +1,7 @@
 //! The gauges of the logs that are open.
 //!
-//! A line that begins at the end of the head or before it, and isn't kept, is the first one that is left out. So no gauge
-//! stores whether a marker was shown.
+//! A line that begins at the end of the head or before it, and isn't kept, is the first one that is left out. No gauge
+//! has to store whether a marker was shown.
 ghost use Rattle.std.specs.Prelude.{◌≡◌, ◌<◌, ◌∷◌, [], OnOk};
 ghost use Rattle.redo_view.specs.EventRef.{IsWrittenAlone, event_value};
 ghost use Rattle.redo_trim.specs.Trim.{after_end, gauge_of, gauges_after, innermost, showing_in, with_opened, with_text};
@@ -60,7 +60,7 @@ impl Gauges {
         }
     }
 
-    /// Returns what is shown of the next text line. `size` is its number of bytes with the line feed.
+    /// Returns how the next text line is shown. `size` is its number of bytes with the line feed.
     pub fn showing(&self, size: u64) -> Showing
         requires { 0 < size }
         ensures { result ≡ showing_in (innermost self.now) size }

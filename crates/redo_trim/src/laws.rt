@@ -1,7 +1,7 @@
 //! Laws about the definitions alone: their contracts are theorems, and their bodies are empty.
 //!
-//! The tree of what is shown is defined twice: as the tree of the trimmed events, and as the trimmed tree (`trim`). A law
-//! says that both are the same, so what is proved of trees holds for what is shown.
+//! The tree of the shown events is defined twice: as the tree of the trimmed events, and as the trimmed tree (`trim`). A
+//! law says that both are the same, so all that is proved of trees holds for the shown events.
 ghost use Rattle.std.specs.Prelude.{◌≡◌, ◌≤◌, ◌+◌, ◌-◌, ◌++◌, ◌∷◌, [], ℕ, List};
 ghost use Rattle.redo_view.specs.Event.{Event};
 ghost use Rattle.redo_view.specs.Form.{bytes_of, state_after, text_events};
@@ -55,7 +55,8 @@ pub fn head_and_tail_are_kept()
         text_size (head_and_tail limit lines) ≤ limit.head + (text_size lines - limit.tail) }
 {}
 
-/// What the adapter writes for events is what its form writes for the events that are left. The same holds for the form's state.
+/// For events, the adapter writes the bytes that its form writes for the events that are left. Its form has the state after
+/// these events.
 pub fn trimmed_form_writes<F: Form>()
     ensures bytes { (form : Trimmed F) (events : List Event) →
         bytes_of (form_bytes F.bytes F.after) (form_after F.after) form events

@@ -7,7 +7,7 @@
 //!
 //! - *Head*: the lines of a log that end within its first bytes. Only text lines count, with their line feeds.
 //! - *Tail*: the lines of a log that begin at some byte or after it.
-//! - *Gauge*: what is known of a log that is open: its limit, and the number of bytes seen so far.
+//! - *Gauge*: the facts about a log that is open: its limit, and the number of bytes seen so far.
 #![tactic(auto)]
 
 mod gauges;

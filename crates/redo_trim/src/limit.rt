@@ -1,7 +1,7 @@
-//! Limits of logs, and what becomes of a text line.
+//! Limits of logs, and how a text line is shown.
 //!
-//! A limit is two numbers: where the head of a log ends and where its tail begins. So what becomes of a line depends only on
-//! its own bytes and on those before it, and the events are walked once. A caller has to know how long the logs are to set
+//! A limit is two numbers: where the head of a log ends and where its tail begins. How a line is shown depends only on its
+//! own bytes and on the bytes before it, so the events are walked once. A caller has to know how long the logs are to set
 //! limits; a page takes this from its outline. A count that is saturated at 2^64 - 1 decides as the exact count does, because
 //! a tail begins before that (`FitsInto64Bits`). The laws about lines use the exact count.
 ghost use Rattle.std.specs.Prelude.{◌≡◌, ◌<◌};
@@ -16,7 +16,7 @@ pub struct Limit {
     pub tail: u64,
 }
 
-/// What is known of a log that is open.
+/// The facts about a log that is open.
 #[derive(Clone, Copy)]
 pub struct Gauge {
     pub limit: Limit,
@@ -24,7 +24,7 @@ pub struct Gauge {
     pub seen: u64,
 }
 
-/// What is shown of a text line.
+/// How a text line is shown.
 #[derive(Clone, Copy)]
 pub enum Showing {
     /// The line itself.
@@ -34,7 +34,7 @@ pub enum Showing {
     Nothing,
 }
 
-/// Returns what is shown of the next text line of a log. `size` is its number of bytes with the line feed.
+/// Returns how the next text line of a log is shown. `size` is its number of bytes with the line feed.
 pub fn showing_of(gauge: Gauge, size: u64) -> Showing
     requires { 0 < size }
     ensures { result ≡ showing_of gauge size }

@@ -1,7 +1,7 @@
 //! The adapter.
 //!
-//! The marker is a note of an empty kind. No log has one, because the kind of a record has at least one byte. So no new event
-//! was needed, and each form can show the marker. Lines that are stored together are passed on together as soon as none is
+//! The marker is a note of an empty kind. No log has one, because the kind of a record has at least one byte. The marker
+//! needs no new event, and each form can show it. Lines that are stored together are passed on together as soon as none is
 //! left out any more. Before that they are passed one by one.
 ghost use Rattle.std.specs.Prelude.{◌≡◌, ◌<◌, ◌^◌, true, [], length, OnOk};
 ghost use Rattle.redo_line.specs.Lines.{ended, rest};
@@ -78,7 +78,7 @@ impl<'a, F: Form> Trimmed<'a, F> {
         Ok(())
     }
 
-    // Passes on a text line, or what is shown in its place. It is passed with its line feed.
+    // Passes on a text line, or the events that replace it. It is passed with its line feed.
     fn write_line<W: Sink>(
         &mut self,
         depth: usize,
@@ -100,7 +100,7 @@ impl<'a, F: Form> Trimmed<'a, F> {
     }
 }
 
-// Writes what is shown of text lines that are all shown in the same way.
+// Writes the events of text lines that are all shown in the same way.
 fn write_shown<F: Form, W: Sink>(
     form: &mut F,
     showing: Showing,

@@ -83,7 +83,8 @@ fn text_of(
     }
 }
 
-/// Views the requested targets in a form through the adapter, and returns the form. Its clauses follow from those of the adapter.
+/// Views the requested targets in a form through the adapter, and returns the form. Its clauses follow from the adapter's
+/// clauses.
 fn view_trimmed<F: Form + Drop, W: Sink>(
     alloc: Global,
     table: &LogTable,

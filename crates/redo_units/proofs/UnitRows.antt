@@ -184,7 +184,7 @@ these_sizes = (
 abbrev tenths_text : ℕ → ℕ → List ℕ
 tenths_text amount per = words_text (tenths_words amount per)
 
--- The last two are of 2^64 / 10, of which the tenfold is at most 2^64 - 1, and of 2^64 - 1.
+-- The last two are of 2^64 / 10, whose tenfold is at most 2^64 - 1, and of 2^64 - 1.
 quotients :
     (tenths_text 0 7 ≡ codes "0.0") × (tenths_text 5 2 ≡ codes "2.5") × (tenths_text 2 3 ≡ codes "0.6") × (tenths_text 40 10 ≡ codes "4.0")
     × (tenths_text 123 1 ≡ codes "123.0") × (tenths_text 12345 10 ≡ codes "1234.5")

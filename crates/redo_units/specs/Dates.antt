@@ -15,7 +15,7 @@ period_of days_in (suc more) first days = elim (nat_lt days (days_in first)) [ t
 abbrev pub year_of : ℕ → ℕ × ℕ
 year_of days = period_of days_in_year 8029 1970 days
 
--- The same of the month, from a year and the days since it began.
+-- The month in which a day is, and how many days of the month are before it, from a year and the days since it began.
 abbrev pub month_of : ℕ × ℕ → ℕ × ℕ
 month_of year = period_of (days_in_month year.0) 11 1 year.1
 

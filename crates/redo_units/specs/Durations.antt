@@ -27,7 +27,7 @@ pub record AreUnits (ms large small : ℕ) (between after : List ℕ) (words : L
   pub is : IsIn ms large small whole part
   pub words_are : words ≡ NumberWord whole ∷ TextWord between ∷ NumberWord (part / 10) ∷ NumberWord (part % 10) ∷ TextWord after ∷ []
 
--- The same in seconds, with one digit for tenths.
+-- These words are a duration in seconds, with one digit for tenths.
 pub record AreTenths (ms : ℕ) (words : List WordValue) : Type 0 where
   pub whole : ℕ
   pub part : ℕ

@@ -24,7 +24,7 @@ word_text (TextWord text) = text
 abbrev pub words_text : List WordValue → List ℕ
 words_text words = flat_map word_text words
 
--- What is at places that are not used.
+-- The word at unused places.
 abbrev pub no_word : WordValue
 no_word = TextWord []
 

@@ -1,4 +1,4 @@
-//! What numbers with units are written with.
+//! The words of numbers with units.
 //!
 //! A page writes words as its parts, without memory; `push_words` appends their text to a text. An array has the same number
 //! of words for each number, so some are empty.
@@ -17,7 +17,7 @@ pub enum Word {
     Text(&'static [u8]),
 }
 
-// What an array has at places that it doesn't need.
+// The word at unused places of an array.
 pub const NO_WORD: Word = Word::Text(b"");
 
 /// Appends the text of words. The only error is that an allocation failed. The text may then end with a part of theirs.

@@ -1,4 +1,4 @@
--- There is only one opening: what a log's entries do depends only on the openings of logs that were not opened before.
+-- There is only one opening: the effect of a log's entries depends only on the openings of logs that were not opened before.
 use Rattle.std.proofs.Common.{◌≡◌, ℕ, zero, suc, ◌+◌, ◌<◌, ◌≤◌, Bool, true, false, List, [], ◌∷◌, ◌++◌, length, refl, sym, ap, ◌∙◌, arith}
 use Rattle.std.specs.Prelude.{nat_eq}
 use Rattle.std.specs.Cmp.Lexicographic.{pointwise}
@@ -32,11 +32,11 @@ module _ (logs : List Log) (options : Options) where
       let parts = should_open-parts logs options name state is in
       left-lt logs name state.opened parts.1 (not-true (is_among name state.opened) parts.2)
 
-  -- ---- what entries do to the opened names
+  -- ---- the effect of entries on the opened names
 
   module _ (Q : Names → Names → Type 0) (growth : Growth Q) (inner : ShowLog) (bound : ℕ) where
-    -- What opening does to the opened names, for a mentioned log that wasn't opened before and after which fewer than
-    -- `bound` logs are left.
+    -- The effect of opening a mentioned log on the opened names. The log wasn't opened before, and fewer than `bound` logs are left
+    -- after it.
     abbrev Does : (List ℕ → Bool) → Type 0
     Does mentioned =
         (name : List ℕ) (depth : ℕ) (state : ViewState) → mentioned name ≡ true → should_open logs options name state ≡ true
@@ -51,7 +51,6 @@ module _ (logs : List Log) (options : Options) where
         let less = should_open-left name state is in does name depth state shows is (omega (arith, less, fits))
     inner_grows mentioned does name depth state shows fits false is = grown-none Q growth state.opened
 
-    -- One entry.
     entry_grows : (entry : Entry) → Does (λ name. mentions_target options name entry) → (depth : ℕ) (state : ViewState)
         → left logs state.opened ≤ bound → Grown Q state.opened (show_entry logs options inner depth entry state).opened
     entry_grows (Text line) does depth state fits = grown-none Q growth state.opened
@@ -84,7 +83,7 @@ module _ (logs : List Log) (options : Options) where
         (omega (arith, left-le logs state.opened after.opened first.0, fits)) in
         grown-both Q growth state.opened after.opened (show_entries logs options inner depth entries after).opened first second
 
-  -- What was opened stays opened.
+  -- Opened logs stay opened.
   module _ (inner : ShowLog) (keeps : Keeping inner) where
     pub entry_keeps : (entry : Entry) (depth : ℕ) (state : ViewState)
         → Keeps state.opened (show_entry logs options inner depth entry state).opened
@@ -139,7 +138,6 @@ module _ (logs : List Log) (options : Options) where
 
   -- ---- the definition, by the number of nested logs
 
-  -- One level.
   within-more : (levels : ℕ) (target : List ℕ) (depth : ℕ) (state : ViewState)
       → show_log_within logs options (suc levels) target depth state
       ≡ end_log depth (show_entries logs options (show_log_within logs options levels) depth (entries_of_target target logs)
@@ -153,7 +151,7 @@ module _ (logs : List Log) (options : Options) where
   unfolding show_log
   within-all target depth state = ap (λ (n : ℕ). show_log_within logs options n target depth state) (omega arith)
 
-  -- What was opened stays opened, at any number of levels.
+  -- Opened logs stay opened, at any number of levels.
   within_keeps : (levels : ℕ) → Keeping (show_log_within logs options levels)
   unfolding show_log_within
   within_keeps zero target depth state name among = among
@@ -161,7 +159,7 @@ module _ (logs : List Log) (options : Options) where
       entries_keep (show_log_within logs options levels) (within_keeps levels) (entries_of_target target logs) depth
       (begin_log target state) name (more-keeps target state.opened name among)
 
-  -- So it does with `show_log`.
+  -- Opened logs stay opened with `show_log`.
   pub log_keeps : Keeping (show_log logs options)
   log_keeps target depth state name among =
       ap (λ (s : ViewState). is_among name s.opened) (within-all target depth state)
@@ -178,7 +176,7 @@ module _ (logs : List Log) (options : Options) where
       (entries_of_target target logs) depth (begin_log target state) (omega (arith, fits)))
       ∙ sym (within-more (suc levels) target depth state)
 
-  -- So there are enough levels.
+  -- There are enough levels.
   pub show_log_equation : SatisfiesEquation logs options (show_log logs options)
   show_log_equation target depth state =
       within-all target depth state ∙ within-more (length logs) target depth state

@@ -27,7 +27,7 @@ abbrev names_in : List Event → List (List ℕ)
 names_in events = flat_map opened_name events
 
 module _ (logs : List Log) (options : Options) where
-  -- ---- what is shown, and which logs it opens. `pending` is the target of a log whose opening was shown before.
+  -- ---- the shown events, and which logs they open. `pending` is the target of a log whose opening was shown before.
   record Opens (pending : List (List ℕ)) (before after : ViewState) : Type 0 where
     shown : List Event
     names : List (List ℕ)

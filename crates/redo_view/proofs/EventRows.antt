@@ -1,4 +1,4 @@
--- Examples of events, and of what forms do with them, computed.
+-- Examples of events and of forms, computed.
 use Rattle.std.proofs.Common.{◌≡◌, ℕ, ◌+◌, true, false, List, [], ◌∷◌, Option, None, Some, Ok, Err, Bor, pos, arith, refl, ap}
 use Rattle.std.specs.Prelude.{◌^◌, codes}
 use Rattle.redo_device.specs.Sink.{Output}
@@ -89,7 +89,7 @@ texts :
     × (event_text options (EntryShown 2 (Note 7 (codes "check") b)) ≡ codes "redo      (b)\n") × (event_text options (LogEnds 2) ≡ [])
 texts = (refl, refl, refl, refl, refl, refl)
 
--- What an event is modelled as, and which events are written by themselves.
+-- The models of events, and which events are written by themselves.
 abbrev at : List ℕ → Bor (List ℕ)
 at bytes = record { ref_ptr = (0, 0); now = bytes }
 

@@ -1,5 +1,5 @@
--- Examples of expansions, computed: the logs, the options, the requested targets, and the text. They show what no law states: an
--- entry's own text, a mention's line with lock messages, what precedes a redo line, and which records are mentions.
+-- Examples of expansions, computed: the logs, the options, the requested targets, and the text. They show facts that no law states:
+-- an entry's own text, a mention's line with lock messages, the beginning of a redo line, and which records are mentions.
 use Rattle.std.proofs.Common.{◌≡◌, ℕ, Bool, true, false, List, [], ◌∷◌, ◌++◌, pos, negsuc, refl}
 use Rattle.std.specs.Prelude.{codes, nat_eq}
 use Rattle.std.specs.Fmt.{digits}

@@ -53,7 +53,6 @@ module _ (logs : List Log) (options : Options) where
             ∙ never options.recursive
       ]))
 
-  -- One more requested target.
   one_more : (requested : List (List ℕ)) (target : List ℕ) (known : Bool) → is_among target (expand logs options requested).opened ≡ known
       → expand logs options (requested ++ target ∷ []) ≡ show_target_unless logs options known target (expand logs options requested)
   one_more requested target known is =

@@ -39,7 +39,7 @@ or_none : (b : Bool) → (b || false) ≡ b
 or_none true = refl
 or_none false = refl
 
--- What holds for all names holds for one.
+-- A property of all names holds for one.
 all_at : (P : List ℕ → Type 0) (names : Names) (number : ℕ) → AllByRecursion P names → number < length names → P (name_at names number)
 all_at P [] number all below = absurd (omega (arith, below))
 all_at P (name ∷ names) zero all below = all.0
@@ -97,7 +97,7 @@ module _ (numbering : Numbering) where
         ∙ flag_at (targets_of numbering.logs) state.opened number (omega (arith, first.2, count_targets))
         ∙ ap (λ name. is_among name state.opened) (get_or_from_slice_get (targets_of numbering.logs) number target [] first.0)
 
-    -- The same for a flag that was read.
+    -- A flag that was read states whether the log's target was opened.
     pub flag_is : (target : List ℕ) (number : ℕ) (flag : Bool) → Fits numbering visited → log_number target numbering.logs ≡ Some number
         → flag ≡ get_or visited.opened.items number flag → flag ≡ is_among target state.opened
     flag_is target number flag fits looked_up read =
@@ -146,7 +146,7 @@ module _ (numbering : Numbering) where
             by (Some number) looked_up = ap (λ opened. opening_of options.recursive opened (Some number))
                 (was_opened target number looked_up)
 
-        -- What it shows.
+        -- The events that it shows.
         pub events_are : (depth : ℕ) (entry : NumberedEntry) → IsNumbered numbering.names entry
             → own_events numbering options depth visited entry
             ≡ alone.own_events numbering.logs options depth state.named state.opened (numbered_value numbering.names entry)

@@ -82,7 +82,7 @@ module _ (logs : List Log) (options : Options) where
   abbrev lines_of : List ℕ → List (List ℕ)
   lines_of name = text_lines (entries_of_target name logs)
 
-  -- ---- what is shown, from some lines that are left to others
+  -- ---- shown events, from some lines that are left to others
 
   record Shows (from to : LinesLeft) (before after : ViewState) : Type 0 where
     shown : List Event

@@ -92,7 +92,7 @@ module _ (logs : List Log) (options : Options) where
   abbrev Between : ViewState → ViewState → List ℕ → Type 0
   Between before after name = IsNamedBetween logs options before after name
 
-  -- What was opened stays opened, and the named targets are as `AreNamed` states.
+  -- Opened logs stay opened, and the named targets are as `AreNamed` states.
   record Naming (these : List ℕ → Type 0) (before after : ViewState) : Type 0 where
     keeps : Keeps before.opened after.opened
     are : AreNamed logs options these before after
@@ -159,7 +159,7 @@ module _ (logs : List Log) (options : Options) where
     );
   }
 
-  -- The same names, described by another predicate.
+  -- Names that another predicate describes, too.
   naming-as : (these others : List ℕ → Type 0) (before after : ViewState) → ((name : List ℕ) → these name ↔ others name)
       → Naming these before after → Naming others before after
   naming-as these others before after same naming = record {
@@ -180,7 +180,7 @@ module _ (logs : List Log) (options : Options) where
 
   -- ---- entries
 
-  -- Opening a log that wasn't opened before names only what the logs that are opened name.
+  -- Opening a log that wasn't opened before names only targets that the opened logs name.
   abbrev NamesItsOwn : ShowLog → Type 0
   NamesItsOwn inner = (target : List ℕ) (depth : ℕ) (state : ViewState) → is_among target state.opened ≡ false
       → Naming Nothing state (inner target depth state)
@@ -262,7 +262,7 @@ module _ (logs : List Log) (options : Options) where
 
   -- ---- a log
 
-  -- What a log names, after it was begun and its entries were shown.
+  -- The targets that a log names, after it was begun and its entries were shown.
   module _ (target : List ℕ) (state after : ViewState)
       (gone : Naming (λ name. mentioned_in options name (entries_of_target target logs) ≡ true) (begin_log target state) after) where
     still : Keeps state.opened (begin_log target state).opened

@@ -88,7 +88,7 @@ module _ (logs : List Log) (options : Options) where
         | inr same ↦ itself same
       ]
 
-  -- ---- what is shown, from one number of open logs to another
+  -- ---- shown events, from one number of open logs to another
 
   record Nests (from to : ℕ) (before after : ViewState) : Type 0 where
     shown : List Event

@@ -1,4 +1,4 @@
--- What one entry does, without the log that it opens.
+-- The effect of one entry, without the log that it opens.
 use Rattle.std.specs.Prelude.{ℕ, List, [], ◌∷◌, ◌++◌, Option, None, if◌then◌else◌}
 use Rattle.redo_line.specs.declared.entry.Entry.{Entry}
 use Rattle.redo_line.specs.declared.entry.Entry.TheVariants.{Text, Mention, Done, Closing, Note}
@@ -14,7 +14,7 @@ use Rattle.redo_view.specs.Private.EntryEffect.{log_to_open}
 abbrev pub opening_after : List Log → Options → List ℕ → List (List ℕ) → Opening
 opening_after logs options name opened = opening_of options.recursive (is_among name opened) (log_number name logs)
 
--- What an entry shows, without a log that it opens.
+-- The events that an entry shows, without a log that it opens.
 abbrev pub own_events : List Log → Options → ℕ → List (List ℕ) → List (List ℕ) → Entry → List Event
 own_events logs options depth named opened (Text line) = EntryShown depth (Text line) ∷ []
 own_events logs options depth named opened (Mention pid how name) =

@@ -21,7 +21,7 @@ pub plain_state : (form : PlainText) (events : List Event) → state_after plain
 plain_state form [] = refl
 plain_state form (event ∷ events) = plain_state form events
 
--- So the text of events is the text of each.
+-- The text of events is the text of each.
 pub plain_text : (form : PlainText) (events : List Event)
     → bytes_of plain_bytes plain_after form events ≡ flat_map (event_text form.options) events
 plain_text form [] = refl

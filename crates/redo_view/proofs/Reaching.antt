@@ -32,10 +32,10 @@ module _ (logs : List Log) (options : Options) where
   abbrev Mentions : List ℕ → List ℕ → Type 0
   Mentions from name = (is_among name (targets_of logs) ≡ true) × (mentioned_in options name (entries_of_target from logs) ≡ true)
 
-  -- ---- what opening logs does to the opened names
+  -- ---- the effect of opening logs on the opened names
 
-  -- With `recursive`, what holds for a target holds for the targets that its log mentions. A relation that holds for the
-  -- entries of such a target's log holds for opening it.
+  -- With `recursive`, a property of a target holds for the targets that its log mentions. A relation that holds for the entries of
+  -- such a target's log holds for opening it.
   module _ (Q : Names → Names → Type 0) (growth : Growth Q) (Good : List ℕ → Type 0)
       (next : (from name : List ℕ) → Good from → options.recursive ≡ true → Mentions from name → Good name)
       (ends : (target : List ℕ) (depth : ℕ) (state : ViewState) → Good target → is_among target state.opened ≡ false
@@ -87,7 +87,7 @@ module _ (logs : List Log) (options : Options) where
           (target_grows target state first (is_among target state.opened) refl)
           (targets_grow targets (λ t among. good t (or_right (pointwise nat_eq t target) (is_among t targets) among)) after)
 
-  -- What was opened stays opened.
+  -- Opened logs stay opened.
   targets_keep : (requested : Names) (state : ViewState) → Keeps state.opened (opened_after_targets requested state)
   targets_keep requested state =
       (targets_grow Kept kept (λ name. Unit {0}) (λ from name good recursive mentioned. tt) (λ target depth s good new rest. tt) requested
@@ -103,7 +103,7 @@ module _ (logs : List Log) (options : Options) where
   distinct : Growth StaysDistinct
   distinct = record { none = λ names is. is; both = λ before between after first keeps second is. second (first is) }
 
-  -- So the names of the opened logs are distinct.
+  -- The names of the opened logs are distinct.
   pub opened_once : (requested : Names) → IsDistinct (pointwise nat_eq) (expand logs options requested).opened
   unfolding IsDistinct
   opened_once requested =
@@ -121,7 +121,7 @@ module _ (logs : List Log) (options : Options) where
   leads-more (next ∷ others) from to name leads mentioned = (leads.0, leads.1, leads-more others next to name leads.2 mentioned)
 
   module _ (requested : Names) where
-    -- So what a reached log mentions is reached.
+    -- Targets that a reached log mentions are reached.
     reached-more : (from name : List ℕ) → IsReachable logs options requested from → options.recursive ≡ true → Mentions from name
         → IsReachable logs options requested name
     reached-more from name (inl among) recursive mentioned =
@@ -148,7 +148,7 @@ module _ (logs : List Log) (options : Options) where
         elim (more-only name target names among)
         [ inl old ↦ all name old | inr same ↦ subst (IsReachable logs options requested) (sym same) is ]
 
-    -- So everything that is opened is reached.
+    -- All opened logs are reached.
     pub opened-reached : (target : List ℕ) → is_among target (expand logs options requested).opened ≡ true
         → IsReachable logs options requested target
     opened-reached =
@@ -196,7 +196,7 @@ module _ (logs : List Log) (options : Options) where
     open_after_entry (Closing pid status) mentioned depth state = absurd (cc)
     open_after_entry (Note pid kind text) mentioned depth state = absurd (cc)
 
-    -- So it is after entries.
+    -- This holds after entries.
     open_after_entries : (entries : List Entry) → mentioned_in options name entries ≡ true → (depth : ℕ) (state : ViewState)
         → is_among name (show_entries logs options (show_log logs options) depth entries state).opened ≡ true
     open_after_entries [] mentioned depth state = absurd (cc)
@@ -250,7 +250,7 @@ module _ (logs : List Log) (options : Options) where
             ]
         by false known = rest from is known
 
-    -- So it holds for all logs that are opened for the requested targets.
+    -- This holds for all logs that are opened for the requested targets.
     targets_close : (requested : Names) → Closes [] (expand logs options requested).opened
     targets_close requested =
         (targets_grow Closes closes (λ name. Unit {0}) (λ from name good is mentioned. tt)

@@ -1,4 +1,4 @@
--- What events do to a writer and a form.
+-- The effect of events on a writer and a form.
 use Rattle.std.proofs.Common.{◌≡◌, ℕ, ◌+◌, List, [], ◌∷◌, ◌++◌, Option, None, Some, Err, length, take, drop, refl, sym, ap, ◌∙◌, subst, arith}
 use Rattle.std.proofs.lemmas.List.{append_assoc, append-nil, take-append-drop}
 use Rattle.std.proofs.Math.Seq.{take-append_seam}
@@ -79,7 +79,7 @@ module _ {F : Type 0} (bytes : F → Event → List ℕ) (form_after : F → Eve
           (bytes_of bytes form_after (state_after form_after start.form first) others) 0 0
           ∙ ap (λ b. append_output start.output b 0) (sym (bytes-append start.form first others))
 
-  -- Events of which not all were written, in the middle of others.
+  -- Events in the middle of others, if not all of them were written.
   pub events_stopped : (start middle : Rendering F) (after : Option Output) (prefix part suffix all : List Event) (fault : ViewFault)
       → middle ≡ rendered bytes form_after start prefix
       → WroteUntilFault middle.output after (bytes_of bytes form_after middle.form part) fault → (prefix ++ part) ++ suffix ≡ all

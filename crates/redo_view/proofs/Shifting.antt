@@ -1,4 +1,4 @@
--- What a log adds doesn't depend on what was shown before it, and its entries are shown one after the other.
+-- The events that a log adds don't depend on the events before it, and its entries are shown one after another.
 use Rattle.std.proofs.Common.{◌≡◌, ℕ, zero, suc, ◌+◌, ◌<◌, Bool, true, false, List, [], ◌∷◌, ◌++◌, None, Some, is_some, length, refl, sym, ap, ◌∙◌, subst, arith}
 use Rattle.std.specs.Prelude.{nat_eq, slice_get, cond, if◌then◌else◌}
 use Rattle.std.specs.List.{flat_map, position_from}
@@ -23,9 +23,9 @@ use Rattle.redo_view.specs.Private.EntryEffect.{log_to_open}
 use Rattle.redo_view.proofs.OneEntry.{mid, nested_log, opening_after}
 use Rattle.redo_view.proofs.Openings.{none_opens, looked_up-listed, should_open, some_opens}
 
--- ---- events before what is shown
+-- ---- events before the shown ones
 
--- The same state, with nothing shown.
+-- The state without any shown events.
 abbrev without_events : ViewState → ViewState
 without_events s = record { named = s.named; opened = s.opened; events = [] }
 
@@ -67,7 +67,6 @@ module _ (logs : List Log) (options : Options) where
     mentioned-shift depth pid how name x s false =
         show_mention_line-shift options depth pid how name (mention_opening logs options name s) x s
 
-    -- One entry.
     one-shift : (depth : ℕ) (entry : Entry) (x : List Event) (s : ViewState)
         → show_entry logs options inner depth entry (prepend_events x s) ≡ prepend_events x (show_entry logs options inner depth entry s)
     one-shift depth (Text line) x s = event-shift x (EntryShown depth (Text line)) s
@@ -100,19 +99,19 @@ module _ (logs : List Log) (options : Options) where
       ∙ event-shift x (LogEnds depth) (show_entries logs options (show_log_within logs options levels) depth (entries_of_target target logs)
       (begin_log target s))
 
-  -- So what a log adds doesn't depend on the events before it.
+  -- The events that a log adds don't depend on the events before it.
   pub show_log-shift : (target : List ℕ) (depth : ℕ) (x : List Event) (s : ViewState)
       → show_log logs options target depth (prepend_events x s) ≡ prepend_events x (show_log logs options target depth s)
   unfolding show_log
   show_log-shift target depth x s = within-shift (length logs + 1) target depth x s
 
-  -- So it is with the text.
+  -- The text that a log adds doesn't depend on the events before it.
   pub text-shift : TextIsAppendOnly logs options (show_log logs options)
   text-shift target depth x s =
       ap (λ (t : ViewState). flat_map (event_text options) t.events) (show_log-shift target depth x s)
       ∙ flat_map-append (event_text options) x (show_log logs options target depth s).events
 
-  -- Nor does what entries add.
+  -- The events that entries add don't depend on the events before them.
   pub entries-shift : (depth : ℕ) (entries : List Entry) (x : List Event) (s : ViewState)
       → show_entries logs options (show_log logs options) depth entries (prepend_events x s)
       ≡ prepend_events x (show_entries logs options (show_log logs options) depth entries s)
@@ -130,7 +129,7 @@ module _ (logs : List Log) (options : Options) where
             ∙ ap (λ (t : ViewState). t.events) (entries-shift depth entries s.events (without_events s)),
       )
 
-  -- So it does after a log.
+  -- After a log, the events begin with the events before it.
   pub log_events-grow : (target : List ℕ) (depth : ℕ) (s : ViewState)
       → (rest : List Event) × ((show_log logs options target depth s).events ≡ s.events ++ rest)
   log_events-grow target depth s = (
@@ -148,7 +147,7 @@ module _ (logs : List Log) (options : Options) where
   entries-append inner depth (entry ∷ first) others s =
       entries-append inner depth first others (show_entry logs options inner depth entry s)
 
--- ---- what one entry does
+-- ---- the effect of one entry
 
 -- The state after a record, which counts as a mention or doesn't, without the log that it opens.
 abbrev mid_if : Bool → Options → ℕ → ℕ → How → List ℕ → Opening → ViewState → ViewState
@@ -177,7 +176,7 @@ module _ (logs : List Log) (options : Options) (inner : ShowLog) (depth : ℕ) w
   entry-alone (Closing pid status) s is = refl
   entry-alone (Note pid kind text) s is = refl
 
-  -- What an entry does that opens the log with this number, and which target's log this is.
+  -- The effect of an entry that opens the log with this number, and which target's log this is.
   abbrev pub OpensOne : ℕ → Entry → ViewState → Type 0
   OpensOne number entry s =
       (name : List ℕ) × (log_number name logs ≡ Some number) × (is_among name s.opened ≡ false) × (is_among name (targets_of logs) ≡ true)

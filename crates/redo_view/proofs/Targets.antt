@@ -94,7 +94,7 @@ module _ (logs : List Log) (options : Options) where
   show_targets-append (name ∷ first) others state =
       show_targets-append first others (show_target_unless logs options (is_among name state.opened) name state)
 
-  -- What was shown stays a prefix.
+  -- The events shown before stay a prefix.
   one_grows : (b : Bool) (name : List ℕ) (state : ViewState)
       → (rest : List Event) × ((show_target_unless logs options b name state).events ≡ state.events ++ rest)
   one_grows true name state = ([], sym (append-nil state.events))
@@ -144,7 +144,7 @@ flipped a false is = sym (ap not is)
 
 -- ---- a viewer
 
--- What was shown after the first `k` requested targets.
+-- The state after the first `k` requested targets.
 abbrev pub targets_so_far : List Log → Options → List (List ℕ) → ℕ → ViewState
 targets_so_far logs options requested k = show_targets logs options (take k requested) initial_state
 
@@ -195,7 +195,7 @@ module _ {F W : Type 0} {bytes : F → Event → List ℕ} {form_after : F → E
     pub known_still : find_unknown first.logs.now.logs requested ≡ None → is_among name (targets_of logs) ≡ true
     known_still none = rw so_far.context.logs (is_known first.logs.now.logs requested k default name none below name_is)
 
-    -- What is shown after the next target.
+    -- The state after the next target.
     abbrev next : ViewState
     next = show_target_unless logs now.options (is_among name state.opened) name state
 

@@ -103,11 +103,11 @@ module _ (logs : List Log) where
   left_of frame = drop frame.next_entry (entries_at frame.log logs)
 
   module _ (options : Options) where
-    -- What is shown after these entries and the end of the log.
+    -- The state after these entries and the end of the log.
     abbrev pub gone_over : ℕ → Frame → ViewState → ViewState
     gone_over depth frame state = end_log depth (show_entries logs options (show_log logs options) depth (left_of frame) state)
 
-    -- What is shown after all frames. The outermost frame is first in the list.
+    -- The state after all frames. The outermost frame is first in the list.
     abbrev pub finished : ℕ → List Frame → ViewState → ViewState
     finished depth [] state = state
     finished depth (frame ∷ frames) state = gone_over depth frame (finished (depth + 1) frames state)
@@ -120,7 +120,7 @@ module _ (logs : List Log) where
         ap (gone_over depth one) (finished_last (depth + 1) frames frame state
         ∙ ap (λ (d : ℕ). finished (depth + 1) frames (gone_over d frame state)) (omega arith))
 
-    -- What was shown stays a prefix.
+    -- The events shown before stay a prefix.
     over_grows : (depth : ℕ) (frame : Frame) (state : ViewState)
         → (rest : List Event) × ((gone_over depth frame state).events ≡ state.events ++ rest)
     over_grows depth frame state =
@@ -152,8 +152,8 @@ module _ {F : Type 0} (bytes : F → Event → List ℕ) (form_after : F → Eve
   abbrev Stopped : Rendering F → Option Output → List Event → ViewFault → Type 0
   Stopped now after events fault = WroteUntilFault now.output after (bytes_of bytes form_after now.form events) fault
 
-  -- The viewer shows the log of the innermost frame, whose depth is one more than the number of frames around it. What is
-  -- left of the frames completes `whole`.
+  -- The viewer shows the log of the innermost frame, whose depth is one more than the number of frames around it. The rest of the
+  -- frames completes `whole`.
   pub record Walks (now : Rendering F) (visited : Visited) (outer : List Frame) (frame : Frame) : Type 0 where
     pub state : ViewState
     pub has : HasShown bytes form_after numbering first now visited state
@@ -236,7 +236,7 @@ module _ {F : Type 0} (bytes : F → Event → List ℕ) (form_after : F → Eve
       abbrev next : Frame
       next = record { log = frame.log; next_entry = frame.next_entry + 1 }
 
-      -- What is shown after the entry alone.
+      -- The state after the entry alone.
       abbrev alone : ViewState
       alone = mid logs options depth it walks.state
 
@@ -417,7 +417,7 @@ module _ {F : Type 0} (bytes : F → Event → List ℕ) (form_after : F → Eve
         events_are_then = others.events_are_then ∙ ap (λ t. t ++ rest) one.events_are_then ∙ append_assoc walks.state.events own rest;
       }
 
-  -- What was shown is a prefix of the whole.
+  -- The shown events are a prefix of the whole.
   more : (now : Rendering F) (visited : Visited) (k : ℕ) (walks : WalksAt now visited k)
       → (rest : List Event) × (walks.state.events ++ rest ≡ whole.events)
   more now visited k walks =
@@ -442,7 +442,7 @@ module _ {F : Type 0} (bytes : F → Event → List ℕ) (form_after : F → Eve
 
 -- ---- how much is left to do
 
--- The number of logs that aren't opened.
+-- The number of unopened logs.
 abbrev pub count_new : List Bool → ℕ
 count_new [] = 0
 count_new (true ∷ opened) = count_new opened
@@ -608,7 +608,7 @@ module _ {F : Type 0} {bytes : F → Event → List ℕ} {form_after : F → Eve
   -- ---- texts
 
   module _ (lines : List ℕ) (number_of_lines : ℕ) (are : AreLinesAt numbering.logs frame.log frame.next_entry lines number_of_lines) where
-    -- What they show, if `count` frames are around them.
+    -- The events that they show, if `count` frames are around them.
     abbrev lines_shown : ℕ → List Event
     lines_shown count = text_events (count + 1) (ended lines)
 
@@ -659,7 +659,7 @@ module _ {F : Type 0} {bytes : F → Event → List ℕ} {form_after : F → Eve
 
   module _ (entry : NumberedEntry) (at : entry_at frame.log frame.next_entry numbering.logs ≡ Some (numbered_value numbering.names entry))
       (numbered : IsNumbered numbering.names entry) where
-    -- What it shows, if `count` frames are around it.
+    -- The events that it shows, if `count` frames are around it.
     abbrev own_of : ℕ → List Event
     own_of count = own_events numbering options (count + 1) visited entry
 
@@ -793,7 +793,6 @@ module _ {F W : Type 0} {bytes : F → Event → List ℕ} {form_after : F → E
     goes = rw (kept.logs, kept.options) goes;
   }
 
-  -- It stopped.
   pub stopped_there : {done : Result (Unit {0}) ViewFault}
       → ShowedLogOrFailed bytes form_after now.logs.now now.options number before.visited.now after.visited.now
       (rendering_of written before) (rendering_of written after) done

@@ -1,4 +1,4 @@
--- What is shown: events, in order. How they look is no part of them.
+-- Events: the things that are shown, in order. How they look is no part of them.
 use Rattle.std.specs.Prelude.{ℕ, Bool, true, false, List, Option, None, Some, if◌then◌else◌}
 use Rattle.redo_line.specs.declared.entry.Entry.{Entry}
 use Rattle.redo_line.specs.declared.entry.How.{How}

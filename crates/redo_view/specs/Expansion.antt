@@ -1,4 +1,4 @@
--- What is shown of the requested targets' logs, with the logs that they mention nested in them, and its text: the expansion.
+-- The events of the requested targets' logs, with the logs that they mention nested in them, and their text: the expansion.
 --
 -- The requested targets are shown in order, each with its log. Showing a log shows its entries in order. When an entry
 -- mentions a target whose log has not been shown yet, that log is shown at this point, one level deeper. Each function takes
@@ -17,7 +17,7 @@ use Rattle.redo_view.specs.Event.{Event, opening_of, opens_here}
 use Rattle.redo_view.specs.Event.Event.{Requested, Mentioned, EntryShown, LogEnds}
 use Rattle.redo_view.specs.Text.{event_text}
 
--- The state: the targets named and the targets whose logs were opened, both in order of occurrence, and what was shown so far.
+-- The state: the targets named and the targets whose logs were opened, both in order of occurrence, and the events shown so far.
 pub record ViewState : Type 0 where
   pub named : List (List ℕ)
   pub opened : List (List ℕ)
@@ -127,10 +127,10 @@ module _ (logs : List Log) (options : Options) where
   abbrev pub expand : List (List ℕ) → ViewState
   expand requested = show_targets requested (record { named = []; opened = []; events = [] })
 
-  -- What is shown for the requested targets.
+  -- The events that are shown for the requested targets.
   abbrev pub shown_events : List (List ℕ) → List Event
   shown_events requested = (expand requested).events
 
-  -- The expansion: the text of what is shown.
+  -- The expansion: the text of these events.
   abbrev pub expansion : List (List ℕ) → List ℕ
   expansion requested = flat_map (event_text options) (shown_events requested)

@@ -1,4 +1,4 @@
--- What the laws state about the expansion.
+-- The statements of the laws about the expansion.
 use Rattle.std.specs.Prelude.{◌≡◌, ◌↔◌, ℕ, ◌+◌, true, false, ◌⊎◌, nat_eq, List, [], ◌∷◌, ◌++◌, None, Some, slice_get, if◌then◌else◌}
 use Rattle.std.specs.List.{IsDistinct, flat_map}
 use Rattle.std.specs.Cmp.Lexicographic.{pointwise}
@@ -16,7 +16,7 @@ use Rattle.redo_view.specs.View.{find_unknown}
 use Rattle.redo_view.specs.Reachable.{mentioned_in, IsReachable}
 use Rattle.redo_view.specs.Text.{event_text, redo_line}
 
--- The same state, with `before` shown before everything else.
+-- The state with the events `before` shown before all others.
 abbrev pub prepend_events : List Event → ViewState → ViewState
 prepend_events before state = record { named = state.named; opened = state.opened; events = before ++ state.events }
 
@@ -63,7 +63,7 @@ module _ (logs : List Log) (options : Options) where
       (target : List ℕ) (depth : ℕ) (before : List Event) (state : ViewState)
       → show target depth (prepend_events before state) ≡ prepend_events before (show target depth state)
 
-  -- The same for the text.
+  -- The text of events before all others stays there, too.
   abbrev pub TextIsAppendOnly : ShowLog → Type 0
   TextIsAppendOnly show =
       (target : List ℕ) (depth : ℕ) (before : List Event) (state : ViewState)

@@ -53,7 +53,7 @@ module _ (logs : List Log) where
   lines_left left (EntryShown depth entry) = Some left
   lines_left left (LogEnds depth) = after_end left
 
-  -- What is left after events.
+  -- The lines that are left after events.
   abbrev pub lines_left_after : LinesLeft → List Event → Option LinesLeft
   lines_left_after left [] = Some left
   lines_left_after left (event ∷ events) = option_and_then (λ (next : LinesLeft). lines_left_after next events) (lines_left left event)

@@ -23,7 +23,7 @@ pid_text (Some pid) = decimal pid
 abbrev pub pad_to_six : List ℕ → List ℕ
 pad_to_six text = text ++ spaces (6 - length text)
 
--- What precedes `redo` in a redo line: with `debug_pids` the pid, padded, and one space.
+-- The text before `redo` in a redo line: with `debug_pids` the pid, padded, and one space.
 abbrev pub pid_column : Options → Option ℕ → List ℕ
 pid_column options pid = if options.debug_pids then pad_to_six (pid_text pid) ++ spaces 1 else []
 
@@ -34,7 +34,7 @@ indent depth = codes "redo" ++ spaces (2 + 2 * depth)
 abbrev pub redo_line : Options → ℕ → Option ℕ → List ℕ → List ℕ
 redo_line options depth pid text = pid_column options pid ++ indent depth ++ with_line_feed text
 
--- What follows the name in a mention's line with `debug_locks`.
+-- The text after the name in a mention's line with `debug_locks`.
 abbrev pub mention_suffix : How → List ℕ
 mention_suffix Made = []
 mention_suffix Waiting = codes " (WAITING)"

@@ -17,7 +17,7 @@ use redo_logs::{Numbered, NumberedEntry};
 use redo_options::Options;
 use std::alloc::{AllocError, Global};
 
-/// What was shown so far, as visited flags.
+/// The targets named and the logs opened so far, as visited flags.
 #[derive(Drop)]
 pub struct Visited {
     // Whether each name was named, by the name's number.

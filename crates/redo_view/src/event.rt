@@ -1,4 +1,4 @@
-//! Events: what is shown, in order. How they look is no part of them.
+//! Events: the things that are shown, in order. How they look is no part of them.
 //!
 //! An event says whether a log is opened at it (`Opening`), although the state determines this: a form can't look ahead.
 use redo_line::{How, TargetName};

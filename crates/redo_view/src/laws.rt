@@ -40,7 +40,8 @@ pub fn entries_in_order()
     ensures concatenation { (logs : List Log) (options : Options) (show : ShowLog) → PartsAreShownInOrder logs options show }
 {}
 
-/// What a log adds follows everything shown before it, and doesn't depend on that. The same holds for the text.
+/// The events that a log adds follow all events shown before it, and don't depend on them. The text that it adds
+/// doesn't depend on them either.
 pub fn text_is_append_only()
     ensures events { (logs : List Log) (options : Options) → IsAppendOnly logs options (show_log logs options) }
     ensures text { (logs : List Log) (options : Options) → TextIsAppendOnly logs options (show_log logs options) }
@@ -69,8 +70,8 @@ pub fn at_first_mention()
 {}
 
 /// Without `debug_locks`, a mention shows its line exactly if its target isn't named yet. At any time, the named
-/// targets are the targets whose logs were opened and the mentioned targets, and no others. So of all mentions of a
-/// target only the first one can show a line, and it shows none if the target's log was opened before.
+/// targets are the targets whose logs were opened and the mentioned targets, and no others. Only the first mention of a
+/// target can show a line, and it shows none if the target's log was opened before.
 pub fn named_once()
     ensures first { (options : Options) (how : How) (name : List ℕ) → NamedFirst options how name }
     ensures already_named { (options : Options) (how : How) (name : List ℕ) → NamedAgain options how name }

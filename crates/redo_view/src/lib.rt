@@ -1,9 +1,9 @@
-//! From logs to one text: what is shown of the logs at the requested targets, as events, and the form in which these
-//! are written. [`Render`] is for other texts of the logs too.
+//! From logs to one text: the events of the logs at the requested targets, and the form in which these are written.
+//! [`Render`] is for other texts of the logs too.
 //!
-//! `specs/Expansion.antt` defines what is shown, a list of events, and `specs/Text.antt` how an event looks. The state has the
+//! `specs/Expansion.antt` defines the list of shown events, and `specs/Text.antt` how an event looks. The state has the
 //! targets named, the targets whose logs were opened, and the events so far. Opening a log inside another is not a recursion
-//! over one log's entries. So it is defined with a number of levels, one more than there are logs, and laws remove the levels:
+//! over one log's entries. It is defined with a number of levels, one more than there are logs, and laws remove the levels:
 //! [`show_log_equation`] states the recursion itself, [`each_log_once`] which logs are opened, and [`logs_nest`] that they are
 //! nested. An inductive relation can't be computed, but examples of whole texts are (`ExpansionRows`).
 #![tactic(auto)]

@@ -6,8 +6,8 @@
 //!     log 0: A, mention of 1, B           outer: (0, 2)    current: (1, 1)     remaining: D at depth 2, then B at depth 1
 //!     log 1: C, mention of 0, D
 //!
-//! The invariant is that what remains of the frames, after what was shown, gives the whole (`Walking`: `finished`). There are
-//! never more frames than logs. A frame takes 16 bytes of heap and no stack.
+//! The invariant is that the shown events and the rest of the frames give the whole (`Walking`: `finished`). There are never
+//! more frames than logs. A frame takes 16 bytes of heap and no stack.
 ghost use Rattle.std.specs.Prelude.{◌≡◌, ◌<◌, ◌^◌, [], ◌∷◌, false, length};
 ghost use Rattle.redo_line.specs.Lines.{ended, rest};
 ghost use Rattle.redo_view.specs.Event.Event.{LogEnds};

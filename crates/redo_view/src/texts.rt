@@ -82,7 +82,7 @@ pub fn write_target<W: Sink>(
     end_line(name.bytes(), out)
 }
 
-// Returns what follows the name in a mention's redo line, including the line feed.
+// Returns the text after the name in a mention's redo line, including the line feed.
 fn ended_mention_suffix(how: How) -> &'static [u8]
     ensures { result.now ≡ with_line_feed (mention_suffix how) }
 {
@@ -186,7 +186,7 @@ fn end_line<W: Sink>(text: &[u8], out: &mut W) -> Result<(), Broken>
     push_all(out, b"\n")
 }
 
-// Writes what precedes the text of a redo line.
+// Writes the beginning of a redo line, before its text.
 fn write_redo_prefix<W: Sink>(
     options: &Options,
     depth: usize,

@@ -1,7 +1,7 @@
 //! A `Viewer` borrows the numbered logs, the flags (`Visited`), the form and the writer. The flags are two vectors: which
 //! names were named, and which logs were opened. They represent the lists of the definition (`MatchesFlags`), whose order
-//! doesn't affect what is shown. They are plain vectors, because a type for them would have to know the names. If a viewer
-//! owned its flags, its borrow of the writer would not end for the prover, and nothing would be known of the writer
+//! doesn't affect the shown events. They are plain vectors, because a type for them would have to know the names. If a
+//! viewer owned its flags, its borrow of the writer would not end for the prover, and nothing would be known of the writer
 //! afterwards.
 //!
 //! The viewer returns `ViewFault`, though never `Unknown`; `show_event` and `show_lines` convert the faults of a form.
@@ -75,7 +75,7 @@ impl<T: Drop> From<AllocFailed<T>> for ViewFault {
     }
 }
 
-/// The state of showing logs: what is shown of them, what was shown so far, in which form and where the text goes.
+/// The state of showing logs: the options, the visited flags, the form, and the writer that takes the text.
 #[derive(Drop)]
 pub struct Viewer<'a, 'f, F, W> {
     pub alloc: Global,
@@ -121,7 +121,8 @@ pub fn view<W: Sink>(
     view_as(alloc, table, options, &mut form, requested, out)
 }
 
-/// Writes what [`view`] shows in any form. `options` determine what is shown, and the form determines the bytes.
+/// Writes the events that [`view`] shows, in any form. `options` determine the events, and the form determines the
+/// bytes.
 ///
 /// The form is passed each event, in order. If a target has no log, it is passed none. After any other fault, nothing
 /// is known of its state. The rest is as for `view`.
@@ -198,7 +199,7 @@ fn find_unknown(table: &LogTable, requested: &[TargetName]) -> Option<usize>
 }
 
 impl<F: Form, W: Sink> Viewer<'_, '_, F, W> {
-    // Shows the requested targets, each of which must have a log. Nothing may have been shown before.
+    // Shows the requested targets. Each of them must have a log. Nothing may have been shown before.
     fn show_targets(&mut self, requested: &[TargetName]) -> Result<(), ViewFault>
         requires known { find_unknown self.old.logs.now.logs requested.now ≡ None }
         requires fits { Fits self.old.logs.now self.old.visited.now }

@@ -6,7 +6,6 @@ use Rattle.redo_wire.specs.Mailbox.{IsMet, Met}
 abbrev IsSet : List Bool → ℕ → Type 0
 IsSet flags number = slice_get flags number ≡ Some true
 
--- One more flag is set.
 set_more : (flags : List Bool) (at number : ℕ) → at < length flags
     → IsSet (slice_set flags at true) number ↔ ((at ≡ number) ⊎ IsSet flags number)
 set_more [] at number within = absurd (omega (arith, within))

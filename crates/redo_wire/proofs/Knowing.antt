@@ -1,4 +1,4 @@
--- The steps of a pass whose view is known, and what is known after them, as contracts state it.
+-- The steps of a pass whose view is known, and the knowledge after them, as contracts state it.
 use Rattle.std.proofs.Common.{◌≡◌, ℕ, ◌<◌, Bool, true, List, [], ◌∷◌, ◌++◌, length, slice_set, refl, sym, ap, subst, ◌∙◌, arith}
 use Rattle.std.specs.Bool.{⊤}
 use Rattle.std.specs.List.{AllByRecursion}
@@ -59,7 +59,7 @@ meets_at capacity senders made pass limit sized number other got met put view en
     (with_met (Taking capacity senders made got met) w) Idle) (sym end_is)
     (meets capacity senders made pass limit sized number other got met put))
 
--- ---- what is known
+-- ---- knowledge
 
 abbrev Fronts : List Item → List Met → Type 0
 Fronts taken = AllByRecursion (λ (met : Met). IsPrefix (items_of met.0 taken) met.1)
@@ -73,7 +73,7 @@ fronts_met Starting knows = tt
 fronts_met (Posting capacity senders number put) knows = tt
 fronts_met (Taking capacity senders made got met) knows = knows.0
 
--- If no item is held, what is known of the held items is known of the empty list.
+-- If no item is held, each property of the held items holds for the empty list.
 none_held : {P : List Item → Type 0} → Held 0 P → P []
 none_held {P} (items, none, held) = subst P (empty items none) held
   where

@@ -1,4 +1,4 @@
--- The states that the steps of the mailbox lead to, and what the steps require.
+-- The states that the steps of the mailbox lead to, and the conditions of the steps.
 use Rattle.std.proofs.Common.{◌≡◌, ℕ, ◌+◌, ◌<◌, List, [], ◌∷◌, ◌++◌, length, refl, sym, ap, subst, ◌∙◌, inl, inr, arith}
 use Rattle.std.proofs.lemmas.Bool.Decides.{eqb_tells}
 use Rattle.std.proofs.lemmas.List.{append-nil, length-append}
@@ -121,7 +121,7 @@ one_meet sender before one other first second = λ i. record {
   met = (first.met ∙ sym second.met) i;
 }
 
--- ---- what steps require
+-- ---- conditions of steps
 
 -- A list differs from a list that has one more item.
 no_longer : {X : Type 0} (x : X) (xs : List X) → xs ≡ x ∷ xs → ⊥

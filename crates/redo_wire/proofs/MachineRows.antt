@@ -42,7 +42,7 @@ posted first second zero = first
 posted first second (suc zero) = second
 posted first second (suc (suc number)) = []
 
--- The same if only the first end posted, or none.
+-- The items posted at each number, if only the first end posted, or none.
 abbrev by_first : List Item → ℕ → List Item
 by_first items zero = items
 by_first items (suc number) = []
@@ -423,7 +423,7 @@ not_of_a_sender lawful = let one = lawful.of_senders.0 in omega (arith, one)
 not_taken_of_a_sender : IsValid 2 1 (state (b ∷ []) [] (λ sender. items_of sender (b ∷ [])) 1 []) → ⊥
 not_taken_of_a_sender lawful = let one = lawful.of_senders.0 in omega (arith, one)
 
--- The same of the second item.
+-- The sender of the second item is wrong.
 not_second_of_a_sender : IsValid 2 1 (state [] (a ∷ b ∷ []) (λ sender. items_of sender (a ∷ b ∷ [])) 1 []) → ⊥
 not_second_of_a_sender lawful = let one = lawful.of_senders.1.0 in omega (arith, one)
 

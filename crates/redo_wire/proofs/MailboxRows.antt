@@ -40,7 +40,7 @@ not_apart are = are.0.1.0 refl
 not_apart_behind : AreDistinct ((1, []) ∷ (0, []) ∷ (0, []) ∷ []) → ⊥
 not_apart_behind are = are.1.0.0 refl
 
--- What the take end shows of the machine's last state.
+-- The view that the take end has of the machine's last state.
 shows : Observes (a ∷ b ∷ []) ((0, a ∷ []) ∷ (1, b ∷ []) ∷ []) two_met
 shows = (refl, refl, (refl, (refl, tt)))
 
@@ -153,7 +153,7 @@ not_first_used are = let is = ap (λ (end : PostEndState). length end.posted) (a
 not_of_another : AreEndsOf (mailbox 3) (poster 0 [] ∷ poster 1 [] ∷ []) → ⊥
 not_of_another are = let is = ap (λ (end : PostEndState). end.mailbox.capacity) (are.each 1 (poster 1 []) refl) in omega (arith, is)
 
--- ---- what is known of the ends that were met
+-- ---- the ends that were met
 
 all_met : AreAllMet (collector 2 [] both)
 all_met zero below = among.0

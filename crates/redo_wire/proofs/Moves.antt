@@ -363,7 +363,7 @@ posted_of capacity senders made pass got met items views rules mine =
     (λ m is. is.2 ∙ (lawful_reached rules.capacity rules.senders rules.state rules.reached).all_of_each m.0
     ∙ ap (items_of m.0) (λ i. sym mine.got_is i ++ rules.queued_is i)) met mine.met_are
 
--- What the pass that takes shows of the state.
+-- The view that the pass that takes has of the state.
 module _ (capacity senders made pass : ℕ) (got : List Item) (met : List Met) (items : List Item) (views : List View)
     (rules : Invariant items views)
     (mine : FitsTaking rules.capacity rules.senders rules.reader rules.seat rules.state pass capacity senders made got met) where
@@ -477,7 +477,7 @@ gets capacity senders made pass got met item items views rules at =
         (λ m is. is ∙ ap (items_of m.0) (sym (append_assoc got (item ∷ []) items))) met posted_are in
         omega (arith, left_within (got ++ item ∷ []) items met mine.apart behind, fits, limit, ap length rules.queued_is)
 
--- ---- what a pass learns
+-- ---- the lessons of a pass
 
 pub learns : (capacity senders made pass : ℕ) (got : List Item) (met : List Met)
     → Learns Invariant pass (Taking capacity senders made got met) (KnowsOf (Taking capacity senders made got met))

@@ -138,7 +138,7 @@ module _ (capacity senders : ℕ) where
       none_behind before.taken after.taken (ap (λ (state : State). state.taken) nothing.1)
   keeps_taken before after (inr (inr (inr (inr meets)))) = none_behind before.taken after.taken meets.1.items.0
 
-  -- ---- what a schedule leads to
+  -- ---- the states that schedules lead to
 
   lawful_last : (first : State) (states : List State) → IsValid capacity senders first → IsSchedule capacity senders first states
       → IsValid capacity senders (last_of first states)

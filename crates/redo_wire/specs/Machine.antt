@@ -11,8 +11,8 @@ items_of sender items = filter (λ item. nat_eq item.sender sender) items
 abbrev pub IsPrefix : List Item → List Item → Type 0
 IsPrefix front items = (behind : List Item) × (items ≡ front ++ behind)
 
--- A state: the items taken and the items queued, oldest first; what each sender posted; how many post ends were made, numbered
--- from 0; and the numbers of the ends that were met, the last one first.
+-- A state: the items taken and the items queued, oldest first; the items that each sender posted; how many post ends were made,
+-- numbered from 0; and the numbers of the ends that were met, the last one first.
 pub record State : Type 0 where
   pub taken : List Item
   pub queued : List Item

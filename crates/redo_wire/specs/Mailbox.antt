@@ -14,17 +14,17 @@ pub record Mailbox : Type 0 where
   pub capacity : ℕ
   pub senders : ℕ
 
--- A post end: its mailbox, its number, and what it posted, oldest first.
+-- A post end: its mailbox, its number, and the items that it posted, oldest first.
 pub record PostEndState : Type 0 where
   pub mailbox : Mailbox
   pub number : ℕ
   pub posted : List Item
 
--- An end that was met: its number, and what it posted.
+-- An end that was met: its number, and the items that it posted.
 abbrev pub Met : Type 0
 Met = ℕ × List Item
 
--- The take end: its mailbox, what it took, oldest first, and the ends that it met, the last one first.
+-- The take end: its mailbox, the items that it took, oldest first, and the ends that it met, the last one first.
 pub record TakeEndState : Type 0 where
   pub mailbox : Mailbox
   pub taken : List Item
@@ -55,7 +55,7 @@ pub record AreEndsOf (mailbox : Mailbox) (ends : List PostEndState) : Type 0 whe
   pub count : length ends ≡ mailbox.senders
   pub each : (number : ℕ) (end : PostEndState) → slice_get ends number ≡ Some end → end ≡ record { mailbox = mailbox; number = number; posted = [] }
 
--- ---- what is known of the ends that were met
+-- ---- the ends that were met
 
 -- An end of this number was met.
 abbrev pub IsMet : ℕ → List Met → Type 0
@@ -98,7 +98,7 @@ ArePending items end =
 
 -- ---- the mailbox as a machine
 
--- What the take end shows of a state: the items taken, and the met ends with what they posted.
+-- The part of a state that the take end shows: the items taken, and the met ends with the items that they posted.
 abbrev pub Observes : List Item → List Met → State → Type 0
 Observes taken met state = (taken ≡ state.taken) × (map (λ (m : Met). m.0) met ≡ state.met) × AllByRecursion (λ (m : Met). m.1 ≡ state.posted m.0) met
 
@@ -111,7 +111,7 @@ abbrev pub MakesStep : (State → State → Type 0) → TakeEndState → TakeEnd
 MakesStep Step old new =
     (before after : State) × IsReached old.mailbox.capacity old.mailbox.senders before × Observes old.taken old.met before × Step before after × Observes new.taken new.met after
 
--- The same for a post end, which shows what it posted.
+-- The machine takes a step in which a post end posts. The end shows the items that it posted.
 abbrev pub PostsByStep : Item → PostEndState → PostEndState → Type 0
 PostsByStep item old new =
     (before after : State) × IsReached old.mailbox.capacity old.mailbox.senders before × IsLive old.number before × (old.posted ≡ before.posted old.number)

@@ -1,6 +1,6 @@
 use redo_line::{Entries, Entry, StreamFault};
 
-/// An item of the mailbox: what a sender posts about one of its streams.
+/// An item of the mailbox: a sender posts it about one of its streams.
 #[derive(Debug, Drop)]
 pub struct Item {
     /// The number of the sender.
@@ -10,7 +10,7 @@ pub struct Item {
     pub what: What,
 }
 
-/// What an item says about its stream.
+/// The content of an item, about its stream.
 #[derive(Debug, Drop)]
 pub enum What {
     /// One further entry.

@@ -5,9 +5,8 @@ ghost use Rattle.redo_wire.specs.declared.item.Item.{Item};
 ghost use Rattle.redo_wire.specs.Machine.{IsPrefix, IsValid, IsSchedule, IsStep, IsLive, Meets, Opens, Posts, AddsEnd, State, Takes};
 ghost use Rattle.redo_wire.specs.Mailbox.{AreDistinct, ArePrefixesOfMet, ArePending, AreMetFullyTaken, TakeEndState, MetEndsLeaveRoom};
 
-/// A new mailbox is in a valid state, and each step keeps the state valid: when a sender puts an item at the
-/// back, and when the front is taken. The other steps move no item. So the state is valid after each step
-/// of every schedule.
+/// A new mailbox is in a valid state, and each step keeps the state valid: when a sender puts an item at the back, and
+/// when the front is taken. The other steps move no item. The state is valid after each step of every schedule.
 pub fn steps_preserve_validity()
     ensures opens { (capacity senders : ℕ) (state : State) → Opens state → IsValid capacity senders state }
     ensures posts { (capacity senders sender : ℕ) (item : Item) (before after : State) → sender < senders →
@@ -18,8 +17,8 @@ pub fn steps_preserve_validity()
         IsSchedule capacity senders first states → AllByRecursion (IsValid capacity senders) states }
 {}
 
-/// Items keep the order in which they were posted, whoever posted them: no step moves an item before another one,
-/// and only a new item is added, at the back. No step takes back an item that was taken.
+/// Items keep the order in which they were posted, by any sender: no step moves an item before another one, and only a
+/// new item is added, at the back. No step takes back an item that was taken.
 pub fn items_in_order()
     ensures order { (capacity senders : ℕ) (before after : State) → IsStep capacity senders before after →
         IsPrefix (before.taken ++ before.queued) (after.taken ++ after.queued) }

@@ -1,7 +1,7 @@
 //! A bounded mailbox: each sender posts items at its own end, and one collector takes them.
 //!
-//! There is one post end per sender and one take end. A post end is modelled as its number and what it posted; the take end as
-//! what it took, and the ends that it met with what each posted.
+//! There is one post end per sender and one take end. A post end is modelled as its number and the items that it posted; the
+//! take end as the items that it took, and the ends that it met with the items of each.
 //!
 //! # The machine
 //!
@@ -29,8 +29,8 @@
 //! meet its clauses. `mailbox.rt` of the tests shows that items arrive. Only `open` allocates, and may be called again after it
 //! failed: `tests/allocation_failures`.
 //!
-//! No mutant of `take`, `rest` or `meet` alone makes `bound`, `prefixes` or `newly_met` false. Only a wrong `open` changes what
-//! the channel holds and which ends exist.
+//! No mutant of `take`, `rest` or `meet` alone makes `bound`, `prefixes` or `newly_met` false. Only a wrong `open` changes the
+//! contents of the channel and which ends exist.
 #![tactic(auto)]
 
 mod item;

@@ -3,7 +3,7 @@
 //!
 //! The rule is about schedules of the machine, so that there is only one definition to believe. `post`, `take` and `rest` say
 //! which step the machine took. `open` and `meet` can't, because the channel's `Split` and `Join` only make views. The take
-//! end holds no sending half of the channel. So `take` returns `None` instead of blocking forever when all ends are gone.
+//! end holds no sending half of the channel, so `take` returns `None` instead of blocking forever when all ends are gone.
 //!
 //! `meet` takes the runtime although it doesn't block: an implementation that does could have the same signature. `post` and
 //! `take` block as the channel does. Yielding first was measured (bench/README.md).

@@ -1,13 +1,14 @@
-//! The rule of the mailbox: what its passes know, and the steps that they take.
+//! The rule of the mailbox: the knowledge of its passes, and the steps that they take.
 //!
-//! Each caller of the channel holds a *pass*, a token without bytes. Its ghost view is what its holder knows (`View`): for a
-//! post end, its number and what it posted; for the take end, what it took and which ends it met. The rule (`Invariant`) says
-//! that a schedule of the machine leads to a state with this queue, and that every view is true of it. Each call is one step,
-//! and is allowed only if it keeps the rule for any items in the channel and any views of the others; a lemma says so for each
-//! (`Moves`). For each met end, the items taken and queued are all that it posted. So a take knows that what was taken is a
-//! prefix of that, and all of it if the channel is empty. Items of different senders have no known order.
+//! Each caller of the channel holds a *pass*, a token without bytes. Its ghost view is the knowledge of its holder (`View`):
+//! for a post end, its number and the items that it posted; for the take end, the items that it took and the ends that it met.
+//! The rule (`Invariant`) says that a schedule of the machine leads to a state with this queue, and that every view is true of
+//! it. Each call is one step, and is allowed only if it keeps the rule for any items in the channel and any views of the
+//! others; a lemma says so for each (`Moves`). For each met end, the items taken and queued are all that it posted. A take
+//! knows from this that the items taken are a prefix of those posted, and all of them if the channel is empty. Items of
+//! different senders have no known order.
 //!
-//! A rule is a type and can't name the numbers of a run. So the first pass learns them by a step that is generic in a type
+//! A rule is a type and can't name the numbers of a run. The first pass learns them by a step that is generic in a type
 //! with these ghosts (`InitStep`).
 ghost use Rattle.std.specs.Prelude.{ℕ};
 
@@ -16,20 +17,20 @@ use crossbeam_channel::protocol::{Join, Lesson, Outcome, Protocol, Split};
 use std::collections::LinkedList;
 use std::marker::{Brand, PhantomData};
 
-// What a pass knows. No value of this type is ever made.
+// The knowledge of a pass. No value of this type is ever made.
 pub enum View {
     // Nothing.
     Idle,
     // That the mailbox is new.
     Starting,
-    // What the end of this number posted.
+    // The items that the end of this number posted.
     Posting {
         capacity: u32,
         senders: u32,
         number: u32,
         put: LinkedList<Item>,
     },
-    // What was taken, how many post ends were made, and the met ends with what each of them posted.
+    // The items taken, how many post ends were made, and the met ends with the items of each.
     Taking {
         capacity: u32,
         senders: u32,
@@ -114,8 +115,8 @@ impl Lesson<Item, View> for PutStep {
     ghost fact = { λ view items. ⊤ };
 }
 
-// A take: either a step of the machine takes the front, and the outcome states what is known of the met ends then; or
-// nothing is found, and the lesson states what is known then.
+// A take: either a step of the machine takes the front, and the outcome states facts about the met ends; or nothing is
+// found, and the lesson states such facts.
 pub struct TakeStep;
 
 impl Outcome<Item, View> for TakeStep {

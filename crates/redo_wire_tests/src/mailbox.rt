@@ -13,7 +13,6 @@ use std::sync::Wait;
 use std::test::Fail;
 use std::thread::Threads;
 
-/// Returns a text entry.
 fn entry(alloc: Global, text: &str) -> Result<Entry, Fail> {
     let Some(line) = line(alloc, text)? else {
         return Err(Fail::new("no line"));
@@ -201,7 +200,7 @@ impl Load {
         Ok(text)
     }
 
-    /// Returns what the sender posts.
+    /// Returns the items that the sender posts.
     fn posts(self, alloc: Global, sender: u32) -> Result<Posts, Fail> {
         let mut posts = Vec::new(alloc);
         for place in 0..self.lines {

@@ -49,8 +49,8 @@ StoresAllTaken names taken table refused = refused ≡ false → (table ≡ stor
 abbrev pub PostedExpected : ℕ → ℕ → List KnownSource → Met → Type 0
 PostedExpected max_bytes senders given met = AreExpected max_bytes met.0 (share_of senders met.0 0 given) (singles met.1)
 
--- What was collected from ends whose senders sent these shares: the mailbox is the same, what was taken is stored, and each
--- end that was met since `before` posted what is expected of it.
+-- The collected items of ends whose senders sent these shares: the mailbox is the same, the items taken are stored, and each end
+-- that was met since `before` posted what is expected of it.
 pub record Collects {A : Type 0} (contents : A → Option Stream) (max_bytes : ℕ) (ends : List PostEndState) (shares : List (List (ℕ × List ℕ × Bool × A))) (before after : LogCollector) : Type 0 where
   pub mailbox : after.take_end.mailbox ≡ before.take_end.mailbox
   pub holds : (names : List (List ℕ)) → StoresAllTaken names before.take_end.taken before.table before.out_of_memory → StoresAllTaken names after.take_end.taken after.table after.out_of_memory

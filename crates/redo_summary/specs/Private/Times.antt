@@ -1,4 +1,4 @@
--- The first and the last of two times, each of which may be unknown.
+-- The first and the last of two times. Either may be unknown.
 use Rattle.std.specs.Prelude.{ℕ, max, min, Option, None, Some}
 
 abbrev pub first_of : Option ℕ → Option ℕ → Option ℕ

@@ -8,7 +8,7 @@ use Rattle.redo_timeline.specs.declared.span.Window.{Window}
 use Rattle.redo_timeline.specs.Bars.{began_of, has_failed, is_narrow, position_of, units}
 use Rattle.redo_timeline.specs.Lanes.{ended_of}
 
--- What is kept of the spans of a bar.
+-- The draft of the spans of a bar.
 abbrev pub draft_of : Window → List Span → Draft
 draft_of window bar = record {
   began = began_of bar;

@@ -1,4 +1,4 @@
--- What was found so far about the times of targets.
+-- The times of targets, as they were found so far.
 use Rattle.std.specs.Prelude.{◌≡◌, ℕ, List, ◌++◌, Option, Some, map, take}
 use Rattle.std.specs.Option.{option_or}
 use Rattle.redo_device.specs.Feed.{Stream}
@@ -12,7 +12,7 @@ use Rattle.redo_times.specs.Readers.{SomeStreams, logs_of}
 use Rattle.redo_times.specs.Report.{reports_in, reports_of}
 use Rattle.redo_times.specs.Times.{before_end, earlier, first_time, last_time, later, times_at}
 
--- What these reports say about a target.
+-- The tally of a target, by these reports.
 abbrev pub tally_of : List Report → List ℕ → Tally
 tally_of reports target = record {
   began = first_time (times_at Began target reports);

@@ -19,7 +19,7 @@ abbrev pub TailFits : List Gauge → Type 0
 TailFits [] = ⊤
 TailFits (gauge ∷ outer) = gauge.limit.tail < 2 ^ 64
 
--- What is shown of lines that are all shown in this way.
+-- The events of lines that are all shown in this way.
 abbrev pub lines_shown : Showing → ℕ → List (List ℕ) → List Event
 lines_shown showing.Whole depth lines = text_events depth lines
 lines_shown showing.Marker depth lines = marker depth ∷ []

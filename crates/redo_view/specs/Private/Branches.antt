@@ -1,4 +1,4 @@
--- What the expansion does in each case of a decision.
+-- The expansion in each case of a decision.
 use Rattle.std.specs.Prelude.{ℕ, Bool, List, if◌then◌else◌}
 use Rattle.redo_line.specs.declared.entry.How.{How}
 use Rattle.redo_logs.specs.Logs.{Log}

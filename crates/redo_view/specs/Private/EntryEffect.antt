@@ -1,4 +1,4 @@
--- What one entry adds, by a viewer's visited flags.
+-- The effect of one entry, by a viewer's visited flags.
 --
 -- Each name has a flag, by its number, which states whether it was named. Each log has a flag, by its number, which states
 -- whether it was opened.
@@ -58,7 +58,7 @@ module _ (numbering : Numbering) (options : Options) where
   abbrev pub mention_opening : List Bool → ℕ → Opening
   mention_opening opened name = opening_by options.recursive opened (log_number (name_at numbering.names name) numbering.logs)
 
-  -- What an entry shows, without a log that it opens.
+  -- The events that an entry shows, without a log that it opens.
   abbrev pub own_events : ℕ → Visited → NumberedEntry → List Event
   own_events depth visited (Mention pid how name) =
       if is_mention options how then mention_line options depth pid how (name_at numbering.names name) (mention_opening visited.opened.items name) (is_set visited.named.items name) else []

@@ -4,7 +4,7 @@ use Rattle.std.specs.Fmt.{signed_decimal}
 use Rattle.redo_options.specs.declared.options.Options.{Options}
 use Rattle.redo_view.specs.Text.{redo_line}
 
--- What follows the name of a failed target.
+-- The text after the name of a failed target.
 abbrev pub exit_suffix : ℤ → List ℕ
 exit_suffix status = codes " (exit " ++ signed_decimal status ++ codes ")"
 

@@ -1,4 +1,4 @@
--- What a viewer has shown, by its visited flags, and by what is known of its writer and its form.
+-- The progress of a viewer, by its visited flags, its writer and its form.
 use Rattle.std.specs.Prelude.{◌≡◌, ℕ, Bool, List, [], Some, Result, Ok, Err, map}
 use Rattle.redo_logs.specs.Logs.{log_number, targets_of}
 use Rattle.redo_logs.specs.Numbering.{Numbering}
@@ -36,7 +36,7 @@ module _ {F : Type 0} (bytes : F → Event → List ℕ) (after : F → Event �
     pub flags : MatchesFlags numbering visited state
     pub rendering : now ≡ rendered bytes after start state.events
 
-  -- What was shown, depending on the result: all of `whole`, or a prefix of its bytes.
+  -- The shown text, by the result: all of `whole`, or a prefix of its bytes.
   abbrev pub ShowedOrFailed : {A : Type 0} → Rendering F → Rendering F → Visited → ViewState → Result A ViewFault → Type 0
   ShowedOrFailed start now visited whole (Ok done) = HasShown start now visited whole
   ShowedOrFailed start now visited whole (Err fault) = WroteUntilFault start.output now.output (bytes_of bytes after start.form whole.events) fault

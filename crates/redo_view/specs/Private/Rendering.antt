@@ -1,4 +1,4 @@
--- A writer and a form, and what events do to them.
+-- A writer and a form, and the effect of events on them.
 use Rattle.std.specs.Prelude.{◌≡◌, ℕ, List, Option, Result, Ok, Err}
 use Rattle.redo_device.specs.Sink.{Output, append_output}
 use Rattle.redo_view.specs.declared.viewer.ViewFault.{ViewFault}
@@ -6,7 +6,7 @@ use Rattle.redo_view.specs.Event.{Event}
 use Rattle.redo_view.specs.Form.{bytes_of, state_after}
 use Rattle.redo_view.specs.Private.WriteResult.{WroteUntilFault}
 
--- What is known of the writer, and the state of the form.
+-- The known output of the writer, and the state of the form.
 pub record Rendering (F : Type 0) : Type 0 where
   pub output : Option Output
   pub form : F

@@ -1,5 +1,5 @@
--- What a viewer does, from its state before. `bytes` and `after` are the ghost members of its form, and `written` gives what is
--- known of its writer.
+-- The effect of a viewer, from its state before. `bytes` and `after` are the ghost members of its form, and `written` gives the
+-- known output of its writer.
 use Rattle.std.specs.Prelude.{◌≡◌, ℕ, Bool, List, Option, Result}
 use Rattle.redo_device.specs.Sink.{Output}
 use Rattle.redo_line.specs.declared.entry.How.{How}
@@ -24,7 +24,7 @@ module _ {F W : Type 0} where
     pub form : after.form.ghost_name ≡ before.form.ghost_name
     pub out : after.out.ghost_name ≡ before.out.ghost_name
 
-  -- What an entry shows, without a log that it opens.
+  -- The events that an entry shows, without a log that it opens.
   abbrev pub own_events : Viewer F W → ℕ → NumberedEntry → List Event
   own_events viewer depth entry = effect.own_events viewer.logs.now viewer.options depth viewer.visited.now entry
 

@@ -1,4 +1,4 @@
--- The representation of an end: an end of the channel, and a pass whose view has what the end's model states.
+-- The representation of an end: an end of the channel, and a pass whose view agrees with the end's model.
 use Rattle.std.specs.Prelude.{◌≡◌, ℕ, ◌<◌, ◌↔◌, Bool, true, List, [], Some, length, slice_get}
 use Rattle.crossbeam_channel.specs.declared.flavors.array.Doing.{Doing}
 use Rattle.crossbeam_channel.specs.declared.flavors.array.Key.{Key}

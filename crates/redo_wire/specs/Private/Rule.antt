@@ -1,6 +1,6 @@
--- The rule of the mailbox: what the channel holds, and what every pass knows.
+-- The rule of the mailbox: the contents of the channel, and the knowledge of every pass.
 --
--- A schedule of the machine leads to a state whose queue is what the channel holds. Every pass knows its part of this state.
+-- A schedule of the machine leads to a state whose queue is the contents of the channel. Every pass knows its part of this state.
 use Rattle.std.specs.Prelude.{◌≡◌, ℕ, ◌+◌, ◌<◌, ◌≤◌, List, [], ◌∷◌, ◌++◌, Option, None, Some, map}
 use Rattle.std.specs.List.{AllByRecursion}
 use mathlib.Core.Option.{some}
@@ -50,10 +50,10 @@ with_got item Starting = Starting
 with_got item (Posting capacity senders number put) = Posting capacity senders number put
 with_got item (Taking capacity senders made got met) = Taking capacity senders made (got ++ item ∷ []) met
 
--- ---- what a pass knows of a state: `reader` is the pass that takes, and `seat` gives the pass that posts with a number
+-- ---- the knowledge of a pass about a state: `reader` is the pass that takes, and `seat` gives the pass that posts with a number
 
 module _ (capacity senders reader : ℕ) (seat : ℕ → Option ℕ) (state : State) where
-  -- A met end: it was made, no pass posts with its number any more, and this is what it posted.
+  -- A met end: it was made, no pass posts with its number any more, and it posted these items.
   abbrev pub IsMetEnd : ℕ → Met → Type 0
   IsMetEnd made met = (met.0 < made) × (seat met.0 ≡ None) × (met.1 ≡ state.posted met.0)
 
@@ -98,7 +98,7 @@ pub record Invariant (items : List Item) (views : List View) : Type 0 where
   pub reached : IsReached capacity senders state
   pub fit : (pass : ℕ) (view : View) → get_elem? views pass ≡ some view → Fits capacity senders reader seat state pass view
 
--- ---- what a pass learns
+-- ---- the lessons of a pass
 
 -- For each met end, the items taken from it are a prefix of the items that it posted. The items that the met ends posted and
 -- that are still to be taken are fewer than the capacity.
@@ -125,7 +125,7 @@ KnowsStep view item now =
 abbrev pub KnowsState : View → List Item → Type 0
 KnowsState view items = (state : State) × IsReached (capacity_in view) (senders_in view) state × Observes (items_in view) (met_in view) state × (state.queued ≡ items)
 
--- What the take end knows if the mailbox holds `items`: with them, all that the met ends posted was taken, each item is a
+-- The knowledge of the take end, if the mailbox holds `items`: with them, all that the met ends posted was taken, each item is a
 -- sender's, no end was met twice, and a schedule leads to this state.
 abbrev pub KnowsOf : View → List Item → Type 0
 KnowsOf Idle items = ⊥

@@ -5,7 +5,7 @@ use Rattle.redo_times.specs.declared.report.Report.{Report}
 use Rattle.redo_times.specs.Private.Tally.{AreTallies, AreTalliesAfter}
 use Rattle.redo_times.proofs.lines.add_lines.Given as goal
 
--- The bytes before `upto` end with a line feed, and the tallies have what their lines report.
+-- The bytes before `upto` end with a line feed, and the tallies have the reports of their lines.
 abbrev pub invariant-lines : goal.invariant-lines
 invariant-lines l = record {
   range : l.upto ≤ length l.bytes;

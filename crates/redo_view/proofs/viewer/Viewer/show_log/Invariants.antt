@@ -1,7 +1,7 @@
 use Rattle.redo_view.proofs.Walking.{Stands, work}
 use Rattle.redo_view.proofs.viewer.Viewer.show_log.Given as goal
 
--- What was shown so far, and what is left of the frames.
+-- The events shown so far, and the rest of the frames.
 abbrev pub invariant-entries : goal.invariant-entries
 invariant-entries g l = Stands g.F.Form.bytes g.F.Form.after g.W.Sink.written l.number l.fn.self l.self l.outer.items l.frame
 
