@@ -58,7 +58,7 @@ lists = (refl, (refl, (refl, (refl, (refl, (refl, (refl, tt)))))))
 abbrev escape : List ℕ → List ℕ
 escape bytes = 27 ∷ bytes
 
--- Of all final bytes, only `K` and `m` end a sequence.
+-- Only the final bytes `K` and `m` end a sequence.
 final_bytes : filter (λ byte. begins_sequence (escape (codes "[0;1") ++ byte ∷ [])) (range_with_len 0 256) ≡ codes "Km"
 final_bytes = refl
 

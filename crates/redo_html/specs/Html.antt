@@ -164,7 +164,7 @@ is_digit byte = nat_le 48 byte && nat_le byte 57
 abbrev pub is_rejected : ℕ → Bool
 is_rejected byte = byte == 0 || byte == 13
 
--- The character that a reference names. Of all names in the standard's table, those for `<`, `>` and `&` are known here.
+-- The character that a reference names. Only the names for `<`, `>` and `&` of the standard's table are known here.
 abbrev pub named_character : List ℕ → Option ℕ
 named_character name = if bytes_eq name (codes "lt") then Some 60 else if bytes_eq name (codes "gt") then Some 62 else if bytes_eq name (codes "amp") then Some 38 else None
 

@@ -309,7 +309,7 @@ long_output = refl
 abbrev many_lines : List Log
 many_lines = log (codes "e") (replicate 20 (Text (codes "a")) ++ Text (codes "error") ∷ replicate 85 (Text (codes "a"))) ∷ []
 
--- Where lines are left out, a link leads to the position of the target.
+-- If lines are left out, a link leads to the position of the target.
 excerpt_links : target_links (output_parts many_lines 5 (node 0 None (Some (pos 1)) 301 0 false)) ≡ 5 ∷ 5 ∷ []
 unfolding output_parts excerpt_parts excerpt_line_parts excerpt_line_end cut_to left_out_parts in_tree_parts begins_with
 excerpt_links = refl

@@ -109,7 +109,7 @@ module _ (logs : List Log) (limits : List Limit)
     trimmed_have gauges rest have.3,
   )
 
-  -- Of the log at each position, the head and the tail are left.
+  -- The head and the tail of the log at each position are left.
   pub lines_left : (status : ℕ → Option ℤ) (contents : Contents) → HaveLines logs contents → KeepCount limits contents → (position : ℕ)
       → position < log_count contents
       → texts_of (lines_at position (positioned_lines None 0 (trim limits [] contents)))

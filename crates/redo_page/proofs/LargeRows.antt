@@ -165,7 +165,7 @@ large_counts = refl
 abbrev each_list : (Listed → Count) → List ℕ
 each_list count = map (λ these. count_of (view (facts 0 0)) (count these)) (Articles ∷ Others ∷ listed.Dependents ∷ Unclosed ∷ [])
 
--- Of each list, 200 targets are listed.
+-- 200 targets of each list are named.
 large_lists :
     (bytes_eq (each_list (λ these. All these)) (10 ∷ 12336 ∷ 12347 ∷ 12348 ∷ []) ≡ true)
     × (bytes_eq (each_list (λ these. Unlisted these)) (0 ∷ 12136 ∷ 12147 ∷ 12148 ∷ []) ≡ true)

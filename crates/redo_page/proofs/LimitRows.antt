@@ -62,7 +62,7 @@ some_caps_are = (refl, refl, refl, refl, refl, refl)
 
 -- ---- limits
 
--- Of 20,000 bytes, the first 1,250 and the last 3,750 are shown. A quarter is rounded down.
+-- The first 1,250 and the last 3,750 of 20,000 bytes are shown. A quarter is rounded down.
 limits_are :
     (limit_at 5000 20000 ≡ limit 1250 16250) × (limit_at 4096 4097 ≡ limit 1024 1025) × (limit_at 4099 10000 ≡ limit 1024 6925)
     × (limit_at 5000 3000 ≡ limit 1250 0)

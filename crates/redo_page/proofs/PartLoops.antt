@@ -79,7 +79,7 @@ module _ {W : Type 0} (written : W → Option Output) where
       ap (λ (parts : List Part). LogPart style (with_line_feed line) ∷ parts)
       (lines_split (style_after style (with_line_feed line)) lines more)
 
-  -- Of these parts, everything except these lines was written, or a write failed. Unless it did, `style` is the style of the first of them.
+  -- Everything of these parts except these lines was written, or a write failed. Unless it did, `style` is the style of the first of them.
   pub record LinesLeft (before now : PageWriter W) (parts : List Part) (style : Style) (lines : List (List ℕ)) : Type 0 where
     pub right : Style
     pub style_is : now.failed ≡ false → style ≡ right

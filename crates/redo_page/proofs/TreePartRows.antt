@@ -51,7 +51,7 @@ abbrev node : ℕ → Option ℕ → Option ℤ → ℕ → ℕ → Bool → Nod
 node number parent status lines children others =
     record no_node { number = number; parent = parent; status = status; lines = lines; bytes = lines; children = children; others = others }
 
--- `c` is requested, and has two logs in it and something else. Of these `a` failed, and printed one line, and `b` has nothing in it.
+-- `c` is requested, and has two logs in it and something else. `a` failed and printed one line, and `b` has nothing in it.
 abbrev c : Node
 c = node 2 None (Some (pos 0)) 0 2 true
 

@@ -9,7 +9,7 @@ use redo_logs::LogTable;
 
 const ESCAPE: u8 = 27;
 
-/// Where the bytes before a byte lead: outside of words, into a word, or into a sequence that sets colours.
+/// The state after some bytes: outside of words, in a word, or in a sequence that sets colours.
 #[derive(Clone, Copy, Debug, PartialEq, Eq)]
 pub enum WordState {
     Outside,

@@ -8,7 +8,7 @@ use Rattle.redo_outline.specs.declared.node.Node.{Node}
 use Rattle.redo_summary.specs.declared.rank.Rank.{Rank}
 use Rattle.redo_summary.specs.Window.{cut}
 
--- The largest value is first. Of equal values, the lowest position is first.
+-- The largest value is first. If values are equal, the lowest position is first.
 abbrev pub rank_cmp : Rank → Rank → Ordering
 rank_cmp a b = ordering_then (nat_cmp b.value a.value) (nat_cmp a.position b.position)
 

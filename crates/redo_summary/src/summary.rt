@@ -153,7 +153,7 @@ impl Summary {
         self.bytes
     }
 
-    /// Returns the ten recipes that took longest, the longest one first. Of recipes that took equally long, the one with the lowest
+    /// Returns the ten recipes that took longest, the longest one first. If recipes took equally long, the one with the lowest
     /// position is first. A duration is at most 2^44 - 1 milliseconds.
     pub fn longest(&self) -> &[Rank]
         ensures { result.now ≡ self.now.longest }
@@ -161,7 +161,7 @@ impl Summary {
         self.longest.as_slice()
     }
 
-    /// Returns the ten targets with the most warnings, the one with the most first, and only those with a warning. Of targets with
+    /// Returns the ten targets with the most warnings, the one with the most first, and only those with a warning. If targets have
     /// equally many, the one with the lowest position is first.
     pub fn warned(&self) -> &[Rank]
         ensures { result.now ≡ self.now.warned }

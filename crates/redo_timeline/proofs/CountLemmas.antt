@@ -139,7 +139,7 @@ counts_itself spans span ended =
 -- ---- no more run at any time
 
 module _ (P : Span → Type 0) (time : ℕ) where
-  -- Of the spans that run at a time, one that began last.
+  -- A span that runs at a time. No other one that runs then began later.
   record Latest (spans : List Span) : Type 0 where
     span : Span
     holds : P span

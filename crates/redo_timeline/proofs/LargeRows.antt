@@ -9,7 +9,7 @@ use Rattle.redo_timeline.specs.Parallelism.{count_at, most_of, runs_at}
 abbrev span : ℕ → ℕ → Span
 span began ended = record { began = began; position = 0; ended = ended; failed = false }
 
--- Where a time is drawn is cut, not rounded: a third of the width, two thirds of it, and times at and after the edges.
+-- The place of a time is cut, not rounded: a third of the width, two thirds of it, and times at and after the edges.
 thirds : map (units (record { began = 100; width = 3 })) (99 ∷ 100 ∷ 101 ∷ 102 ∷ 103 ∷ 104 ∷ []) ≡ 0 ∷ 0 ∷ 3333 ∷ 6666 ∷ 10000 ∷ 10000 ∷ []
 thirds = refl
 

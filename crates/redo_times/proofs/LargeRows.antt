@@ -52,7 +52,7 @@ fractions : map time_value (codes "1600000000.0009" ∷ codes "1600000000.9995" 
 unfolding time_value split_once number
 fractions = refl
 
--- Of all mentions, only `do` says that a target began.
+-- Only the mention `do` says that a target began.
 mentions : map (λ how. stage_of (codes "a") (Mention 7 how (codes "b"))) (Waiting ∷ Locked ∷ Unlocked ∷ Unchanged ∷ [])
     ≡ None ∷ None ∷ None ∷ None ∷ []
 mentions = refl

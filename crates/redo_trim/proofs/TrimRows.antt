@@ -112,7 +112,7 @@ events =
     ∷ EntryShown 2 (Note 9 (codes "check") (codes "n")) ∷ lines (codes "b three") ∷ lines (codes "b four") ∷ LogEnds 2
     ∷ text (codes "a two") ∷ text (codes "a three") ∷ text (codes "a four") ∷ LogEnds 1 ∷ []
 
--- Of `a` the second line and the third one are left out, of `b` the first two.
+-- The second line and the third one of `a` are left out, and the first two of `b`.
 two_logs :
     trimmed limits [] events
     ≡ Requested (codes "a") (OpensHere 0) ∷ text (codes "a one") ∷ Mentioned 1 9 Made (codes "b") (OpensHere 1) ∷ marker 2

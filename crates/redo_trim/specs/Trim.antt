@@ -29,7 +29,7 @@ line_size line = length line + 1
 abbrev pub is_kept : Gauge → ℕ → Bool
 is_kept gauge size = nat_le gauge.limit.tail gauge.seen || nat_le (gauge.seen + size) gauge.limit.head
 
--- Of the lines that are left out, only the first one begins in the head or at its end. The marker takes its place.
+-- Only the first line that is left out begins in the head or at its end. The marker takes its place.
 abbrev pub showing_of : Gauge → ℕ → Showing
 showing_of gauge size =
     if is_kept gauge size then showing.Whole

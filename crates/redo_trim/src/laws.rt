@@ -40,9 +40,9 @@ pub fn unlimited_logs_are_whole()
     ensures { (limits : List Limit) (events : List Event) → AreNoLimits limits → trimmed limits [] events ≡ events }
 {}
 
-/// Of a log, only lines in the middle are left out: its head and its tail are kept, unchanged and in order. One marker is shown
-/// between them, if any line is left out. At most as many bytes are kept as the head may have, and as there are at the limit's `tail` and
-/// after it. The two numbers of the limit must fit into 64 bits.
+/// Only lines in the middle of a log are left out: its head and its tail are kept, unchanged and in order. One marker is shown between
+/// them, if any line is left out. At most as many bytes are kept as the head may have, and as there are at the limit's `tail` and after
+/// it. The two numbers of the limit must fit into 64 bits.
 pub fn head_and_tail_are_kept()
     ensures parts { (limit : Limit) (lines : List (List ℕ)) →
         lines ≡ head_lines limit.head lines ++ (left_out limit lines ++ tail_lines limit lines) }

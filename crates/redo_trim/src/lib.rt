@@ -1,7 +1,7 @@
 //! Leaves out the middle of long logs: an adapter for a form, which is passed the events that are left.
 //!
-//! [`Trimmed`] passes events on to the form that it owns. Of a log with a [`Limit`], it passes on only the text lines
-//! in the log's head and in its tail. A marker takes the place of the first line that it leaves out.
+//! [`Trimmed`] passes events on to the form that it owns. If a log has a [`Limit`], it passes on only the text lines in
+//! the log's head and in its tail. A marker takes the place of the first line that it leaves out.
 //!
 //! # Terms
 //!

@@ -19,7 +19,7 @@ use Rattle.redo_html.specs.Style.{setting_after, restyled}
 use Rattle.redo_html.specs.Symbols.{Symbol, symbols, sequence_len, sequence_numbers, numbers_from}
 use Rattle.redo_html.specs.Symbols.Symbol.{CodePoint, Sequence}
 
--- Of a text, everything except `rest` was written, and no write failed.
+-- Everything of a text except `rest` was written, and no write failed.
 pub record WroteUpTo (before after : Option Output) (text rest : List ℕ) : Type 0 where
   pub prefix : List ℕ
   pub wrote : after ≡ append_output before prefix 0

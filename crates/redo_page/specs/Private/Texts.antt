@@ -45,7 +45,7 @@ pub record BeginsChunk (before : Pending) (bytes : List ℕ) (chunk : Chunk) : T
   pub complete : rest (drop chunk.len bytes) ≡ []
   pub are : AreChunk (block_for before chunk.first) chunk.first (take chunk.len bytes) chunk.count
 
--- Of a text, everything except `left` was written, and no write failed.
+-- Everything of a text except `left` was written, and no write failed.
 pub record WroteUpTo (before after : Option Output) (text left : List ℕ) : Type 0 where
   pub prefix : List ℕ
   pub wrote : after ≡ append_output before prefix 0

@@ -20,7 +20,7 @@ module _ {W : Type 0} (written : W → Option Output) where
     pub out : now.out.ghost_name ≡ before.out.ghost_name
     pub wrote : WroteUnless before.failed (written before.out.now) (written now.out.now) parts now.failed
 
-  -- Of these parts, everything except `left` was written, or a write failed.
+  -- Everything of these parts except `left` was written, or a write failed.
   pub record WrotePartsUpTo (before now : PageWriter W) (parts left : List Part) : Type 0 where
     pub first : List Part
     pub wrote : WroteParts before now first

@@ -38,7 +38,7 @@ pub record IsFirstLine (bytes : List ℕ) (size : ℕ) : Type 0 where
   pub is_line : IsOneLine (take size bytes)
   pub size_is : length (take size bytes) ≡ size
 
--- Of a text, everything except `left` was written, and no write failed.
+-- Everything of a text except `left` was written, and no write failed.
 pub record WroteUpTo (before after : Option Output) (text left : List ℕ) : Type 0 where
   pub prefix : List ℕ
   pub wrote : after ≡ append_output before prefix 0
