@@ -15,6 +15,6 @@ module _ {F : Type 0} (after : F → Event → F) where
   }
 
 module _ {F : Type 0} (bytes : F → Event → List ℕ) (after : F → Event → F) where
-  -- The bytes that the inner form writes in place of an event.
+  -- The bytes that the inner form writes instead of an event.
   abbrev pub form_bytes : Trimmed F → Event → List ℕ
   form_bytes form event = bytes_of bytes after form.form (kept form.gauges event)
