@@ -58,7 +58,7 @@ pub record IsStatement (line : List ℕ) (statement : Statement) : Type 0 where
   pub number_is : statement.number ≡ number digits
   pub fits : FitsForm statement.form statement.text
 
--- The definitions from here on compute the statement of `IsStatement`. The law `line_has_one_statement` says that both agree.
+-- The definitions from here on compute the statement that `IsStatement` describes. The law `line_has_one_statement` says that both agree.
 abbrev pub usage_from : Option ℕ → Option ℕ → Option ℕ → Option Usage
 usage_from None system peak = None
 usage_from (Some user) None peak = None
