@@ -4,7 +4,7 @@ use Rattle.std.specs.Fmt.{digits}
 use Rattle.std.specs.List.{AllByRecursion}
 use Rattle.std.specs.Prelude.{codes}
 use Rattle.redo_html.specs.declared.markup.Markup.{Markup}
-use Rattle.redo_html.specs.declared.markup.Markup.TheVariants.{Doctype, Html, EndHtml, Head, EndHead, Charset, Viewport, ColorScheme, Referrer, Policy, BodyGood, BodyBad, BodyOpen, EndBody, Header, EndHeader, Title1, EndTitle1, Sign, EndSign, Nav, EndNav, Main, EndMain, FailedSection, SummarySection, TreeSection, TimelineSection, EndSection, FailedHeading, SummaryHeading, TreeHeading, TimelineHeading, EndHeading, FailedLink, SummaryLink, TreeLink, TimelineLink, TargetLink, OutputLink, EndLink, Article, EndArticle, Title3, EndTitle3, Paragraph, MetaParagraph, QuietParagraph, CutParagraph, ProblemParagraph, EndParagraph, Unordered, Tree, EndUnordered, Ordered, OrderedFrom, EndOrdered, Item, NoteItem, TargetItem, EndItem, Details, OpenDetails, QuietDetails, MoreDetails, EndDetails, Summary, EndSummary, Pre, EndPre, Bdi, EndBdi, Code, EndCode, ExitBadge, OpenBadge, EndBadge, Warnings, EndWarnings, Small, EndSmall, Footer, EndFooter, DescriptionList, EndDescriptionList, Div, EndDiv, Term, EndTerm, Description, EndDescription, Columns, Table, EndTable, TableBody, EndTableBody, TableRow, EndTableRow, RowHeading, EndRowHeading, NumberCell, MeterCell, EndCell, TimelineScroll}
+use Rattle.redo_html.specs.declared.markup.Markup.TheVariants.{Doctype, Html, EndHtml, Head, EndHead, Charset, Viewport, ColorScheme, Referrer, Policy, BodyGood, BodyBad, BodyOpen, EndBody, Header, EndHeader, Title1, EndTitle1, Sign, EndSign, Nav, EndNav, Main, EndMain, FailedSection, SummarySection, TreeSection, TimelineSection, EndSection, FailedHeading, SummaryHeading, TreeHeading, TimelineHeading, EndHeading, FailedLink, SummaryLink, TreeLink, TimelineLink, TargetLink, OutputLink, EndLink, Article, EndArticle, Title3, EndTitle3, Paragraph, MetaParagraph, QuietParagraph, CutParagraph, ProblemParagraph, EndParagraph, Unordered, Tree, EndUnordered, Ordered, OrderedFrom, EndOrdered, Item, NoteItem, TargetItem, EndItem, Details, OpenDetails, QuietDetails, MoreDetails, EndDetails, Summary, EndSummary, Pre, EndPre, Bdi, EndBdi, Code, EndCode, ExitBadge, OpenBadge, EndBadge, Emphasis, EndEmphasis, Small, EndSmall, Footer, EndFooter, DescriptionList, EndDescriptionList, Div, EndDiv, Term, EndTerm, Description, EndDescription, Columns, Table, EndTable, TableBody, EndTableBody, TableRow, EndTableRow, RowHeading, EndRowHeading, NumberCell, MeterCell, EndCell, TimelineScroll}
 use Rattle.redo_html.specs.declared.style.Hue.TheVariants.{Plain}
 use Rattle.redo_html.specs.Html.{plain_elements, start_name, void_elements}
 use Rattle.redo_html.specs.Passage.{Inline, highlight_text}
@@ -110,7 +110,7 @@ blocks =
     ∷ (MoreDetails, codes "details class=\"more\"") ∷ (EndDetails, codes "/details") ∷ (Summary, codes "summary")
     ∷ (EndSummary, codes "/summary") ∷ (Pre, codes "pre") ∷ (EndPre, codes "/pre") ∷ (Bdi, codes "bdi") ∷ (EndBdi, codes "/bdi")
     ∷ (Code, codes "code") ∷ (EndCode, codes "/code") ∷ (ExitBadge, codes "strong class=\"x\"") ∷ (OpenBadge, codes "strong class=\"o\"")
-    ∷ (EndBadge, codes "/strong") ∷ (Warnings, codes "em") ∷ (EndWarnings, codes "/em") ∷ (Small, codes "small")
+    ∷ (EndBadge, codes "/strong") ∷ (Emphasis, codes "em") ∷ (EndEmphasis, codes "/em") ∷ (Small, codes "small")
     ∷ (EndSmall, codes "/small") ∷ []
 
 these_blocks : HaveTexts blocks
@@ -247,7 +247,7 @@ highlight_name inline = start_name (highlight_text inline)
 elements : plain_elements
     ≡ names_of (Html ∷ Head ∷ Charset ∷ BodyGood ∷ Header ∷ Nav ∷ Main ∷ FailedSection ∷ Article 0 ∷ Footer ∷ Title1 ∷ FailedHeading
     ∷ Title3 ∷ Paragraph ∷ Unordered ∷ Ordered ∷ Item ∷ Details 0 ∷ Summary ∷ TreeLink ∷ [])
-    ++ highlight_name (StyleStart (record { bold = true; hue = Plain })) ∷ names_of (Bdi ∷ Code ∷ Warnings ∷ [])
+    ++ highlight_name (StyleStart (record { bold = true; hue = Plain })) ∷ names_of (Bdi ∷ Code ∷ Emphasis ∷ [])
     ++ highlight_name UnprintableStart ∷ names_of (Small ∷ Sign ∷ ExitBadge ∷ Table ∷ TableBody ∷ TableRow ∷ RowHeading ∷ NumberCell
     ∷ DescriptionList ∷ Term ∷ Description ∷ Div ∷ [])
 elements = refl

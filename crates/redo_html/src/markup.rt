@@ -165,9 +165,9 @@ pub enum Markup {
     /// `</strong>`
     EndBadge,
     /// `<em>`
-    Warnings,
+    Emphasis,
     /// `</em>`
-    EndWarnings,
+    EndEmphasis,
     /// `<small>`
     Small,
     /// `</small>`
@@ -320,8 +320,8 @@ pub fn write_markup<W: Sink>(markup: Markup, out: &mut W) -> Result<(), Broken>
         Markup::ExitBadge => push_all(out, b"<strong class=\"x\">"),
         Markup::OpenBadge => push_all(out, b"<strong class=\"o\">"),
         Markup::EndBadge => push_all(out, b"</strong>"),
-        Markup::Warnings => push_all(out, b"<em>"),
-        Markup::EndWarnings => push_all(out, b"</em>"),
+        Markup::Emphasis => push_all(out, b"<em>"),
+        Markup::EndEmphasis => push_all(out, b"</em>"),
         Markup::Small => push_all(out, b"<small>"),
         Markup::EndSmall => push_all(out, b"</small>"),
         Markup::Footer => push_all(out, b"<footer>"),

@@ -65,10 +65,10 @@ lines_are = (refl, refl, refl)
 
 warnings_are :
     (warnings_parts 0 ≡ [])
-    × (warnings_parts 1 ≡ words (codes " ") ∷ tag markup.Small ∷ words fact_dot ∷ tag markup.Warnings ∷ number 1 ∷ words (codes " warning")
-    ∷ tag markup.EndWarnings ∷ tag markup.EndSmall ∷ [])
-    × (warnings_parts 2 ≡ words (codes " ") ∷ tag markup.Small ∷ words fact_dot ∷ tag markup.Warnings ∷ number 2 ∷ words (codes " warnings")
-    ∷ tag markup.EndWarnings ∷ tag markup.EndSmall ∷ [])
+    × (warnings_parts 1 ≡ words (codes " ") ∷ tag markup.Small ∷ words fact_dot ∷ tag markup.Emphasis ∷ number 1 ∷ words (codes " warning")
+    ∷ tag markup.EndEmphasis ∷ tag markup.EndSmall ∷ [])
+    × (warnings_parts 2 ≡ words (codes " ") ∷ tag markup.Small ∷ words fact_dot ∷ tag markup.Emphasis ∷ number 2 ∷ words (codes " warnings")
+    ∷ tag markup.EndEmphasis ∷ tag markup.EndSmall ∷ [])
 warnings_are = (refl, refl, refl)
 
 below_are :
@@ -78,10 +78,10 @@ below_are = (refl, refl)
 
 warnings_below_are :
     (warnings_below_parts 0 ≡ [])
-    × (warnings_below_parts 1 ≡ words (codes " ") ∷ tag markup.Small ∷ words fact_dot ∷ tag markup.Warnings ∷ number 1
-    ∷ words (codes " warning below") ∷ tag markup.EndWarnings ∷ tag markup.EndSmall ∷ [])
-    × (warnings_below_parts 2 ≡ words (codes " ") ∷ tag markup.Small ∷ words fact_dot ∷ tag markup.Warnings ∷ number 2
-    ∷ words (codes " warnings below") ∷ tag markup.EndWarnings ∷ tag markup.EndSmall ∷ [])
+    × (warnings_below_parts 1 ≡ words (codes " ") ∷ tag markup.Small ∷ words fact_dot ∷ tag markup.Emphasis ∷ number 1
+    ∷ words (codes " warning below") ∷ tag markup.EndEmphasis ∷ tag markup.EndSmall ∷ [])
+    × (warnings_below_parts 2 ≡ words (codes " ") ∷ tag markup.Small ∷ words fact_dot ∷ tag markup.Emphasis ∷ number 2
+    ∷ words (codes " warnings below") ∷ tag markup.EndEmphasis ∷ tag markup.EndSmall ∷ [])
 warnings_below_are = (refl, refl, refl)
 
 took_are :
@@ -112,11 +112,11 @@ facts_are :
     ∷ words (codes " ") ∷ tag markup.Small ∷ words fact_dot ∷ number 1 ∷ words (codes " min ") ∷ number 0 ∷ number 1 ∷ words (codes " s")
     ∷ tag markup.EndSmall
     ∷ words (codes " ") ∷ tag markup.Small ∷ words fact_dot ∷ number 3 ∷ words (codes " lines") ∷ tag markup.EndSmall
-    ∷ words (codes " ") ∷ tag markup.Small ∷ words fact_dot ∷ tag markup.Warnings ∷ number 2 ∷ words (codes " warnings") ∷ tag markup.EndWarnings
+    ∷ words (codes " ") ∷ tag markup.Small ∷ words fact_dot ∷ tag markup.Emphasis ∷ number 2 ∷ words (codes " warnings") ∷ tag markup.EndEmphasis
     ∷ tag markup.EndSmall
     ∷ words (codes " ") ∷ tag markup.Small ∷ words fact_dot ∷ number 4 ∷ words (codes " below") ∷ tag markup.EndSmall
-    ∷ words (codes " ") ∷ tag markup.Small ∷ words fact_dot ∷ tag markup.Warnings ∷ number 1 ∷ words (codes " warning below")
-    ∷ tag markup.EndWarnings ∷ tag markup.EndSmall
+    ∷ words (codes " ") ∷ tag markup.Small ∷ words fact_dot ∷ tag markup.Emphasis ∷ number 1 ∷ words (codes " warning below")
+    ∷ tag markup.EndEmphasis ∷ tag markup.EndSmall
     ∷ []
 unfolding duration_words
 facts_are = refl

@@ -2,7 +2,7 @@
 use Rattle.std.specs.Prelude.{ℕ, suc, ◌==◌, Bool, not, ℤ, pos, negsuc, List, [], ◌∷◌, ◌++◌, Option, None, Some, codes, if◌then◌else◌}
 use Rattle.redo_line.specs.declared.entry.How.{How}
 use Rattle.redo_line.specs.declared.entry.How.TheVariants.{Made, Waiting, Locked, Unlocked, Unchanged}
-use Rattle.redo_html.specs.declared.markup.Markup.TheVariants.{Bdi, EndBdi, OutputLink, ExitBadge, OpenBadge, EndBadge, Small, EndSmall, Warnings, EndWarnings, TargetLink, EndLink}
+use Rattle.redo_html.specs.declared.markup.Markup.TheVariants.{Bdi, EndBdi, OutputLink, ExitBadge, OpenBadge, EndBadge, Small, EndSmall, Emphasis, EndEmphasis, TargetLink, EndLink}
 use Rattle.redo_html.specs.Parts.{Part}
 use Rattle.redo_html.specs.Parts.Part.{MarkupPart, TextPart, NumberPart}
 use Rattle.redo_outline.specs.declared.node.Node.{Node}
@@ -51,7 +51,7 @@ lines_parts lines =
 abbrev pub warnings_parts : ℕ → List Part
 warnings_parts warnings =
     parts_if (not (warnings == 0))
-    (fact_parts (MarkupPart Warnings ∷ NumberPart warnings ∷ TextPart (plural warnings WARNING.now WARNINGS.now) ∷ MarkupPart EndWarnings ∷ []))
+    (fact_parts (MarkupPart Emphasis ∷ NumberPart warnings ∷ TextPart (plural warnings WARNING.now WARNINGS.now) ∷ MarkupPart EndEmphasis ∷ []))
 
 abbrev pub below_parts : ℕ → List Part
 below_parts below = parts_if (not (below == 0)) (fact_parts (NumberPart below ∷ TextPart BELOW.now ∷ []))
@@ -59,7 +59,7 @@ below_parts below = parts_if (not (below == 0)) (fact_parts (NumberPart below �
 abbrev pub warnings_below_parts : ℕ → List Part
 warnings_below_parts warnings =
     parts_if (not (warnings == 0))
-    (fact_parts (MarkupPart Warnings ∷ NumberPart warnings ∷ TextPart (plural warnings WARNING_BELOW.now WARNINGS_BELOW.now) ∷ MarkupPart EndWarnings ∷ []))
+    (fact_parts (MarkupPart Emphasis ∷ NumberPart warnings ∷ TextPart (plural warnings WARNING_BELOW.now WARNINGS_BELOW.now) ∷ MarkupPart EndEmphasis ∷ []))
 
 -- How long a target took, if this is known.
 abbrev pub took_parts : Option ℕ → List Part

@@ -132,10 +132,10 @@ fn write_warnings<W: Sink>(warnings: u64, page: &mut PageWriter<'_, W>)
         Piece::Text(b" "),
         Piece::Markup(Markup::Small),
         Piece::Text(FACT_DOT),
-        Piece::Markup(Markup::Warnings),
+        Piece::Markup(Markup::Emphasis),
         Piece::Number(warnings),
         Piece::Text(plural(warnings, WARNING, WARNINGS)),
-        Piece::Markup(Markup::EndWarnings),
+        Piece::Markup(Markup::EndEmphasis),
         Piece::Markup(Markup::EndSmall),
     ])
 }
@@ -166,10 +166,10 @@ fn write_warnings_below<W: Sink>(warnings: u64, page: &mut PageWriter<'_, W>)
         Piece::Text(b" "),
         Piece::Markup(Markup::Small),
         Piece::Text(FACT_DOT),
-        Piece::Markup(Markup::Warnings),
+        Piece::Markup(Markup::Emphasis),
         Piece::Number(warnings),
         Piece::Text(plural(warnings, WARNING_BELOW, WARNINGS_BELOW)),
-        Piece::Markup(Markup::EndWarnings),
+        Piece::Markup(Markup::EndEmphasis),
         Piece::Markup(Markup::EndSmall),
     ])
 }
