@@ -27,6 +27,7 @@ pub const STYLE_SHEET: &[u8] = b"\
     bdi,code{font-size:.92em;overflow-wrap:anywhere}\n\
     pre{margin:.25rem 0;padding:.5rem .75rem;background:var(--soft);border:1px solid var(--line);border-radius:6px;font-size:12.5px;line-height:1.45;white-space:pre-wrap;overflow-wrap:anywhere;tab-size:8;direction:ltr;unicode-bidi:isolate;content-visibility:auto;contain-intrinsic-size:auto 10rem}\n\
     pre+pre{margin-top:-.25rem;border-top:0;border-radius:0 0 6px 6px}\n\
+    pre em{font-style:normal;font-weight:700;box-shadow:-4px 0 var(--soft),-7px 0 var(--bad);-webkit-box-decoration-break:clone;box-decoration-break:clone}\n\
     i{font-style:normal;color:var(--odd);background:var(--oddbg);border-radius:2px}\n\
     .r{color:var(--r)}.g{color:var(--g)}.y{color:var(--y)}.b{color:var(--b)}.m{color:var(--m)}.c{color:var(--c)}\n\
     .x,.o{display:inline-block;font-size:.78rem;font-weight:600;line-height:1.35;padding:0 .45em;border-radius:1em;color:var(--bg);background:var(--bad);white-space:nowrap;vertical-align:.08em}\n\
