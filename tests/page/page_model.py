@@ -382,7 +382,7 @@ class Page:
             below = b" No target below it failed: make or redo reported the cause on the terminal." if shown.children else b""
             self.put(b'<p class="quiet">It printed nothing that was captured.', below, b"</p>")
         elif self.is_short(shown):
-            self.put(b"<pre>\n", lines_html(shown.lines), b"</pre>")
+            self.put(b"<pre>\n", lines_html(shown.lines, emphasized), b"</pre>")
         else:
             self.excerpt(shown)
         self.put(b"</article>")
@@ -398,7 +398,8 @@ class Page:
                     left = at - last - 1
                     self.put(b'</pre><p class="cut">', many(left, b" more line: ", b" more lines: "), b'<a href="#t%d">in its log</a></p>' % shown.place)
                 self.put(b"<pre>\n")
-            self.put(passage(cut_to(1000, lines[at]), colours=True)[0], b"\n" if len(lines[at]) <= 1000 else b" ...\n")
+            text = passage(cut_to(1000, lines[at]), colours=True)[0] + (b"\n" if len(lines[at]) <= 1000 else b" ...\n")
+            self.put(emphasized(lines[at], text))
             last = at
         self.put(b"</pre>")
 
@@ -574,6 +575,10 @@ def without_colours(line):
 
 def is_error(line):
     return ERROR.search(without_colours(line)) is not None
+
+
+def emphasized(line, html):
+    return b"<em>" + html + b"</em>" if is_error(line) else html
 
 
 def is_blank(line):

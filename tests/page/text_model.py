@@ -108,12 +108,12 @@ def bdi(raw):
     return b"<bdi>" + name_html(raw) + b"</bdi>"
 
 
-def lines_html(lines):
-    """Lines of one block: the style of a line goes on in the next one."""
+def lines_html(lines, framed=lambda line, html: html):
+    """Lines of one block: the style of a line goes on in the next one. `framed` returns a line's HTML with what is around it."""
     out, style = [], PLAIN
     for line in lines:
         html, style = passage(line + b"\n", style, colours=True)
-        out.append(html)
+        out.append(framed(line, html))
     return b"".join(out)
 
 

@@ -285,6 +285,16 @@ for count, wanted in [(300, []), (301, [*range(1, 11), None, *range(272, 302)])]
 # The others are in the log. The tree shows fewer of them, because the log is cut.
 check("what an excerpt leaves out", part(failed, b'<p class="cut">', b"</p>"), b'231 more lines: <a href="#t1">in its log</a>')
 
+# Lines that report errors are emphasized in articles, with their line feeds and in the colour of the line before. In the tree they aren't.
+ERRORS = made_page({b"all": b"cannot\n" + record(b"do", 1, b"a"), b"a": b"\x1b[31mone\nan error\n\x1b[mterror\nFAIL <1>\n" + record(b"done", 2, b"1 a")})
+check("errors in an output", part(ERRORS, b"<article", b"</article>").partition(b"<pre>")[2],
+      b'\n<span class="r">one\n</span><em><span class="r">an error\n</span></em>terror\n<em>FAIL &lt;1&gt;\n</em></pre>')
+check("an error in the tree", part(ERRORS, b'<ul class="tree">', b"</pre>").partition(b"<pre>")[2], b"\ncannot\n")
+# So are they in excerpts, each of them, even if the word isn't shown.
+ERRORS = made_page({b"all": record(b"do", 1, b"a"), b"a": b"error\nnote\n" + b"." * 1000 + b" error\n" + numbered(4, 301) + record(b"done", 2, b"1 a")})
+check("errors in an excerpt", part(ERRORS, b"<article", b"</article>").partition(b"<pre>")[2].partition(numbered(4, 10))[0],
+      b"\n<em>error\n</em>note\n<em>" + b"." * 1000 + b" ...\n</em>")
+
 # ---- what failed -----------------------------------------------------------------------------------------------------
 
 

@@ -65,14 +65,14 @@ whole_line :
     bytes_eq (bytes (excerpt_line_parts (replicate 1000 97)))
     (replicate 1000 97 ++ codes "\n")
     ≡ true
-unfolding excerpt_line_parts excerpt_line_end cut_to begins_at symbol_len is_sequence sequence_len code_point_len
+unfolding excerpt_line_parts excerpt_line_end cut_to begins_at begins_with symbol_len is_sequence sequence_len code_point_len
 whole_line = refl
 
 long_line :
     bytes_eq (bytes (excerpt_line_parts (replicate 1001 97)))
     (replicate 1000 97 ++ codes " ...\n")
     ≡ true
-unfolding excerpt_line_parts excerpt_line_end cut_to begins_at symbol_len is_sequence sequence_len code_point_len
+unfolding excerpt_line_parts excerpt_line_end cut_to begins_at begins_with symbol_len is_sequence sequence_len code_point_len
 long_line = refl
 
 -- ---- which lines an excerpt shows
@@ -124,8 +124,23 @@ abbrev words : List ℕ → Part
 words text = TextPart text
 
 line_is : excerpt_line_parts (codes "x") ≡ LogPart plain_style (codes "x") ∷ words (codes "\n") ∷ []
-unfolding excerpt_line_parts excerpt_line_end cut_to
+unfolding excerpt_line_parts excerpt_line_end cut_to begins_with
 line_is = refl
+
+-- A line that reports an error, with its line feed.
+error_line_is :
+    excerpt_line_parts (codes "an error") ≡ tag markup.Emphasis ∷ LogPart plain_style (codes "an error") ∷ words (codes "\n")
+    ∷ tag markup.EndEmphasis ∷ []
+unfolding excerpt_line_parts excerpt_line_end cut_to begins_with
+error_line_is = refl
+
+-- The word is after what is shown.
+long_error_line :
+    bytes_eq (flat_map part_html (excerpt_line_parts (replicate 1000 46 ++ codes " error")))
+    (codes "<em>" ++ (replicate 1000 46 ++ codes " ...\n</em>"))
+    ≡ true
+unfolding excerpt_line_parts excerpt_line_end cut_to begins_at begins_with symbols_after first_symbol symbol_len is_sequence sequence_len sequence_numbers first_code_point code_point_len is_unprintable notation unprintable_text number_text encode_utf8 digits html_from
+long_error_line = refl
 
 -- The positions at which lines are kept, up to 35, if line 20 of 106 reports an error, and from 40 on.
 kept_are :
@@ -156,7 +171,7 @@ shown_stretch_is :
     stretch_parts 7 (Stretch.Shown (codes "x" ∷ codes "y" ∷ []))
     ≡ tag markup.Pre ∷ LogPart plain_style (codes "x") ∷ words (codes "\n") ∷ LogPart plain_style (codes "y") ∷ words (codes "\n")
     ∷ tag markup.EndPre ∷ []
-unfolding excerpt_line_parts excerpt_line_end cut_to
+unfolding excerpt_line_parts excerpt_line_end cut_to begins_with
 shown_stretch_is = refl
 
 left_out_stretch_is : stretch_parts 7 (Stretch.LeftOut 1) ≡ left_out_parts 7 1
@@ -182,12 +197,20 @@ excerpt_is :
     ++ (a_text 10
     ++ (codes "</pre><p class=\"cut\">5 more lines: <a href=\"#t7\">in its log</a></p><pre>\n"
     ++ (a_text 5
-    ++ (codes "error\n"
+    ++ (codes "<em>error\n</em>"
     ++ (a_text 24 ++ (codes "</pre><p class=\"cut\">1 more line: <a href=\"#t7\">in its log</a></p><pre>\n"
     ++ (a_text 60 ++ codes "</pre>"))))))))
     ≡ true
 unfolding excerpt_parts excerpt_line_parts excerpt_line_end cut_to left_out_parts in_tree_parts begins_with symbols_after first_symbol symbol_len is_sequence sequence_len sequence_numbers first_code_point code_point_len is_unprintable notation unprintable_text number_text encode_utf8 digits html_from
 excerpt_is = refl
+
+-- Each line that reports an error is emphasized, not only the first one.
+errors_in_excerpt :
+    bytes_eq (flat_map part_html (excerpt_parts 7 (codes "error" ∷ codes "x" ∷ codes "a: FAIL" ∷ (27 ∷ codes "[31mcannot") ∷ codes "y" ∷ [])))
+    (codes "<pre>\n<em>error\n</em>x\n<em>a: FAIL\n</em><em><span class=\"r\">cannot</span>\n</em>y\n</pre>")
+    ≡ true
+unfolding excerpt_parts excerpt_line_parts excerpt_line_end cut_to begins_at begins_with symbols_after first_symbol symbol_len is_sequence sequence_len sequence_numbers first_code_point code_point_len is_unprintable notation unprintable_text number_text encode_utf8 digits html_from
+errors_in_excerpt = refl
 
 no_error : error_position (a_lines 3) ≡ 3
 unfolding begins_with

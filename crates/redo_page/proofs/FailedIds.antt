@@ -8,17 +8,18 @@ use Rattle.std.proofs.lemmas.List.{append_assoc, append-nil}
 use Rattle.redo_logs.specs.Logs.{Log}
 use Rattle.redo_html.specs.declared.markup.Markup.TheVariants as markup
 use Rattle.redo_html.specs.declared.style.Style.{Style}
-use Rattle.redo_html.specs.Lines.{line_parts, style_after}
+use Rattle.redo_html.specs.Lines.{style_after}
+use Rattle.redo_html.specs.Parts.{Part}
 use Rattle.redo_html.specs.Parts.Part.{MarkupPart, LogPart, TextPart}
 use Rattle.redo_html.specs.Style.{plain_style}
 use Rattle.redo_line.specs.Lines.{with_line_feed}
 use Rattle.redo_outline.specs.declared.node.Node.{Node}
 use Rattle.redo_page.specs.declared.labels.TheConstants.{MIDDLE_DOT, PLACE_IN_TREE}
-use Rattle.redo_page.specs.Errors.{cause_of}
-use Rattle.redo_page.specs.Excerpt.{Stretch, error_position, excerpt_line_parts, excerpt_parts, in_tree_parts, is_kept, left_out_parts, stretch_parts, stretches_from}
+use Rattle.redo_page.specs.Errors.{cause_of, is_error}
+use Rattle.redo_page.specs.Excerpt.{Stretch, cut_to, emphasized_if, error_position, excerpt_line_end, excerpt_line_parts, excerpt_parts, in_tree_parts, is_kept, left_out_parts, max_excerpt_line, stretch_parts, stretches_from}
 use Rattle.redo_page.specs.Excerpt.Stretch.{Shown, LeftOut}
 use Rattle.redo_units.specs.Durations.{duration_words}
-use Rattle.redo_page.specs.Article.{article_of, article_parts, article_took, cause_of_node, cause_parts, max_path, nothing_parts, output_parts, path_parts, printed_by, whole_parts}
+use Rattle.redo_page.specs.Article.{article_of, article_parts, article_took, cause_of_node, cause_parts, max_path, nothing_parts, output_line_parts, output_parts, path_parts, printed_by, whole_parts}
 use Rattle.redo_page.specs.Failed.{positions_where}
 use Rattle.redo_page.specs.Laws.{is_among}
 use Rattle.redo_page.specs.Tree.{articles, is_root_failure, root_failures, root_failures_from, is_short, max_articles, node_at}
@@ -128,15 +129,23 @@ module _ (count : ℕ) (listed : List ℕ) where
     sections_are = refl;
   }
 
+  emphasized_refers : (condition : Bool) {parts : List Part} → Refer count listed parts [] []
+      → Refer count listed (emphasized_if condition parts) [] []
+  emphasized_refers true {parts} refer = same_refer {others = parts} (simp (flat_map-append, append-nil)) refer
+  emphasized_refers false {parts} refer = refer
+
   excerpt_line_refers : (line : List ℕ) → Refer count listed (excerpt_line_parts line) [] []
   unfolding excerpt_line_parts
-  excerpt_line_refers line = record {
-    target_ids_are = refl;
-    article_ids_are = refl;
-    target_links_lead = refl;
-    article_links_lead = refl;
-    sections_are = refl;
-  }
+  excerpt_line_refers line =
+      emphasized_refers (is_error line)
+      {parts = LogPart plain_style (cut_to max_excerpt_line line) ∷ TextPart (excerpt_line_end line) ∷ []}
+      (record {
+        target_ids_are = refl;
+        article_ids_are = refl;
+        target_links_lead = refl;
+        article_links_lead = refl;
+        sections_are = refl;
+      })
 
   stretch_refers : (position : ℕ) (stretch : Stretch) → nat_lt position count ≡ true
       → Refer count listed (stretch_parts position stretch) [] []
@@ -152,14 +161,15 @@ module _ (count : ℕ) (listed : List ℕ) where
       refer_each (stretch_parts position) (λ stretch. stretch_refers position stretch below)
       (stretches_from (is_kept (length lines) (error_position lines)) 0 lines)
 
-  lines_refer : (style : Style) (lines : List (List ℕ)) → Refer count listed (line_parts style lines) [] []
+  lines_refer : (style : Style) (lines : List (List ℕ)) → Refer count listed (output_line_parts style lines) [] []
   lines_refer style [] = bare_refers [] refl
-  lines_refer style (line ∷ lines) = then_refer (log_refers style (with_line_feed line))
+  lines_refer style (line ∷ lines) = then_refer
+      (emphasized_refers (is_error line) {parts = LogPart style (with_line_feed line) ∷ []} (log_refers style (with_line_feed line)))
       (lines_refer (style_after style (with_line_feed line)) lines)
 
   whole_refers : (lines : List (List ℕ)) → Refer count listed (whole_parts lines) [] []
   unfolding whole_parts
-  whole_refers lines = same_refer {others = line_parts plain_style lines} (simp (flat_map-append, append-nil))
+  whole_refers lines = same_refer {others = output_line_parts plain_style lines} (simp (flat_map-append, append-nil))
       (lines_refer plain_style lines)
 
   nothing_refers : (node : Node) → Refer count listed (nothing_parts node) [] []

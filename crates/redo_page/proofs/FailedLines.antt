@@ -9,28 +9,39 @@ use Rattle.redo_line.specs.Lines.{with_line_feed}
 use Rattle.redo_logs.specs.Logs.{Log}
 use Rattle.redo_html.specs.declared.markup.Markup.TheVariants as markup
 use Rattle.redo_html.specs.declared.style.Style.{Style}
-use Rattle.redo_html.specs.Lines.{line_parts, style_after}
-use Rattle.redo_html.specs.Parts.Part.{MarkupPart}
+use Rattle.redo_html.specs.Lines.{style_after}
+use Rattle.redo_html.specs.Parts.{Part}
+use Rattle.redo_html.specs.Parts.Part.{MarkupPart, LogPart}
 use Rattle.redo_html.specs.Style.{plain_style}
 use Rattle.redo_outline.specs.declared.node.Node.{Node}
 use Rattle.redo_page.specs.declared.labels.TheConstants.{PLACE_IN_TREE}
-use Rattle.redo_page.specs.Excerpt.{excerpt_parts, in_tree_parts}
-use Rattle.redo_page.specs.Article.{article_of, article_parts, max_path, nothing_parts, output_parts, printed_by, whole_parts}
+use Rattle.redo_page.specs.Errors.{is_error}
+use Rattle.redo_page.specs.Excerpt.{emphasized_if, excerpt_parts, in_tree_parts}
+use Rattle.redo_page.specs.Article.{article_of, article_parts, max_path, nothing_parts, output_line_parts, output_parts, printed_by, whole_parts}
 use Rattle.redo_page.specs.Laws.{log_bytes, log_text}
 use Rattle.redo_page.specs.Tree.{is_short, node_at}
 use Rattle.redo_page.proofs.Ids.{badge_bare}
 use Rattle.redo_page.proofs.FailedIds.{article_took_bare, path_bare}
 use Rattle.redo_page.proofs.TreeLines.{same_text}
 
-lines_text : (style : Style) (lines : List (List ℕ)) → log_bytes (line_parts style lines) ≡ flat_map with_line_feed lines
+emphasized_text : (condition : Bool) (parts : List Part) → log_bytes (emphasized_if condition parts) ≡ log_bytes parts
+emphasized_text true parts = flat_map-append log_text parts (MarkupPart markup.EndEmphasis ∷ []) ∙ append-nil (log_bytes parts)
+emphasized_text false parts = refl
+
+lines_text : (style : Style) (lines : List (List ℕ)) → log_bytes (output_line_parts style lines) ≡ flat_map with_line_feed lines
 lines_text style [] = refl
-lines_text style (line ∷ lines) = ap (λ t. with_line_feed line ++ t) (lines_text (style_after style (with_line_feed line)) lines)
+lines_text style (line ∷ lines) =
+    let first : List Part = LogPart style (with_line_feed line) ∷ [] in
+    let next = style_after style (with_line_feed line) in
+    flat_map-append log_text (emphasized_if (is_error line) first) (output_line_parts next lines)
+    ∙ ap (λ t. t ++ log_bytes (output_line_parts next lines)) (emphasized_text (is_error line) first ∙ append-nil (with_line_feed line))
+    ∙ ap (λ t. with_line_feed line ++ t) (lines_text next lines)
 
 whole_text : (lines : List (List ℕ)) → log_bytes (whole_parts lines) ≡ flat_map with_line_feed lines
 unfolding whole_parts
 whole_text lines =
-    flat_map-append log_text (line_parts plain_style lines) (MarkupPart markup.EndPre ∷ [])
-    ∙ append-nil (log_bytes (line_parts plain_style lines)) ∙ lines_text plain_style lines
+    flat_map-append log_text (output_line_parts plain_style lines) (MarkupPart markup.EndPre ∷ [])
+    ∙ append-nil (log_bytes (output_line_parts plain_style lines)) ∙ lines_text plain_style lines
 
 output_text : (logs : List Log) (position : ℕ) (node : Node) → is_short node ≡ true
     → log_bytes (output_parts logs position node) ≡ flat_map with_line_feed (printed_by logs node)

@@ -8,9 +8,9 @@ use Rattle.redo_logs.specs.Logs.{Log}
 use Rattle.redo_html.specs.declared.markup.Markup.{Markup}
 use Rattle.redo_html.specs.declared.markup.Markup.TheVariants as markup
 use Rattle.redo_html.specs.declared.style.Style.{Style}
-use Rattle.redo_html.specs.Lines.{line_parts, style_after}
+use Rattle.redo_html.specs.Lines.{style_after}
 use Rattle.redo_html.specs.Parts.{Part}
-use Rattle.redo_html.specs.Parts.Part.{ChartPart, MarkupPart, TextPart, NumberPart}
+use Rattle.redo_html.specs.Parts.Part.{ChartPart, LogPart, MarkupPart, TextPart, NumberPart}
 use Rattle.redo_html.specs.Style.{plain_style}
 use Rattle.redo_line.specs.Lines.{with_line_feed}
 use Rattle.redo_outline.specs.declared.node.Node.{Node}
@@ -31,10 +31,10 @@ use Rattle.redo_page.specs.declared.template.Around.TheVariants.{If, Unless, Eac
 use Rattle.redo_page.specs.declared.template.Item.{Item}
 use Rattle.redo_page.specs.declared.template.Item.TheVariants as item
 use Rattle.redo_page.specs.declared.timeline.TheConstants.{START, END}
-use Rattle.redo_page.specs.Errors.{cause_of}
-use Rattle.redo_page.specs.Excerpt.{Stretch, error_position, excerpt_line_parts, excerpt_parts, in_tree_parts, is_kept, left_out_parts, stretch_parts, stretches_from}
+use Rattle.redo_page.specs.Errors.{cause_of, is_error}
+use Rattle.redo_page.specs.Excerpt.{Stretch, cut_to, emphasized_if, error_position, excerpt_line_end, excerpt_line_parts, excerpt_parts, in_tree_parts, is_kept, left_out_parts, max_excerpt_line, stretch_parts, stretches_from}
 use Rattle.redo_page.specs.Excerpt.Stretch.{Shown, LeftOut}
-use Rattle.redo_page.specs.Article.{article_of, article_parts, article_took, cause_of_node, cause_parts, max_path, nothing_parts, output_parts, path_parts, printed_by, whole_parts}
+use Rattle.redo_page.specs.Article.{article_of, article_parts, article_took, cause_of_node, cause_parts, max_path, nothing_parts, output_line_parts, output_parts, path_parts, printed_by, whole_parts}
 use Rattle.redo_page.specs.Failed.{failed_parts}
 use Rattle.redo_page.specs.Laws.{BeginWith, IsList, IsRow, TellsItsTarget, list_item, target_name}
 use Rattle.redo_page.specs.Scope.{View, count_of, holds, max_rows, measure_words, positions_of, row_name, row_view, rows_of, target_view}
@@ -63,9 +63,17 @@ module _ (logs : List Log) (nodes : List Node) where
 
   -- ---- outputs
 
+  emphasized_tells : (condition : Bool) {parts : List Part} → Telling parts → Telling (emphasized_if condition parts)
+  emphasized_tells true tells =
+      then_tell logs nodes {parts = MarkupPart markup.Emphasis ∷ []} (bare_tell logs nodes _ refl)
+      (then_tell logs nodes tells (bare_tell logs nodes (MarkupPart markup.EndEmphasis ∷ []) refl))
+  emphasized_tells false tells = tells
+
   excerpt_line_tells : (line : List ℕ) → Telling (excerpt_line_parts line)
   unfolding excerpt_line_parts
-  excerpt_line_tells line = record { before = λ rest tell. (tt, (tt, tell)) }
+  excerpt_line_tells line = emphasized_tells (is_error line)
+      {parts = LogPart plain_style (cut_to max_excerpt_line line) ∷ TextPart (excerpt_line_end line) ∷ []}
+      (record { before = λ rest tell. (tt, (tt, tell)) })
 
   left_out_tells : (position left_out : ℕ) → Telling (left_out_parts position left_out)
   unfolding left_out_parts in_tree_parts
@@ -90,10 +98,12 @@ module _ (logs : List Log) (nodes : List Node) where
       tell_each logs nodes (stretch_parts position) (stretch_tells position)
       (stretches_from (is_kept (length lines) (error_position lines)) 0 lines)
 
-  lines_tell : (style : Style) (lines : List (List ℕ)) → Telling (line_parts style lines)
+  lines_tell : (style : Style) (lines : List (List ℕ)) → Telling (output_line_parts style lines)
   lines_tell style [] = none_tell logs nodes
   lines_tell style (line ∷ lines) =
-      record { before = λ rest tell. (tt, (lines_tell (style_after style (with_line_feed line)) lines).before rest tell) }
+      then_tell logs nodes
+      (emphasized_tells (is_error line) {parts = LogPart style (with_line_feed line) ∷ []} (record { before = λ rest tell. (tt, tell) }))
+      (lines_tell (style_after style (with_line_feed line)) lines)
 
   whole_tells : (lines : List (List ℕ)) → Telling (whole_parts lines)
   unfolding whole_parts

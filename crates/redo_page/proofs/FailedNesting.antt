@@ -3,17 +3,18 @@ use Rattle.std.proofs.Common.{ℕ, zero, suc, Bool, true, false, List, [], ◌�
 use Rattle.std.specs.Prelude.{◌==◌, length, if◌then◌else◌}
 use Rattle.redo_logs.specs.Logs.{Log}
 use Rattle.redo_html.specs.declared.style.Style.{Style}
-use Rattle.redo_html.specs.Lines.{line_parts, style_after}
-use Rattle.redo_html.specs.Parts.Part.{TextPart}
+use Rattle.redo_html.specs.Lines.{style_after}
+use Rattle.redo_html.specs.Parts.{Part}
+use Rattle.redo_html.specs.Parts.Part.{LogPart, TextPart}
 use Rattle.redo_html.specs.Style.{plain_style}
 use Rattle.redo_line.specs.Lines.{with_line_feed}
 use Rattle.redo_outline.specs.declared.node.Node.{Node}
 use Rattle.redo_page.specs.declared.labels.TheConstants.{MIDDLE_DOT, PLACE_IN_TREE}
-use Rattle.redo_page.specs.Errors.{cause_of}
-use Rattle.redo_page.specs.Excerpt.{Stretch, error_position, excerpt_line_parts, excerpt_parts, in_tree_parts, is_kept, left_out_parts, stretch_parts, stretches_from}
+use Rattle.redo_page.specs.Errors.{cause_of, is_error}
+use Rattle.redo_page.specs.Excerpt.{Stretch, cut_to, emphasized_if, error_position, excerpt_line_end, excerpt_line_parts, excerpt_parts, in_tree_parts, is_kept, left_out_parts, max_excerpt_line, stretch_parts, stretches_from}
 use Rattle.redo_page.specs.Excerpt.Stretch.{Shown, LeftOut}
 use Rattle.redo_units.specs.Durations.{duration_words}
-use Rattle.redo_page.specs.Article.{article_of, article_parts, article_took, cause_of_node, cause_parts, max_path, nothing_parts, output_parts, path_parts, printed_by, whole_parts}
+use Rattle.redo_page.specs.Article.{article_of, article_parts, article_took, cause_of_node, cause_parts, max_path, nothing_parts, output_line_parts, output_parts, path_parts, printed_by, whole_parts}
 use Rattle.redo_page.specs.Tree.{is_short, node_at}
 use Rattle.redo_page.proofs.Nesting.{Nest, nest_each, then_lead, joined}
 use Rattle.redo_page.proofs.TargetNesting.{badge_nests, words_nest}
@@ -26,9 +27,15 @@ left_out_nests : (position count : ℕ) → Nest (left_out_parts position count)
 unfolding left_out_parts in_tree_parts
 left_out_nests position count = record { leads = λ around tags. refl }
 
+emphasized_nests : (condition : Bool) {parts : List Part} → Nest parts → Nest (emphasized_if condition parts)
+emphasized_nests true nest = record { leads = λ around tags. simp (joined, nest.leads) }
+emphasized_nests false nest = nest
+
 excerpt_line_nests : (line : List ℕ) → Nest (excerpt_line_parts line)
 unfolding excerpt_line_parts
-excerpt_line_nests line = record { leads = λ around tags. refl }
+excerpt_line_nests line =
+    emphasized_nests (is_error line) {parts = LogPart plain_style (cut_to max_excerpt_line line) ∷ TextPart (excerpt_line_end line) ∷ []}
+    (record { leads = λ around tags. refl })
 
 stretch_nests : (position : ℕ) (stretch : Stretch) → Nest (stretch_parts position stretch)
 stretch_nests position (Shown lines) =
@@ -40,9 +47,11 @@ unfolding excerpt_parts
 excerpt_nests position lines = nest_each (stretch_parts position) (stretch_nests position)
     (stretches_from (is_kept (length lines) (error_position lines)) 0 lines)
 
-lines_nest : (style : Style) (lines : List (List ℕ)) → Nest (line_parts style lines)
+lines_nest : (style : Style) (lines : List (List ℕ)) → Nest (output_line_parts style lines)
 lines_nest style [] = record { leads = λ around tags. refl }
-lines_nest style (line ∷ lines) = record { leads = (lines_nest (style_after style (with_line_feed line)) lines).leads }
+lines_nest style (line ∷ lines) =
+    then_lead (emphasized_nests (is_error line) {parts = LogPart style (with_line_feed line) ∷ []} (record { leads = λ around tags. refl }))
+    (lines_nest (style_after style (with_line_feed line)) lines)
 
 whole_nests : (lines : List (List ℕ)) → Nest (whole_parts lines)
 unfolding whole_parts

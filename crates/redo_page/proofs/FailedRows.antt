@@ -112,7 +112,7 @@ no_section = refl
 one_failure :
     bytes_eq (html (failed logs (node 0 None (Some (pos 3)) 0 1 true ∷ b ∷ [])))
     (codes "<section id=\"failed\" aria-labelledby=\"h-failed\"><h2 id=\"h-failed\">What failed</h2><article id=\"f1\"><h3><bdi>b</bdi> <strong class=\"x\">exit 1</strong></h3><p class=\"meta\"><bdi>all</bdi>"
-    ++ then (codes "<a href=\"#t1\">its place in the tree</a></p><pre>\ncc b.c\nb.c:1: error: x\n</pre></article><details class=\"more\"><summary>1 failed because of these</summary><ol class=\"list\"><li><a href=\"#t0\"><bdi>all</bdi></a> <strong class=\"x\">exit 3</strong></li></ol></details></section>"))
+    ++ then (codes "<a href=\"#t1\">its place in the tree</a></p><pre>\ncc b.c\n<em>b.c:1: error: x\n</em></pre></article><details class=\"more\"><summary>1 failed because of these</summary><ol class=\"list\"><li><a href=\"#t0\"><bdi>all</bdi></a> <strong class=\"x\">exit 3</strong></li></ol></details></section>"))
     ≡ true
 unfolding failed_parts cause_of_node cause_parts cut_to begins_with article_parts article_of path_parts output_parts whole_parts in_tree_parts symbols_after first_symbol symbol_len is_sequence sequence_len sequence_numbers first_code_point code_point_len is_unprintable notation unprintable_text number_text encode_utf8 digits html_from
 one_failure = refl
@@ -121,7 +121,7 @@ one_failure = refl
 one_unclosed :
     bytes_eq (html (failed logs (node 0 None (Some (pos 3)) 0 2 true ∷ b ∷ node 3 (Some 0) None 2 0 false ∷ [])))
     (codes "<section id=\"failed\" aria-labelledby=\"h-failed\"><h2 id=\"h-failed\">What failed</h2><article id=\"f1\"><h3><bdi>b</bdi> <strong class=\"x\">exit 1</strong></h3><p class=\"meta\"><bdi>all</bdi>"
-    ++ then (codes "<a href=\"#t1\">its place in the tree</a></p><pre>\ncc b.c\nb.c:1: error: x\n</pre></article><details class=\"more\"><summary>1 failed because of these</summary><ol class=\"list\"><li><a href=\"#t0\"><bdi>all</bdi></a> <strong class=\"x\">exit 3</strong></li></ol></details><details class=\"more\"><summary>1 unfinished</summary><ol class=\"list\"><li><a href=\"#t2\"><bdi>d</bdi></a> <strong class=\"o\">unfinished</strong></li></ol></details></section>"))
+    ++ then (codes "<a href=\"#t1\">its place in the tree</a></p><pre>\ncc b.c\n<em>b.c:1: error: x\n</em></pre></article><details class=\"more\"><summary>1 failed because of these</summary><ol class=\"list\"><li><a href=\"#t0\"><bdi>all</bdi></a> <strong class=\"x\">exit 3</strong></li></ol></details><details class=\"more\"><summary>1 unfinished</summary><ol class=\"list\"><li><a href=\"#t2\"><bdi>d</bdi></a> <strong class=\"o\">unfinished</strong></li></ol></details></section>"))
     ≡ true
 unfolding failed_parts cause_of_node cause_parts cut_to begins_with article_parts article_of path_parts output_parts whole_parts in_tree_parts symbols_after first_symbol symbol_len is_sequence sequence_len sequence_numbers first_code_point code_point_len is_unprintable notation unprintable_text number_text encode_utf8 digits html_from
 one_unclosed = refl
@@ -294,8 +294,21 @@ whole_output :
     bytes_eq (html (output_parts logs 5 (node 3 None (Some (pos 1)) 2 0 false)))
     (codes "<pre>\n<span class=\"r\">one\n</span><span class=\"r\">two\n</span></pre>")
     ≡ true
-unfolding output_parts whole_parts symbols_after first_symbol symbol_len is_sequence sequence_len sequence_numbers first_code_point code_point_len is_unprintable notation unprintable_text number_text encode_utf8 digits html_from
+unfolding output_parts whole_parts begins_with symbols_after first_symbol symbol_len is_sequence sequence_len sequence_numbers first_code_point code_point_len is_unprintable notation unprintable_text number_text encode_utf8 digits html_from
 whole_output = refl
+
+-- Lines that report errors are emphasized, with their line feeds. A style goes on in them, and after them.
+abbrev errors : List (List ℕ)
+errors =
+    (27 ∷ codes "[31mone") ∷ codes "an error" ∷ codes "two" ∷ (27 ∷ codes "[mcannot") ∷ (27 ∷ codes "[1mFAIL") ∷ codes "three" ∷ codes "terror"
+    ∷ (27 ∷ codes "[merror") ∷ []
+
+output_with_errors :
+    bytes_eq (html (whole_parts errors))
+    (codes "<pre>\n<span class=\"r\">one\n</span><em><span class=\"r\">an error\n</span></em><span class=\"r\">two\n</span><em>cannot\n</em><em><b>FAIL\n</b></em><b>three\n</b><b>terror\n</b><em>error\n</em></pre>")
+    ≡ true
+unfolding whole_parts begins_with symbols_after first_symbol symbol_len is_sequence sequence_len sequence_numbers first_code_point code_point_len is_unprintable notation unprintable_text number_text encode_utf8 digits html_from
+output_with_errors = refl
 
 -- An output of more than 300 lines is shown in part: each line begins without a colour.
 long_output :

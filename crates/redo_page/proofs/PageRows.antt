@@ -27,6 +27,7 @@ use Rattle.redo_html.specs.Parts.{Part}
 use Rattle.redo_html.specs.Parts.Part.{MarkupPart, LogPart, TextPart, NumberPart, TitlePart, StylePart, ChartPart}
 use Rattle.redo_page.specs.Excerpt.{in_tree_parts}
 use Rattle.redo_page.specs.Article.{article_of, article_parts, cause_of_node, cause_parts, nothing_parts, output_parts, path_parts, whole_parts}
+use Rattle.redo_page.specs.Errors.{begins_with}
 use Rattle.redo_page.specs.Failed.{failed_parts}
 use Rattle.redo_page.specs.Command.{is_safe}
 use Rattle.redo_page.specs.Frame.{footer_parts}
@@ -388,7 +389,7 @@ failed_page :
     ∷ tag markup.NoteItem ∷ tag (markup.OutputLink 0) ∷ words (codes "What it printed is shown above") ∷ tag markup.EndLink
     ∷ tag markup.EndItem ∷ tag markup.EndUnordered ∷ tag markup.EndDetails ∷ tag markup.EndItem
     ∷ footer (NumberPart 1 ∷ words (codes " log in ") ∷ end (codes "redo-log -r -u --debug-locks --dir=d a"))))))))))))))
-unfolding page_parts top_parts summary_parts size_words footer_parts failed_parts article_parts article_of path_parts in_tree_parts output_parts whole_parts is_safe number_text digits show_log show_log_within
+unfolding page_parts top_parts summary_parts size_words footer_parts failed_parts article_parts article_of path_parts in_tree_parts output_parts whole_parts begins_with is_safe number_text digits show_log show_log_within
 failed_page = refl
 
 -- The parts of these pages in short: where each section begins, the title, the first words, and the command.
@@ -416,7 +417,7 @@ failed_milestones :
     flat_map milestone (page_parts (request [] true true) failed (codes "a" ∷ []))
     ≡ markup.Head ∷ markup.Header ∷ markup.Nav ∷ markup.Main ∷ markup.FailedSection ∷ markup.SummarySection ∷ markup.TreeSection
     ∷ markup.Footer ∷ markup.EndHtml ∷ []
-unfolding page_parts top_parts summary_parts size_words footer_parts failed_parts article_parts article_of path_parts in_tree_parts output_parts whole_parts is_safe number_text digits show_log show_log_within
+unfolding page_parts top_parts summary_parts size_words footer_parts failed_parts article_parts article_of path_parts in_tree_parts output_parts whole_parts begins_with is_safe number_text digits show_log show_log_within
 failed_milestones = refl
 
 -- Two targets that failed. The second one ended first.
@@ -495,7 +496,7 @@ failed_words = refl
 command_is :
     filter (λ text. starts_with nat_eq text (codes "redo-log -r"))
     (flat_map words_of (page_parts (request [] true true) failed (codes "a" ∷ []))) ≡ codes "redo-log -r -u --debug-locks --dir=d a" ∷ []
-unfolding page_parts top_parts summary_parts size_words footer_parts failed_parts article_parts article_of path_parts in_tree_parts output_parts whole_parts is_safe number_text digits show_log show_log_within
+unfolding page_parts top_parts summary_parts size_words footer_parts failed_parts article_parts article_of path_parts in_tree_parts output_parts whole_parts begins_with is_safe number_text digits show_log show_log_within
 command_is = refl
 
 -- A page has the bytes of its parts.

@@ -1,17 +1,22 @@
 -- Parts that are written one after the other in a loop.
 use Rattle.std.proofs.Common.{◌≡◌, ℕ, Bool, true, false, List, [], ◌∷◌, ◌++◌, Option, refl, sym, ◌∙◌, ap, subst}
 use Rattle.std.proofs.lemmas.Bool.{true≢false}
-use Rattle.std.proofs.lemmas.List.{append_assoc}
+use Rattle.std.proofs.lemmas.List.{append_assoc, append-nil}
 use Rattle.redo_device.specs.Sink.{Output}
 use Rattle.redo_device.proofs.WritesLemmas.{append_nothing}
 use Rattle.redo_html.specs.declared.style.Style.{Style}
 use Rattle.redo_html.specs.Lines.{line_parts, style_after, style_after_lines}
 use Rattle.redo_html.specs.Parts.{Part}
 use Rattle.redo_html.specs.Parts.Part.{LogPart}
-use Rattle.redo_line.specs.Lines.{with_line_feed}
+use Rattle.redo_line.specs.Lines.{ended, with_line_feed}
 use Rattle.redo_page.specs.declared.writer.PageWriter.{PageWriter}
+use Rattle.redo_page.specs.Article.{output_line_parts}
+use Rattle.redo_page.specs.Errors.{is_error}
+use Rattle.redo_page.specs.Excerpt.{emphasized_if}
+use Rattle.redo_page.specs.Private.Printed.{IsWholeLine}
 use Rattle.redo_page.specs.Private.Writing.{WroteParts, WroteUnless, WrotePartsUpTo}
 use Rattle.redo_page.specs.Targets.{parts_if}
+use Rattle.redo_page.proofs.PrintedLemmas.{whole_ended}
 use Rattle.redo_page.proofs.WriterLemmas.{wrote_then}
 
 unless_nothing : (failed : Bool) (output : Option Output) → WroteUnless failed output output [] failed
@@ -60,41 +65,55 @@ module _ {W : Type 0} (written : W → Option Output) where
 
   unless_styled : (failed : Bool) (before after : Option Output) (style right : Style) (lines : List (List ℕ)) (now_failed : Bool)
       → (failed ≡ false → style ≡ right)
-      → WroteUnless failed before after (line_parts style lines) now_failed
-      → WroteUnless failed before after (line_parts right lines) now_failed
+      → WroteUnless failed before after (output_line_parts style lines) now_failed
+      → WroteUnless failed before after (output_line_parts right lines) now_failed
   unless_styled true before after style right lines now_failed is wrote = wrote
   unless_styled false before after style right lines now_failed is wrote =
-      subst (λ (s : Style). WroteUnless false before after (line_parts s lines) now_failed) (is refl) wrote
+      subst (λ (s : Style). WroteUnless false before after (output_line_parts s lines) now_failed) (is refl) wrote
 
   -- A write that failed is not undone.
-  still_good : (failed : Bool) (before after : Option Output) (parts : List Part) (now_failed : Bool)
+  pub still_good : (failed : Bool) (before after : Option Output) (parts : List Part) (now_failed : Bool)
       → WroteUnless failed before after parts now_failed → now_failed ≡ false → failed ≡ false
   still_good true before after parts now_failed wrote good = absurd (true≢false (sym wrote.1 ∙ good))
   still_good false before after parts now_failed wrote good = refl
 
   lines_split : (style : Style) (lines more : List (List ℕ))
-      → line_parts style (lines ++ more) ≡ line_parts style lines ++ line_parts (style_after_lines style lines) more
+      → output_line_parts style (lines ++ more) ≡ output_line_parts style lines ++ output_line_parts (style_after_lines style lines) more
   lines_split style [] more = refl
   lines_split style (line ∷ lines) more =
-      ap (λ (parts : List Part). LogPart style (with_line_feed line) ∷ parts)
-      (lines_split (style_after style (with_line_feed line)) lines more)
+      let first = emphasized_if (is_error line) (LogPart style (with_line_feed line) ∷ []) in
+      let next = style_after style (with_line_feed line) in
+      ap (λ (parts : List Part). first ++ parts) (lines_split next lines more)
+      ∙ sym (append_assoc first (output_line_parts next lines) (output_line_parts (style_after_lines next lines) more))
+
+  -- A line with its line feed.
+  pub wrote_line : (before now : PageWriter W) (style : Style) (bytes : List ℕ) (is : IsWholeLine bytes) (reports : Bool)
+      → is_error is.line ≡ reports → WroteParts written before now (emphasized_if reports (line_parts style (ended bytes)))
+      → WroteParts written before now (output_line_parts style (ended bytes))
+  wrote_line before now style bytes is reports reports_is wrote =
+      let one = whole_ended bytes is in
+      let first : List Part = LogPart style (with_line_feed is.line) ∷ [] in
+      wrote_as before now (emphasized_if reports (line_parts style (ended bytes))) (output_line_parts style (ended bytes))
+      (ap (λ (lines : List (List ℕ)). emphasized_if reports (line_parts style lines)) one
+      ∙ ap (λ (b : Bool). emphasized_if b first) (sym reports_is)
+      ∙ sym (append-nil (emphasized_if (is_error is.line) first)) ∙ ap (output_line_parts style) (sym one)) wrote
 
   -- Everything of these parts except these lines was written, or a write failed. Unless it did, `style` is the style of the first of them.
   pub record LinesLeft (before now : PageWriter W) (parts : List Part) (style : Style) (lines : List (List ℕ)) : Type 0 where
     pub right : Style
     pub style_is : now.failed ≡ false → style ≡ right
-    pub wrote : WrotePartsUpTo written before now parts (line_parts right lines)
+    pub wrote : WrotePartsUpTo written before now parts (output_line_parts right lines)
 
   pub lines_start : (page : PageWriter W) (style : Style) (lines left : List (List ℕ)) → left ≡ lines
-      → LinesLeft page page (line_parts style lines) style left
+      → LinesLeft page page (output_line_parts style lines) style left
   lines_start page style lines left same = record {
     right = style;
     style_is = λ good. refl;
-    wrote = upto_start page (line_parts style lines) (line_parts style left) (ap (line_parts style) (sym same));
+    wrote = upto_start page (output_line_parts style lines) (output_line_parts style left) (ap (output_line_parts style) (sym same));
   }
 
   pub lines_next : (before middle after : PageWriter W) (parts : List Part) (style next : Style) (left lines more : List (List ℕ))
-      → LinesLeft before middle parts style left → left ≡ lines ++ more → WroteParts written middle after (line_parts style lines)
+      → LinesLeft before middle parts style left → left ≡ lines ++ more → WroteParts written middle after (output_line_parts style lines)
       → (after.failed ≡ false → next ≡ style_after_lines style lines) → LinesLeft before after parts next more
   lines_next before middle after parts style next left lines more so_far splits wrote next_is = record {
     right = style_after_lines so_far.right lines;
@@ -102,18 +121,18 @@ module _ {W : Type 0} (written : W → Option Output) where
         next_is good
         ∙ ap (λ (s : Style). style_after_lines s lines)
         (so_far.style_is (still_good middle.failed (written middle.out.now) (written after.out.now)
-        (line_parts style lines) after.failed wrote.wrote good));
-    wrote = upto_next before middle after parts (line_parts so_far.right left) (line_parts so_far.right lines)
-        (line_parts (style_after_lines so_far.right lines) more) so_far.wrote
+        (output_line_parts style lines) after.failed wrote.wrote good));
+    wrote = upto_next before middle after parts (output_line_parts so_far.right left) (output_line_parts so_far.right lines)
+        (output_line_parts (style_after_lines so_far.right lines) more) so_far.wrote
         (record {
           out = wrote.out;
           wrote = unless_styled middle.failed (written middle.out.now)
               (written after.out.now) style so_far.right lines after.failed so_far.style_is wrote.wrote;
         })
-        (ap (line_parts so_far.right) splits ∙ lines_split so_far.right lines more);
+        (ap (output_line_parts so_far.right) splits ∙ lines_split so_far.right lines more);
   }
 
   pub lines_end : (before now : PageWriter W) (parts : List Part) (style : Style) (left : List (List ℕ))
       → LinesLeft before now parts style left → left ≡ [] → WroteParts written before now parts
   lines_end before now parts style left so_far none =
-      upto_end before now parts (subst (WrotePartsUpTo written before now parts) (ap (line_parts so_far.right) none) so_far.wrote)
+      upto_end before now parts (subst (WrotePartsUpTo written before now parts) (ap (output_line_parts so_far.right) none) so_far.wrote)

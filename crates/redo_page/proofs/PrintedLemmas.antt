@@ -3,7 +3,7 @@ use Rattle.std.proofs.Common.{◌≡◌, ℕ, zero, suc, ◌+◌, ◌-◌, ◌<�
 use Rattle.std.specs.Prelude.{◌==◌, true}
 use Rattle.std.specs.List.{cons_option, flat_map}
 use Rattle.std.proofs.lemmas.Bool.{eqb-true}
-use Rattle.std.proofs.lemmas.List.{append-nil, append_assoc, length-drop, take-append-drop, take_all}
+use Rattle.std.proofs.lemmas.List.{append-nil, append_assoc, length-append, length-drop, take-append-drop, take_all, take_at}
 use Rattle.std.proofs.lemmas.Option.{none-some, same_Some, slice_get_within}
 use Rattle.memchr.specs.Find.{NoneBefore, Nowhere, Passes, is_byte}
 use Rattle.redo_line.proofs.CutLemmas.{free_before, holds_none, upto_feed}
@@ -14,7 +14,7 @@ use Rattle.redo_line.specs.declared.entry.Entry.TheVariants.{Text, Mention, Done
 use Rattle.redo_logs.specs.Logs.{Log, entry_at}
 use Rattle.redo_logs.specs.Numbering.{AreLinesAt, AreTexts, HasText}
 use Rattle.redo_outline.specs.Facts.{entries_at, text_of, texts_of}
-use Rattle.redo_page.specs.Private.Printed.{AreNextLines, IsRefilled, texts_from}
+use Rattle.redo_page.specs.Private.Printed.{AreNextLines, IsRefilled, IsWholeLine, texts_from}
 
 entry_is : (logs : List Log) (i k : ℕ) → entry_at i k logs ≡ slice_get (entries_at i logs) k
 entry_is [] i k = refl
@@ -141,12 +141,32 @@ module _ (bytes : List ℕ) (at : ℕ) (found : NoneBefore (Passes (is_byte line
       sym (take-append-drop (at + 1) bytes) ∙ ap (λ (b : List ℕ). b ++ drop (at + 1) bytes) (upto_feed bytes at found.0.high found.1)
       ∙ append_assoc (take at bytes) (line_feed ∷ []) (drop (at + 1) bytes)
 
-  pub first_line : ended bytes ≡ take at bytes ∷ ended (take (length bytes - (at + 1)) (drop (at + 1) bytes))
+  pub first_whole : IsWholeLine (take (at + 1) bytes)
+  first_whole = record { line = take at bytes; bytes_are = upto_feed bytes at found.0.high found.1; no_line_feed = free }
+
+  pub first_line : ended bytes ≡ first_whole.line ∷ ended (take (length bytes - (at + 1)) (drop (at + 1) bytes))
+  unfolding first_whole
   first_line = ap ended parts ∙ ended-line (take at bytes) (drop (at + 1) bytes) free
       ∙ ap (λ (b : List ℕ). take at bytes ∷ ended b) (sym after_is)
 
   pub rest_after : rest bytes ≡ rest (take (length bytes - (at + 1)) (drop (at + 1) bytes))
   rest_after = ap rest parts ∙ rest-line (take at bytes) (drop (at + 1) bytes) free ∙ ap rest (sym after_is)
+
+-- One line with its line feed.
+pub whole_ended : (bytes : List ℕ) (is : IsWholeLine bytes) → ended bytes ≡ is.line ∷ []
+whole_ended bytes is = ap ended is.bytes_are ∙ ended-line is.line [] is.no_line_feed
+    ∙ ap (λ (lines : List (List ℕ)). is.line ∷ lines) (ended-free [] tt)
+
+pub whole_rest : (bytes : List ℕ) → IsWholeLine bytes → rest bytes ≡ []
+whole_rest bytes is = ap rest is.bytes_are ∙ rest-line is.line [] is.no_line_feed ∙ rest-free [] tt
+
+pub whole_size : (bytes : List ℕ) (line : List ℕ) → bytes ≡ with_line_feed line → length bytes ≡ length line + 1
+whole_size bytes line are = ap length are ∙ length-append line (line_feed ∷ [])
+
+pub line_in : (bytes : List ℕ) (line : List ℕ) → bytes ≡ with_line_feed line → take (length bytes - 1) bytes ≡ line
+line_in bytes line are =
+    let size = whole_size bytes line are in
+    ap (take (length bytes - 1)) are ∙ take_at line (line_feed ∷ []) (length bytes - 1) (omega (arith, size))
 
 pub no_line : (bytes : List ℕ) → rest bytes ≡ [] → Nowhere (Passes (is_byte line_feed) bytes) 0 (length bytes) → bytes ≡ []
 no_line bytes complete nowhere = sym (rest-free bytes (holds_none bytes nowhere)) ∙ complete

@@ -2,15 +2,17 @@
 use Rattle.std.specs.Prelude.{ℕ, zero, suc, ◌==◌, List, [], ◌∷◌, ◌++◌, Option, None, Some, codes, if◌then◌else◌}
 use Rattle.redo_logs.specs.Logs.{Log}
 use Rattle.redo_html.specs.declared.markup.Markup.TheVariants as markup
-use Rattle.redo_html.specs.Lines.{line_parts}
+use Rattle.redo_html.specs.declared.style.Style.{Style}
+use Rattle.redo_html.specs.Lines.{style_after}
 use Rattle.redo_html.specs.Parts.{Part}
 use Rattle.redo_html.specs.Parts.Part.{MarkupPart, LogPart, TextPart}
 use Rattle.redo_html.specs.Style.{plain_style}
+use Rattle.redo_line.specs.Lines.{with_line_feed}
 use Rattle.redo_outline.specs.declared.node.Node.{Node}
 use Rattle.redo_outline.specs.Facts.{entries_at, target_at, texts_of}
 use Rattle.redo_page.specs.declared.labels.TheConstants.{MIDDLE_DOT, MORE_ABOVE, NOTHING_CAPTURED, NO_FAILURE_BELOW, PATH_SEPARATOR, PLACE_IN_TREE}
-use Rattle.redo_page.specs.Errors.{cause_of}
-use Rattle.redo_page.specs.Excerpt.{cut_to, excerpt_parts, in_tree_parts}
+use Rattle.redo_page.specs.Errors.{cause_of, is_error}
+use Rattle.redo_page.specs.Excerpt.{cut_to, emphasized_if, excerpt_parts, in_tree_parts}
 use Rattle.redo_page.specs.Targets.{name_parts, badge_parts}
 use Rattle.redo_page.specs.Tree.{is_short, node_at}
 use Rattle.redo_page.specs.Words.{words_parts}
@@ -18,9 +20,16 @@ use Rattle.redo_units.specs.Durations.{duration_words}
 
 -- ---- outputs
 
--- The whole output of a target, in one block. The style at the end of a line goes on in the next one.
+-- Lines of a log, of which the first begins with this style. Those that report errors are emphasized. The style at the end of a line goes on in
+-- the next one.
+abbrev pub output_line_parts : Style → List (List ℕ) → List Part
+output_line_parts style [] = []
+output_line_parts style (line ∷ lines) =
+    emphasized_if (is_error line) (LogPart style (with_line_feed line) ∷ []) ++ output_line_parts (style_after style (with_line_feed line)) lines
+
+-- The whole output of a target, in one block.
 unfoldable pub whole_parts : List (List ℕ) → List Part
-whole_parts lines = MarkupPart markup.Pre ∷ (line_parts plain_style lines ++ MarkupPart markup.EndPre ∷ [])
+whole_parts lines = MarkupPart markup.Pre ∷ (output_line_parts plain_style lines ++ MarkupPart markup.EndPre ∷ [])
 
 abbrev pub no_failure_below : ℕ → List ℕ
 no_failure_below below = if below == 0 then [] else NO_FAILURE_BELOW.now

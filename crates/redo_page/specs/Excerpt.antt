@@ -18,6 +18,9 @@ cut_to limit bytes = if nat_le (length bytes) limit then bytes else take (last_w
 
 -- ---- lines
 
+abbrev pub emphasized_if : Bool → List Part → List Part
+emphasized_if condition parts = if condition then MarkupPart markup.Emphasis ∷ (parts ++ MarkupPart markup.EndEmphasis ∷ []) else parts
+
 abbrev pub max_excerpt_line : ℕ
 max_excerpt_line = 1000
 
@@ -25,8 +28,10 @@ max_excerpt_line = 1000
 unfoldable pub excerpt_line_end : List ℕ → List ℕ
 excerpt_line_end line = if nat_le (length line) max_excerpt_line then codes "\n" else codes " ...\n"
 
+-- A line of an excerpt. It is emphasized if it reports an error, even if only what is cut says so.
 unfoldable pub excerpt_line_parts : List ℕ → List Part
-excerpt_line_parts line = LogPart plain_style (cut_to max_excerpt_line line) ∷ TextPart (excerpt_line_end line) ∷ []
+excerpt_line_parts line =
+    emphasized_if (is_error line) (LogPart plain_style (cut_to max_excerpt_line line) ∷ TextPart (excerpt_line_end line) ∷ [])
 
 -- ---- stretches
 

@@ -1,22 +1,24 @@
 //! The articles of targets that failed: where each target is, and what it printed.
-ghost use Rattle.std.specs.Prelude.{◌≡◌};
+ghost use Rattle.std.specs.Prelude.{◌≡◌, false};
 ghost use Rattle.std.specs.List.{flat_map};
 ghost use Rattle.std.specs.Option.{option_copied};
-ghost use Rattle.redo_html.specs.Lines.{line_parts};
+ghost use Rattle.redo_html.specs.Lines.{style_after_lines};
 ghost use Rattle.redo_html.specs.Style.{plain_style};
+ghost use Rattle.redo_line.specs.Lines.{ended};
 ghost use Rattle.redo_outline.specs.Facts.{entries_at, texts_of};
-ghost use Rattle.redo_page.specs.Article.{article_of, article_parts, article_took, cause_of_node, cause_parts, no_failure_below, nothing_parts, output_parts, path_parts, whole_parts};
+ghost use Rattle.redo_page.specs.Article.{article_of, article_parts, article_took, cause_of_node, cause_parts, no_failure_below, nothing_parts, output_line_parts, output_parts, path_parts, whole_parts};
 ghost use Rattle.redo_page.specs.Targets.{name_parts};
 ghost use Rattle.redo_outline.specs.Facts.{target_at};
+ghost use Rattle.redo_page.specs.Private.Printed.{IsWholeLine};
 ghost use Rattle.redo_page.specs.Private.Writing.{WroteParts};
 
-use crate::cause::find_cause;
+use crate::cause::{find_cause, is_error};
 use crate::excerpt::{cut_to, write_excerpt, write_in_tree};
 use crate::labels::{
     MIDDLE_DOT, MORE_ABOVE, NO_FAILURE_BELOW, NOTHING_CAPTURED, PATH_SEPARATOR, PLACE_IN_TREE,
 };
 use crate::nodes::{is_short, node_at};
-use crate::printed::Printed;
+use crate::printed::{Printed, without_line_feed};
 use crate::targets::{write_badge, write_name};
 use crate::words::write_words;
 use crate::writer::PageWriter;
@@ -32,18 +34,29 @@ const MAX_PATH: usize = 4;
 
 // ---- outputs
 
+// Writes a line, which is passed with its line feed. `style` is the style at its start, and becomes the style at its end, unless a write failed.
+fn write_output_line<W: Sink>(style: &mut Style, whole: &[u8], page: &mut PageWriter<'_, W>)
+    requires { IsWholeLine whole.now }
+    ensures written { WroteParts W.written page.old page.new (output_line_parts style.old (ended whole.now)) }
+    ensures style { page.new.failed ≡ false → style.new ≡ style_after_lines style.old (ended whole.now) }
+{
+    if is_error(without_line_feed(whole)) {
+        page.put(&[Piece::Markup(Markup::Emphasis)]);
+        page.put_lines(style, whole);
+        page.put(&[Piece::Markup(Markup::EndEmphasis)]);
+    } else {
+        page.put_lines(style, whole);
+    }
+}
+
 // Writes the lines that log `number` has.
 fn write_lines<W: Sink>(table: &LogTable, number: u32, page: &mut PageWriter<'_, W>)
-    ensures { WroteParts W.written page.old page.new (line_parts plain_style (texts_of (entries_at number table.now))) }
+    ensures { WroteParts W.written page.old page.new (output_line_parts plain_style (texts_of (entries_at number table.now))) }
 {
     let mut printed = Printed::new(table, number);
     let mut style = Style::PLAIN;
-    'lines: loop {
-        let lines = printed.next_lines();
-        if lines.is_empty() {
-            return;
-        }
-        page.put_lines(&mut style, lines);
+    'lines: while let Some(whole) = printed.next_whole_line() {
+        write_output_line(&mut style, whole, page);
     }
 }
 

@@ -30,6 +30,7 @@ pub fn cut_to(limit: usize, bytes: &[u8]) -> &[u8]
 }
 
 // ---- lines
+
 #[tactic(auto, using(crate::proofs::WriterLemmas::wrote_then), unfolding(crate::specs::Excerpt::excerpt_line_end))]
 fn line_end(line: &[u8]) -> &'static [u8]
     ensures { result.now ≡ excerpt_line_end line.now }
@@ -45,10 +46,18 @@ fn line_end(line: &[u8]) -> &'static [u8]
 fn write_line<W: Sink>(line: &[u8], page: &mut PageWriter<'_, W>)
     ensures { WroteParts W.written page.old page.new (excerpt_line_parts line.now) }
 {
-    page.put(&[
-        Piece::Log(Style::PLAIN, cut_to(MAX_EXCERPT_LINE, line)),
-        Piece::Text(line_end(line)),
-    ])
+    let text = cut_to(MAX_EXCERPT_LINE, line);
+    let end = line_end(line);
+    if is_error(line) {
+        page.put(&[
+            Piece::Markup(Markup::Emphasis),
+            Piece::Log(Style::PLAIN, text),
+            Piece::Text(end),
+            Piece::Markup(Markup::EndEmphasis),
+        ])
+    } else {
+        page.put(&[Piece::Log(Style::PLAIN, text), Piece::Text(end)])
+    }
 }
 
 // ---- stretches

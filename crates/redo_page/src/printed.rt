@@ -1,8 +1,8 @@
 //! The lines that a target printed: the text lines of its log.
-ghost use Rattle.std.specs.Prelude.{◌≡◌, ◌+◌, ◌≤◌, ◌<◌, ◌^◌, ◌∷◌, ◌++◌, [], length, MatchOption};
-ghost use Rattle.redo_line.specs.Lines.{ended, rest};
+ghost use Rattle.std.specs.Prelude.{◌≡◌, ◌+◌, ◌≤◌, ◌<◌, ◌^◌, ℕ, List, ◌∷◌, ◌++◌, [], length, MatchOption};
+ghost use Rattle.redo_line.specs.Lines.{ended, rest, with_line_feed};
 ghost use Rattle.redo_outline.specs.Facts.{entries_at, texts_of};
-ghost use Rattle.redo_page.specs.Private.Printed.{AreNextLines, IsRefilled};
+ghost use Rattle.redo_page.specs.Private.Printed.{AreNextLines, IsRefilled, IsWholeLine};
 
 use memchr::memchr;
 use redo_logs::{LogTable, Numbered};
@@ -51,10 +51,11 @@ impl<'a> Printed<'a> {
         }
     }
 
-    /// Returns the next line, without its line feed.
-    pub fn next_line(&mut self) -> Option<&'a [u8]>
-        ensures line { MatchOption result (self.old.left ≡ []) (λ line. self.old.left ≡ line.now ∷ self.new.left) }
-        ensures done { MatchOption result (self.new.done ≡ self.old.done) (λ line. self.new.done ≡ self.old.done + 1) }
+    /// Returns the next line, with its line feed.
+    pub fn next_whole_line(&mut self) -> Option<&'a [u8]>
+        ensures line { MatchOption result (self.old.left ≡ [])
+            (λ bytes. (is : IsWholeLine bytes.now) × (self.old.left ≡ is.line ∷ self.new.left)) }
+        ensures done { MatchOption result (self.new.done ≡ self.old.done) (λ bytes. self.new.done ≡ self.old.done + 1) }
         ensures no_overflow { self.new.done < 2 ^ 64 }
     {
         let (stretch, next) = refill(&self.logs, self.number, self.stretch, self.next);
@@ -64,20 +65,28 @@ impl<'a> Printed<'a> {
         self.stretch = &stretch[end + 1..];
         self.next = next;
         self.done += 1;
-        Some(&stretch[..end])
+        Some(&stretch[..end + 1])
     }
 
-    /// Returns the next lines that are stored together, with their line feeds; none if no line is left.
-    pub fn next_lines(&mut self) -> &'a [u8]
-        ensures complete { rest result.now ≡ [] }
-        ensures split { self.old.left ≡ ended result.now ++ self.new.left }
-        ensures none { result.now ≡ [] → self.old.left ≡ [] }
+    /// Returns the next line, without its line feed.
+    pub fn next_line(&mut self) -> Option<&'a [u8]>
+        ensures line { MatchOption result (self.old.left ≡ []) (λ line. self.old.left ≡ line.now ∷ self.new.left) }
+        ensures done { MatchOption result (self.new.done ≡ self.old.done) (λ line. self.new.done ≡ self.old.done + 1) }
+        ensures no_overflow { self.new.done < 2 ^ 64 }
     {
-        let (lines, next) = refill(&self.logs, self.number, self.stretch, self.next);
-        self.stretch = &[];
-        self.next = next;
-        lines
+        match self.next_whole_line() {
+            None => None,
+            Some(whole) => Some(without_line_feed(whole)),
+        }
     }
+}
+
+/// Returns a line without its line feed.
+pub fn without_line_feed(whole: &[u8]) -> &[u8]
+    requires { IsWholeLine whole.now }
+    ensures { (line : List ℕ) → whole.now ≡ with_line_feed line → result.now ≡ line }
+{
+    &whole[..whole.len() - 1]
 }
 
 // Returns the stretch, or the next one if it is used up, and the number of the entry after it.

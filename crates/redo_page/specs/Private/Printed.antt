@@ -1,6 +1,6 @@
 -- The lines that a target printed, as they are iterated over.
 use Rattle.std.specs.Prelude.{◌≡◌, ℕ, ◌+◌, ◌≤◌, List, [], ◌++◌, drop, length}
-use Rattle.redo_line.specs.Lines.{ended, rest}
+use Rattle.redo_line.specs.Lines.{HasNoLineFeed, ended, rest, with_line_feed}
 use Rattle.redo_logs.specs.Logs.{Log}
 use Rattle.redo_outline.specs.Facts.{entries_at, texts_of}
 
@@ -8,6 +8,12 @@ use Rattle.redo_outline.specs.Facts.{entries_at, texts_of}
 pub record Remaining : Type 0 where
   pub left : List (List ℕ)
   pub done : ℕ
+
+-- These bytes are one line, with its line feed.
+pub record IsWholeLine (bytes : List ℕ) : Type 0 where
+  pub line : List ℕ
+  pub bytes_are : bytes ≡ with_line_feed line
+  pub no_line_feed : HasNoLineFeed line
 
 -- The text lines of log `number` from entry `next` on.
 abbrev pub texts_from : List Log → ℕ → ℕ → List (List ℕ)

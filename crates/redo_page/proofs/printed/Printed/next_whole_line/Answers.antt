@@ -1,7 +1,7 @@
 use Rattle.std.proofs.Common.{◌++◌, ℕ, List, length, sym, ap, ◌∙◌, arith}
 use Rattle.redo_page.specs.Private.Printed.{Remaining, texts_from}
-use Rattle.redo_page.proofs.PrintedLemmas.{first_line, no_line, rest_after}
-use Rattle.redo_page.proofs.printed.Printed.next_line.Goals as goal
+use Rattle.redo_page.proofs.PrintedLemmas.{first_line, first_whole, no_line, rest_after}
+use Rattle.redo_page.proofs.printed.Printed.next_whole_line.Goals as goal
 
 pub returns-in_default-clause-line : goal.returns-in_default-clause-line
 returns-in_default-clause-line c =
@@ -26,10 +26,12 @@ invariant_of-self c =
     )
 
 pub returns-clause-line : goal.returns-clause-line
-returns-clause-line c =
-    sym (ap (λ (lines : Remaining). lines.left) c.self.view_is) ∙ c.refill-next.ensures.left
-    ∙ ap (λ (lines : List (List ℕ)). lines ++ texts_from c.self.inside.logs.logs c.self.inside.number c.refill-next.result.1)
-    (first_line c.refill-next.result.0.now c.in-Some.end c.in-Some.ensures)
+returns-clause-line c = (
+  first_whole c.refill-next.result.0.now c.in-Some.end c.in-Some.ensures,
+  sym (ap (λ (lines : Remaining). lines.left) c.self.view_is) ∙ c.refill-next.ensures.left
+      ∙ ap (λ (lines : List (List ℕ)). lines ++ texts_from c.self.inside.logs.logs c.self.inside.number c.refill-next.result.1)
+      (first_line c.refill-next.result.0.now c.in-Some.end c.in-Some.ensures),
+)
 
 pub returns-clause-no_overflow : goal.returns-clause-no_overflow
 returns-clause-no_overflow c =
