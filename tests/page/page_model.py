@@ -569,8 +569,8 @@ ERROR = re.compile(rb"(?<![A-Za-z0-9_])(?:(?i:error|undefined reference|no such 
 
 
 def without_colours(line):
-    """A line with zeros in place of the sequences that set colours, so that none of their letters belongs to a word."""
-    return re.sub(rb"(?:\x1b[\[;0-9]*)+[^\x1b]?", lambda found: b"\x00" * len(found[0]), line, flags=re.S)
+    """A line with zeros in place of the sequences that set colours, and of links, so that none of their letters belongs to a word."""
+    return re.sub(rb"(?:\x1b[\[;0-9]*(?:\][!-~]*)?)+[^\x1b]?", lambda found: b"\x00" * len(found[0]), line, flags=re.S)
 
 
 def is_error(line):

@@ -289,6 +289,9 @@ check("what an excerpt leaves out", part(failed, b'<p class="cut">', b"</p>"), b
 ERRORS = made_page({b"all": b"cannot\n" + record(b"do", 1, b"a"), b"a": b"\x1b[31mone\nan error\n\x1b[mterror\nFAIL <1>\n" + record(b"done", 2, b"1 a")})
 check("errors in an output", part(ERRORS, b"<article", b"</article>").partition(b"<pre>")[2],
       b'\n<span class="r">one\n</span><em><span class="r">an error\n</span></em>terror\n<em>FAIL &lt;1&gt;\n</em></pre>')
+# A link reports none.
+LINKED = made_page({b"all": record(b"do", 1, b"a"), b"a": b"\x1b]8;;http://error\x07x\x1b]8;;\x1b\\error\n\x1b]8;;error:\x07y\n" + record(b"done", 2, b"1 a")})
+check("links in an output", part(LINKED, b"<article", b"</article>").partition(b"<pre>")[2], b"\n<em>xerror\n</em>y\n</pre>")
 check("an error in the tree", part(ERRORS, b'<ul class="tree">', b"</pre>").partition(b"<pre>")[2], b"\ncannot\n")
 # So are they in excerpts, each of them, even if the word isn't shown.
 ERRORS = made_page({b"all": record(b"do", 1, b"a"), b"a": b"error\nnote\n" + b"." * 1000 + b" error\n" + numbered(4, 301) + record(b"done", 2, b"1 a")})

@@ -2,8 +2,9 @@
 use Rattle.std.specs.Prelude.{ℕ, ◌+◌, ◌==◌, ◌||◌, ◌&&◌, not, nat_le, nat_lt, Bool, true, false, List, [], ◌∷◌, Option, None, Some, codes, if◌then◌else◌}
 use Rattle.std.specs.List.{find, list_any}
 use Rattle.std.specs.Option.{option_or}
+use Rattle.redo_html.specs.Symbols.{is_link_byte}
 use Rattle.redo_page.specs.declared.cause.WordState.{WordState}
-use Rattle.redo_page.specs.declared.cause.WordState.TheVariants.{Outside, InWord, InSequence}
+use Rattle.redo_page.specs.declared.cause.WordState.TheVariants.{Outside, InWord, InSequence, InLink}
 
 -- ---- words
 
@@ -25,19 +26,28 @@ is_parameter byte = byte == 91 || (byte == 59 || is_digit byte)
 
 abbrev pub is_outside : WordState → Bool
 is_outside Outside = true
-is_outside InWord = false
-is_outside InSequence = false
+is_outside state = false
 
 abbrev pub is_in_sequence : WordState → Bool
 is_in_sequence Outside = false
 is_in_sequence InWord = false
 is_in_sequence InSequence = true
+is_in_sequence InLink = false
 
--- The state after one more byte. A sequence belongs to no word: compilers write `error` directly after one.
+abbrev pub is_in_link : WordState → Bool
+is_in_link InLink = true
+is_in_link state = false
+
+-- Whether a byte in this state is part of a sequence or a link, or ends it.
+abbrev pub is_hidden : WordState → Bool
+is_hidden state = is_in_sequence state || is_in_link state
+
+-- The state after one more byte. Sequences, and links, which begin with `]`, belong to no word: compilers write `error` directly after them.
 abbrev pub state_after : WordState → ℕ → WordState
 state_after state byte =
     if is_escape byte || (is_in_sequence state && is_parameter byte) then InSequence
-    else if not (is_in_sequence state) && is_word_byte byte then InWord
+    else if (is_in_sequence state && byte == 93) || (is_in_link state && is_link_byte byte) then InLink
+    else if not (is_hidden state) && is_word_byte byte then InWord
     else Outside
 
 abbrev pub is_word_end : List ℕ → Bool
@@ -76,9 +86,9 @@ is_error line = has_error Outside line
 
 -- ---- lines without text
 
--- Whether a byte in this state is visible: it is no space, no control character, and in no sequence.
+-- Whether a byte in this state is visible: it is no space, no control character, and in no sequence or link.
 abbrev pub is_visible : WordState → ℕ → Bool
-is_visible state byte = not (is_in_sequence state) && nat_lt 32 byte
+is_visible state byte = not (is_hidden state) && nat_lt 32 byte
 
 abbrev pub has_text : WordState → List ℕ → Bool
 has_text state [] = false

@@ -1,20 +1,22 @@
 //! Why a target failed: the line of its output that tells it best.
 ghost use Rattle.std.specs.Prelude.{◌≡◌};
 ghost use Rattle.std.specs.Option.{option_copied, option_or};
+ghost use Rattle.redo_html.specs.Symbols.{is_link_byte};
 ghost use Rattle.redo_outline.specs.Facts.{entries_at, texts_of};
-ghost use Rattle.redo_page.specs.Errors.{begins_with, begins_with_error, cause_of, has_error, is_blank, is_digit, is_error, is_in_sequence, is_letter, is_outside, is_parameter, is_visible, is_word_byte, is_word_end, lower, state_after, unless_blank};
+ghost use Rattle.redo_page.specs.Errors.{begins_with, begins_with_error, cause_of, has_error, is_blank, is_digit, is_error, is_hidden, is_in_link, is_in_sequence, is_letter, is_outside, is_parameter, is_visible, is_word_byte, is_word_end, lower, state_after, unless_blank};
 
 use crate::printed::Printed;
 use redo_logs::LogTable;
 
 const ESCAPE: u8 = 27;
 
-/// The state after some bytes: outside of words, in a word, or in a sequence that sets colours.
+/// The state after some bytes: outside of words, in a word, in a sequence that sets colours, or in a link.
 #[derive(Clone, Copy, Debug, PartialEq, Eq)]
 pub enum WordState {
     Outside,
     InWord,
     InSequence,
+    InLink,
 }
 
 impl WordState {
@@ -25,18 +27,37 @@ impl WordState {
             WordState::Outside => true,
             WordState::InWord => false,
             WordState::InSequence => false,
+            WordState::InLink => false,
         }
     }
 
-    /// Returns whether a sequence that sets colours goes on.
-    pub fn is_in_sequence(self) -> bool
+    fn is_in_sequence(self) -> bool
         ensures { result ≡ is_in_sequence self }
     {
         match self {
             WordState::Outside => false,
             WordState::InWord => false,
             WordState::InSequence => true,
+            WordState::InLink => false,
         }
+    }
+
+    fn is_in_link(self) -> bool
+        ensures { result ≡ is_in_link self }
+    {
+        match self {
+            WordState::Outside => false,
+            WordState::InWord => false,
+            WordState::InSequence => false,
+            WordState::InLink => true,
+        }
+    }
+
+    /// Returns whether a byte in this state is part of a sequence or a link, or ends it.
+    pub fn is_hidden(self) -> bool
+        ensures { result ≡ is_hidden self }
+    {
+        self.is_in_sequence() || self.is_in_link()
     }
 
     /// Returns the state after one more byte.
@@ -46,7 +67,9 @@ impl WordState {
         let in_sequence = self.is_in_sequence();
         if byte == ESCAPE || (in_sequence && is_parameter(byte)) {
             WordState::InSequence
-        } else if !in_sequence && is_word_byte(byte) {
+        } else if (in_sequence && byte == b']') || (self.is_in_link() && is_link_byte(byte)) {
+            WordState::InLink
+        } else if !self.is_hidden() && is_word_byte(byte) {
             WordState::InWord
         } else {
             WordState::Outside
@@ -64,6 +87,12 @@ fn is_parameter(byte: u8) -> bool
     ensures { result ≡ is_parameter byte }
 {
     byte == 91 || byte == 59 || is_digit(byte)
+}
+
+fn is_link_byte(byte: u8) -> bool
+    ensures { result ≡ is_link_byte byte }
+{
+    32 < byte && byte < 127
 }
 
 fn lower(byte: u8) -> u8
@@ -158,7 +187,7 @@ pub fn is_error(line: &[u8]) -> bool
 fn is_visible(state: WordState, byte: u8) -> bool
     ensures { result ≡ is_visible state byte }
 {
-    !state.is_in_sequence() && 32 < byte
+    !state.is_hidden() && 32 < byte
 }
 
 // Returns whether nothing of a line is visible.
