@@ -129,7 +129,7 @@ then_refer {count} {articles} {parts} {others} {targets} {ids} {more_targets} {m
       (list_all (is_among articles) (article_links others)) first.article_links_lead last.article_links_lead;
 }
 
-target_link_part : (part : Part) → flat_map target_link (reference part) ≡ target_link part
+pub target_link_part : (part : Part) → flat_map target_link (reference part) ≡ target_link part
 target_link_part (MarkupPart markup) = by markup
   where
     by : (markup : Markup) → flat_map target_link (reference (MarkupPart markup)) ≡ target_link (MarkupPart markup)

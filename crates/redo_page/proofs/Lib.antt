@@ -27,6 +27,7 @@ mod NameLemmas
 mod Nesting
 mod OpeningLemmas
 mod OtherTags
+mod OwnLinks
 mod PageIds
 mod PageLemmas
 mod PageLines

@@ -1,5 +1,5 @@
 //! Laws about the definitions alone: their contracts are theorems, and their bodies are empty or cite laws of other crates.
-ghost use Rattle.std.specs.Prelude.{◌≡◌, ℕ, true, [], ◌∷◌, ◌++◌, List, None, Some, length, nat_eq, ◌<◌, ◌≤◌, false, ◌^◌};
+ghost use Rattle.std.specs.Prelude.{◌==◌, ◌≡◌, ℕ, true, [], ◌∷◌, ◌++◌, List, None, Some, length, nat_eq, ◌<◌, ◌≤◌, false, ◌^◌};
 ghost use Rattle.std.specs.List.{All, AllByRecursion, IsDistinct, flat_map, list_all};
 ghost use Rattle.std.specs.List.Sorted.{IsPermutation};
 ghost use Rattle.redo_html.specs.Html.{nests_in, read, tags_of, text_of};
@@ -59,7 +59,8 @@ pub fn tags_nest()
     only_markup_decides_nesting();
 }
 
-/// Each target that is opened, and each article, has an id of its own, and each link leads to an id. There is one link to each section.
+/// Each target that is opened, and each article, has an id of its own, and each link leads to an id. The links in an article lead to the
+/// log of its target. There is one link to each section.
 pub fn links_lead_to_ids()
     ensures targets { (request : Request) (logs : List Log) (requested : List (List ℕ)) →
         target_ids (page_parts request logs requested) ≡ numbers_from 0 (length (page_outline request logs requested)) }
@@ -69,6 +70,8 @@ pub fn links_lead_to_ids()
         IsDistinct nat_eq (article_ids (page_parts request logs requested)) }
     ensures target_links { (request : Request) (logs : List Log) (requested : List (List ℕ)) →
         list_all (is_among (target_ids (page_parts request logs requested))) (target_links (page_parts request logs requested)) ≡ true }
+    ensures own_links { (request : Request) (logs : List Log) (requested : List (List ℕ)) (position : ℕ) →
+        list_all (λ number. number == position) (target_links (page_article request logs requested position)) ≡ true }
     ensures article_links { (request : Request) (logs : List Log) (requested : List (List ℕ)) →
         list_all (is_among (article_ids (page_parts request logs requested))) (article_links (page_parts request logs requested)) ≡ true }
     ensures section_links { (request : Request) (logs : List Log) (requested : List (List ℕ)) →

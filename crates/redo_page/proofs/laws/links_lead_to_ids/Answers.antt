@@ -3,6 +3,7 @@ use Rattle.std.specs.Prelude.{nat_eq}
 use Rattle.std.specs.List.{IsDistinct}
 use Rattle.redo_page.specs.Page.{page_outline}
 use Rattle.redo_page.proofs.FailedOrder.{articles_distinct}
+use Rattle.redo_page.proofs.OwnLinks.{article_links_are_own}
 use Rattle.redo_page.proofs.PageIds.{page_target_ids, page_article_ids, page_target_links, page_article_links, page_section_links}
 use Rattle.redo_page.proofs.laws.links_lead_to_ids.Goals as goal
 
@@ -23,6 +24,9 @@ returns-clause-articles_once c = λ request logs requested.
 pub returns-clause-target_links : goal.returns-clause-target_links
 returns-clause-target_links c = page_target_links c.positions_are_of_nodes.ensures c.bars_lead_to_positions.ensures
     c.trimmed_events_are_in_tree.ensures.logs
+
+pub returns-clause-own_links : goal.returns-clause-own_links
+returns-clause-own_links c = λ request logs requested position. article_links_are_own logs (page_outline request logs requested) position
 
 pub returns-clause-article_links : goal.returns-clause-article_links
 returns-clause-article_links c = page_article_links c.positions_are_of_nodes.ensures c.bars_lead_to_positions.ensures
