@@ -1,5 +1,5 @@
 -- The statements of the laws.
-use Rattle.std.specs.Prelude.{◌≡◌, ◌⊎◌, ℕ, zero, suc, ◌+◌, ◌*◌, ◌^◌, ◌<◌, ◌==◌, ◌||◌, ◌&&◌, nat_le, max, length, Bool, true, not, List, [], ◌∷◌, ◌++◌, map, Option, None, Some, is_none, is_some, codes, false, nat_eq, nat_lt, take, if◌then◌else◌}
+use Rattle.std.specs.Prelude.{◌≡◌, ◌⊎◌, ℕ, zero, suc, ◌+◌, ◌*◌, ◌^◌, ◌<◌, ◌==◌, ◌||◌, ◌&&◌, nat_le, max, length, Bool, true, not, List, [], ◌∷◌, ◌++◌, map, Option, None, Some, is_none, is_some, codes, false, nat_eq, nat_lt, take, drop, if◌then◌else◌}
 use Rattle.std.specs.List.{AllByRecursion, filter, flat_map, list_any, starts_with}
 use Rattle.redo_line.specs.declared.entry.Entry.TheVariants.{Text, Done, Note}
 use Rattle.redo_line.specs.declared.entry.How.{How}
@@ -27,9 +27,9 @@ use Rattle.redo_page.specs.declared.labels.TheConstants.{AND_COUNT, AS_ONE_TEXT,
 use Rattle.redo_page.specs.Command.{command}
 use Rattle.redo_page.specs.Errors.{cause_of}
 use Rattle.redo_page.specs.Article.{article_parts, article_took, cause_parts, max_path, path_parts, printed_by}
-use Rattle.redo_page.specs.Failed.{is_dependent_failure, positions_where}
+use Rattle.redo_page.specs.Failed.{is_dependent_failure, is_unclosed, positions_where}
 use Rattle.redo_page.specs.Page.{Request, options_of, page_contents, page_events, page_facts, page_html, page_outline}
-use Rattle.redo_page.specs.Scope.{began_parts}
+use Rattle.redo_page.specs.Scope.{began_parts, max_rows}
 use Rattle.redo_page.specs.Timeline.{facts_drawing}
 use Rattle.redo_chart.specs.Laws.{DrawsAll, shapes_of}
 use Rattle.redo_summary.specs.Summary.{Facts, is_timed}
@@ -38,7 +38,7 @@ use Rattle.redo_summary.specs.Window.{cut}
 use Rattle.redo_timeline.specs.declared.span.Span.{Span}
 use Rattle.redo_timeline.specs.declared.span.Window.{Window}
 use Rattle.redo_times.specs.declared.times.Times.{Times}
-use Rattle.redo_page.specs.Tree.{Build, has_failed, is_moved_if, is_root_failure, is_same_position, node_at, root_failures, tree_parts}
+use Rattle.redo_page.specs.Tree.{Build, articles, has_failed, is_moved_if, is_root_failure, is_same_position, max_articles, node_at, root_failures, tree_parts}
 use Rattle.redo_page.specs.Verdict.{is_unfinished, unfinished_count}
 use Rattle.redo_page.specs.Limits.{tree_limits}
 use Rattle.redo_page.specs.Targets.{badge_parts, facts_parts, how_parts, name_parts, parts_if, plural}
@@ -147,6 +147,12 @@ is_among numbers number = list_any (λ other. number == other) numbers
 
 -- ---- names, statuses and durations
 
+-- Whether these parts are in others, next to each other.
+pub record IsPartOf (inner whole : List Part) : Type 0 where
+  pub before : List Part
+  pub after : List Part
+  pub splits : before ++ (inner ++ after) ≡ whole
+
 -- Whether some parts begin with others.
 abbrev pub BeginWith : List Part → List Part → Type 0
 BeginWith beginning parts = (rest : List Part) × (beginning ++ rest ≡ parts)
@@ -191,9 +197,25 @@ module _ (logs : List Log) (nodes : List Node) where
       ∷ (badge_parts (node_at nodes position).status
       ++ (parts_if causes (cause_parts (cause_of (printed_by logs (node_at nodes position)))) ++ MarkupPart EndItem ∷ []))))
 
+  -- A list of these targets, up to its end.
+  abbrev pub target_list : (ℕ → Markup) → Bool → List ℕ → List Part
+  target_list link causes positions = flat_map (list_item link causes) positions ++ MarkupPart EndOrdered ∷ []
+
   abbrev pub IsList : (ℕ → Markup) → List Part → Type 0
-  IsList link after =
-      (causes : Bool) × (positions : List ℕ) × BeginWith (flat_map (list_item link causes) positions ++ MarkupPart EndOrdered ∷ []) after
+  IsList link after = (causes : Bool) × (positions : List ℕ) × BeginWith (target_list link causes positions) after
+
+  -- Whether parts have a list of these targets, unless there are none. It names at most 200.
+  abbrev pub IsListed : Bool → List Part → List ℕ → Type 0
+  IsListed causes parts positions =
+      0 < length positions → IsPartOf (target_list (λ position. TargetLink position) causes (take max_rows positions)) parts
+
+  -- The lists of what failed: the targets with articles, if there are several; the other root failures; the dependent failures; and the targets
+  -- at the ends of paths that have no record of how they ended. The first two lists say why each target failed.
+  pub record ListsFailures (parts : List Part) : Type 0 where
+    pub with_articles : 1 < length (articles nodes) → IsPartOf (target_list (λ position. OutputLink position) true (articles nodes)) parts
+    pub others : IsListed true parts (drop max_articles (root_failures nodes))
+    pub dependents : IsListed false parts (positions_where is_dependent_failure 0 nodes)
+    pub unclosed : IsListed false parts (positions_where is_unclosed 0 nodes)
 
   -- A row of a table: a link with the name of its target, the status of the target, and a value.
   abbrev pub IsRowWith : List Part → ℕ → List Part → Type 0
@@ -425,12 +447,6 @@ module _ (request : Request) (logs : List Log) (requested : List (List ℕ)) whe
   -- Whether the chart draws these spans as its bars of one kind, in at most `max_lanes` lanes.
   abbrev pub ChartDraws : Window → GroupKind → ℕ → List Span → Type 0
   ChartDraws window kind max_lanes spans = DrawsAll logs (page_outline request logs requested) window kind max_lanes spans (shapes_of kind (page_chart window))
-
--- Whether these parts are in others, next to each other.
-pub record IsPartOf (inner whole : List Part) : Type 0 where
-  pub before : List Part
-  pub after : List Part
-  pub splits : before ++ (inner ++ after) ≡ whole
 
 -- ---- elements of logs
 

@@ -44,9 +44,7 @@ fact_parts parts = TextPart (codes " ") ∷ MarkupPart Small ∷ TextPart FACT_D
 
 -- The counts beside a name.
 abbrev pub lines_parts : ℕ → List Part
-lines_parts lines =
-    parts_if (not (lines == 0))
-    (fact_parts (NumberPart lines ∷ TextPart (plural lines LINE.now LINES.now) ∷ []))
+lines_parts lines = parts_if (not (lines == 0)) (fact_parts (NumberPart lines ∷ TextPart (plural lines LINE.now LINES.now) ∷ []))
 
 abbrev pub warnings_parts : ℕ → List Part
 warnings_parts warnings =

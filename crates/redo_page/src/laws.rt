@@ -13,7 +13,7 @@ ghost use Rattle.redo_options.specs.declared.options.Options.{Options};
 ghost use Rattle.redo_view.specs.View.{find_unknown};
 ghost use Rattle.redo_outline.specs.declared.node.Node.{Node};
 ghost use Rattle.redo_outline.specs.Contents.{Contents};
-ghost use Rattle.redo_page.specs.Laws.{AreInOrderOfEnd, ContainRoots, HaveSameLogs, IsOfTarget, IsOwnTag, IsPartOf, IsRead, IsRed, ShowsItsLines, AreCountable, budget_of_tree, TellsItsTarget, article_ids, article_links, blanked, event_lines, is_among, kept_lines, lines_at, log_bytes, markups, numbers_from, page_article, page_chart, page_lines, page_tree, positioned_bytes, section_ids, section_links, target_ids, target_links, texts_of, unmoved_lines, charts, ChartDraws, HasTimeline, end_shown, first, heading_shown, heading_tag, requested_shown, summary_shown, took_shown, page_limit, says_failed, shows_failure, title_in};
+ghost use Rattle.redo_page.specs.Laws.{AreInOrderOfEnd, ContainRoots, ListsFailures, HaveSameLogs, IsOfTarget, IsOwnTag, IsPartOf, IsRead, IsRed, ShowsItsLines, AreCountable, budget_of_tree, TellsItsTarget, article_ids, article_links, blanked, event_lines, is_among, kept_lines, lines_at, log_bytes, markups, numbers_from, page_article, page_chart, page_lines, page_tree, positioned_bytes, section_ids, section_links, target_ids, target_links, texts_of, unmoved_lines, charts, ChartDraws, HasTimeline, end_shown, first, heading_shown, heading_tag, requested_shown, summary_shown, took_shown, page_limit, says_failed, shows_failure, title_in};
 ghost use Rattle.redo_page.specs.Failed.{is_dependent_failure, positions_where};
 ghost use Rattle.redo_page.specs.Limits.{bytes_shown, highest_cap};
 ghost use Rattle.redo_page.specs.Page.{Request, page_build, page_events, page_facts, page_html, page_outline, page_parts};
@@ -135,13 +135,17 @@ pub fn failed_builds_are_red()
 
 /// Each target that failed is exactly once among the root failures or among the dependent ones. The root failures are in the order in
 /// which the targets ended. Targets with an unknown end follow all others. Equal ends, and unknown ones, are in the order of the tree.
-/// Each dependent failure contains a root failure.
+/// Each dependent failure contains a root failure. If a target failed, the page lists them, and the targets at the ends of paths that
+/// have no record of how they ended. A list names at most 200 targets.
 pub fn failures_are_listed()
     ensures listed { (nodes : List Node) →
         IsPermutation (positions_where has_failed 0 nodes) (root_failures nodes ++ positions_where is_dependent_failure 0 nodes) }
     ensures in_order { (nodes : List Node) → AreInOrderOfEnd nodes (root_failures nodes) }
     ensures found { (request : Request) (logs : List Log) (requested : List (List ℕ)) →
         ContainRoots (page_outline request logs requested) }
+    ensures named { (request : Request) (logs : List Log) (requested : List (List ℕ)) →
+        0 < length (root_failures (page_outline request logs requested)) →
+        ListsFailures logs (page_outline request logs requested) (page_parts request logs requested) }
 {
     nodes_sum_up_logs_below();
 }
