@@ -4,10 +4,11 @@ use Rattle.std.specs.Prelude.{codes}
 use Rattle.std.specs.List.{AllByRecursion}
 use Rattle.redo_line.specs.Decimal.{number}
 use Rattle.redo_line.specs.Parts.{after_prefix, split_once}
+use Rattle.redo_html.specs.Symbols.{is_sequence, sequence_len}
 use Rattle.redo_diagnostics.specs.declared.severity.Severity.{Severity}
 use Rattle.redo_diagnostics.specs.declared.severity.Severity.TheVariants.{Warning, Error, FatalError}
 use Rattle.redo_diagnostics.specs.Diagnostic.{DiagnosticValue, PlaceValue, before_bracket, diagnostic_of, first_place, masked_after, place_of, split_flag}
-use Rattle.redo_diagnostics.specs.Plain.{length_to, plain_after}
+use Rattle.redo_diagnostics.specs.Plain.{plain_after}
 
 record Row : Type 0 where
   line : List ℕ
@@ -57,7 +58,8 @@ words =
     []
 
 these_words : AllByRecursion HasValue words
-unfolding after_prefix split_once number length_to plain_after first_place place_of before_bracket split_flag masked_after diagnostic_of
+unfolding after_prefix split_once number is_sequence sequence_len plain_after first_place place_of before_bracket
+    split_flag masked_after diagnostic_of
 these_words = (refl, (refl, (refl, (refl, (refl, (refl, (refl, (refl, (refl, (refl, (refl, (refl, (refl, (refl, tt))))))))))))))
 
 -- Places.
@@ -91,7 +93,8 @@ places =
     []
 
 these_places : AllByRecursion HasValue places
-unfolding after_prefix split_once number length_to plain_after first_place place_of before_bracket split_flag masked_after diagnostic_of
+unfolding after_prefix split_once number is_sequence sequence_len plain_after first_place place_of before_bracket
+    split_flag masked_after diagnostic_of
 these_places = (refl, (refl, (refl, (refl, (refl, (refl, (refl, (refl, (refl, (refl, (refl, (refl, tt))))))))))))
 
 -- Flags.
@@ -120,7 +123,8 @@ flags =
     []
 
 these_flags : AllByRecursion HasValue flags
-unfolding after_prefix split_once number length_to plain_after first_place place_of before_bracket split_flag masked_after diagnostic_of
+unfolding after_prefix split_once number is_sequence sequence_len plain_after first_place place_of before_bracket
+    split_flag masked_after diagnostic_of
 these_flags = (refl, (refl, (refl, (refl, (refl, (refl, (refl, (refl, (refl, (refl, tt))))))))))
 
 -- Origins and names of temporary files.
@@ -143,12 +147,13 @@ keys =
     []
 
 these_keys : AllByRecursion HasValue keys
-unfolding after_prefix split_once number length_to plain_after first_place place_of before_bracket split_flag masked_after diagnostic_of
+unfolding after_prefix split_once number is_sequence sequence_len plain_after first_place place_of before_bracket
+    split_flag masked_after diagnostic_of
 these_keys = (refl, (refl, (refl, (refl, (refl, (refl, tt))))))
 
--- Colours and links.
-abbrev sequences : List Row
-sequences =
+-- Colours.
+abbrev colours : List Row
+colours =
     gives (27 ∷ codes "[01m" ++ 27 ∷ codes "[Kb.c:1:66:" ++ 27 ∷ codes "[m" ++ 27 ∷ codes "[K " ++ 27 ∷ codes "[01;35m" ++
     27 ∷ codes "[Kwarning: " ++ 27 ∷ codes "[m" ++ 27 ∷ codes "[Kunused p [" ++ 27 ∷ codes "[01;35m" ++
     27 ∷ codes "[K-Wunused-variable" ++ 27 ∷ codes "[m" ++ 27 ∷ codes "[K]")
@@ -164,16 +169,88 @@ sequences =
     Error None (codes "m") None (27 ∷ codes "[xa: error: m") ∷
     gives (27 ∷ codes "[1;2Ka: error: m")
     Error None (codes "m") None (codes "a: error: m") ∷
-    gives (27 ∷ codes "]8;;https://x" ++ 7 ∷ codes "a" ++ 27 ∷ codes "]8;;" ++ 7 ∷ codes ": error: m")
-    Error None (codes "m") None (codes "a: error: m") ∷
-    gives (27 ∷ codes "]8;;u" ++ 27 ∷ codes "[1m" ++ 7 ∷ codes "a: error: m")
-    Error None (codes "m") None (27 ∷ codes "]8;;u" ++ 7 ∷ codes "a: error: m") ∷
-    gives (27 ∷ codes "]8;a: error: m")
-    Error None (codes "m") None (27 ∷ codes "]8;a: error: m") ∷
     gives (27 ∷ 27 ∷ codes "[ma: error: m")
     Error None (codes "m") None (27 ∷ codes "a: error: m") ∷
+    gives (27 ∷ 27 ∷ codes "[m[1ma: error: m")
+    Error None (codes "m") None (27 ∷ codes "[1ma: error: m") ∷
     []
 
-these_sequences : AllByRecursion HasValue sequences
-unfolding after_prefix split_once number length_to plain_after first_place place_of before_bracket split_flag masked_after diagnostic_of
-these_sequences = (refl, (refl, (refl, (refl, (refl, (refl, (refl, (refl, (refl, (refl, tt))))))))))
+these_colours : AllByRecursion HasValue colours
+unfolding after_prefix split_once number is_sequence sequence_len plain_after first_place place_of before_bracket
+    split_flag masked_after diagnostic_of
+these_colours = (refl, (refl, (refl, (refl, (refl, (refl, (refl, (refl, tt))))))))
+
+-- Links, as compilers write them: with BEL or `ESC \` at their ends, with and without parameters.
+abbrev links : List Row
+links =
+    gives (27 ∷ codes "]8;;file://host/src/b.c" ++ 7 ∷ codes "b.c" ++ 27 ∷ codes "]8;;" ++ 7 ∷ codes ":1:2: error: m")
+    Error (at (codes "b.c") 1 (Some 2)) (codes "m")
+    None (codes "b.c: error: m") ∷
+    gives (27 ∷ codes "[01m" ++ 27 ∷ codes "[K" ++ 27 ∷ codes "]8;;file://host/src/b.c" ++ 7 ∷ codes "b.c" ++
+    27 ∷ codes "]8;;" ++ 7 ∷ codes ":1:2:" ++ 27 ∷ codes "[m" ++ 27 ∷ codes "[K " ++ 27 ∷ codes "[01;31m" ++
+    27 ∷ codes "[Kerror: " ++ 27 ∷ codes "[m" ++ 27 ∷ codes "[Km")
+    Error (at (codes "b.c") 1 (Some 2)) (codes "m")
+    None (codes "b.c: error: m") ∷
+    gives (27 ∷ codes "]8;;file://host/src/b.c" ++ 27 ∷ codes "\\b.c" ++ 27 ∷ codes "]8;;" ++ 27 ∷ codes "\\:1:2: error: m")
+    Error (at (codes "b.c") 1 (Some 2)) (codes "m")
+    None (codes "b.c: error: m") ∷
+    gives (27 ∷ codes "]8;id=x;file://host/src/b.c" ++ 7 ∷ codes "b.c" ++ 27 ∷ codes "]8;;" ++ 7 ∷ codes ":1: warning: m")
+    Warning (at (codes "b.c") 1 None) (codes "m")
+    None (codes "b.c: warning: m") ∷
+    gives (27 ∷ codes "]8;id=x:y=z;file://host/src/b.c" ++ 27 ∷ codes "\\b.c" ++ 27 ∷ codes "]8;;" ++
+    27 ∷ codes "\\:1:2: fatal error: m")
+    FatalError (at (codes "b.c") 1 (Some 2)) (codes "m")
+    None (codes "b.c: fatal error: m") ∷
+    gives (codes "a: warning: m [" ++ 27 ∷ codes "]8;;https://gcc.gnu.org/-W;x" ++ 7 ∷ codes "-Wx" ++ 27 ∷ codes "]8;;" ++
+    27 ∷ codes "\\]")
+    Warning None (codes "m")
+    (Some (codes "-Wx")) (codes "a: warning: m [-Wx]") ∷
+    gives (codes "a: war" ++ 27 ∷ codes "]8;;" ++ 27 ∷ codes "\\ning: m")
+    Warning None (codes "m")
+    None (codes "a: warning: m") ∷
+    []
+
+these_links : AllByRecursion HasValue links
+unfolding after_prefix split_once number is_sequence sequence_len plain_after first_place place_of before_bracket
+    split_flag masked_after diagnostic_of
+these_links = (refl, (refl, (refl, (refl, (refl, (refl, (refl, tt)))))))
+
+-- What looks like the start of a link, but is none.
+abbrev others : List Row
+others =
+    gives (27 ∷ codes "]8;;file://host/src/b.c b.c:1:2: error: m")
+    Error None (codes "m")
+    None (27 ∷ codes "]8;;file: error: m") ∷
+    gives (27 ∷ codes "]8;;u" ++ 27 ∷ codes "[1m" ++ 7 ∷ codes "a: error: m")
+    Error None (codes "m")
+    None (27 ∷ codes "]8;;u" ++ 7 ∷ codes "a: error: m") ∷
+    gives (27 ∷ codes "]8;;u" ++ 27 ∷ codes "]a: error: m")
+    Error None (codes "m")
+    None (27 ∷ codes "]8;;u" ++ 27 ∷ codes "]a: error: m") ∷
+    gives (27 ∷ codes "]8;;u" ++ 7 ∷ 27 ∷ codes "]8;;u x" ++ 7 ∷ codes "a: error: m")
+    Error None (codes "m")
+    None (27 ∷ codes "]8;;u x" ++ 7 ∷ codes "a: error: m") ∷
+    gives (27 ∷ codes "]8;;" ++ 195 ∷ 169 ∷ 7 ∷ codes "a: error: m")
+    Error None (codes "m")
+    None (27 ∷ codes "]8;;" ++ 195 ∷ 169 ∷ 7 ∷ codes "a: error: m") ∷
+    gives (27 ∷ codes "]8;;" ++ 127 ∷ 7 ∷ codes "a: error: m")
+    Error None (codes "m")
+    None (27 ∷ codes "]8;;" ++ 127 ∷ 7 ∷ codes "a: error: m") ∷
+    gives (27 ∷ codes "]8;u" ++ 7 ∷ codes "a: error: m")
+    Error None (codes "m")
+    None (27 ∷ codes "]8;u" ++ 7 ∷ codes "a: error: m") ∷
+    gives (27 ∷ codes "]9;;u" ++ 7 ∷ codes "a: error: m")
+    Error None (codes "m")
+    None (27 ∷ codes "]9;;u" ++ 7 ∷ codes "a: error: m") ∷
+    gives (27 ∷ codes "]8;;u" ++ 7 ∷ codes "a: error: m" ++ 27 ∷ codes "]8;;u" ++ 27 ∷ [])
+    Error None (codes "m" ++ 27 ∷ codes "]8;;u" ++ 27 ∷ [])
+    None (codes "a: error: m" ++ 27 ∷ codes "]8;;u" ++ 27 ∷ []) ∷
+    gives (255 ∷ 27 ∷ codes "[m" ++ 195 ∷ 27 ∷ codes "]8;;" ++ 7 ∷ 169 ∷ codes ": error: m")
+    Error None (codes "m")
+    None (255 ∷ 195 ∷ 169 ∷ codes ": error: m") ∷
+    []
+
+these_others : AllByRecursion HasValue others
+unfolding after_prefix split_once number is_sequence sequence_len plain_after first_place place_of before_bracket
+    split_flag masked_after diagnostic_of
+these_others = (refl, (refl, (refl, (refl, (refl, (refl, (refl, (refl, (refl, (refl, tt))))))))))

@@ -19,7 +19,7 @@ nowhere_free byte (first ∷ bytes) none = (
   nowhere_free byte bytes (λ k low below. none (suc k) zero-le (omega (arith, below))),
 )
 
-passes_inside : (byte : ℕ) (bytes : List ℕ) (k : ℕ) → k < length bytes → Passes (is_byte byte) bytes k → HasNo byte bytes → ⊥
+pub passes_inside : (byte : ℕ) (bytes : List ℕ) (k : ℕ) → k < length bytes → Passes (is_byte byte) bytes k → HasNo byte bytes → ⊥
 passes_inside byte [] k below passes free = omega (arith, below)
 passes_inside byte (first ∷ bytes) zero below passes free = free.0 (eqb-true first byte passes)
 passes_inside byte (first ∷ bytes) (suc k) below passes free = passes_inside byte bytes k (omega (arith, below)) passes free.1

@@ -5,11 +5,9 @@ pub mod ApartLemmas
 pub mod FlagLemmas
 pub mod KeyLemmas
 mod LawRows
-pub mod LengthLemmas
 pub mod PlaceLemmas
 pub mod PlaceLaws
 pub mod PlainLemmas
 pub mod ReadLemmas
 pub mod SplitLemmas
-pub mod Stripping
 pub mod WordLemmas

@@ -1,17 +1,19 @@
 -- The first word of a plain line.
 use Rattle.std.proofs.Common.{◌≡◌, ℕ, zero, suc, ◌+◌, ◌-◌, ◌<◌, ◌≤◌, ◌==◌, Bool, true, false, cond, ◌&&◌, ◌||◌, List, [], ◌∷◌, ◌++◌, Option, None, Some, length, drop, get_or, refl, sym, ◌∙◌, ap, subst, arith, zero-le, ⊎_elim}
 use Rattle.std.specs.Prelude.{IfSome, is_some, option_map, slice_index}
-use Rattle.std.proofs.lemmas.Bool.{and_from, and_parts, cases_lt, false≢true, false_from_ne_true}
+use Rattle.std.proofs.lemmas.Bool.{and_from, and_parts, cases_lt, eq-eqb, false≢true, false_from_ne_true}
 use Rattle.std.proofs.lemmas.List.{get_or-drop, length-drop}
 use Rattle.std.proofs.lemmas.Option.{none-some, same_Some}
 use Rattle.memchr.specs.Find.{IsFirst, NoneBefore, Nowhere, OccursAt, occurs_at}
 use Rattle.memchr.proofs.lemmas.FindLemmas.{Nowhere-more}
 use Rattle.memchr.proofs.lemmas.MatchLemmas.{OccursAt-true, occurs_at-true}
-use Rattle.redo_line.specs.Record.{space}
+use Rattle.redo_line.specs.Record.{colon, space}
+use Rattle.redo_line.proofs.PartLemmas.{HasNo}
 use Rattle.redo_diagnostics.specs.declared.severity.Severity.{Severity}
 use Rattle.redo_diagnostics.specs.declared.severity.Severity.TheVariants.{Warning, Error, FatalError}
 use Rattle.redo_diagnostics.specs.Diagnostic.{first_place, is_word_at, severity_at, severity_in, word_of, word_place}
 use Rattle.redo_diagnostics.specs.Private.Words.{IsFirstOf}
+use Rattle.redo_diagnostics.proofs.FlagLemmas.{passes_inside}
 
 -- ---- the severities at a place
 
@@ -249,6 +251,27 @@ place_found plain place severity is before =
 pub place_nowhere : (plain : List ℕ) → ((place : ℕ) → severity_at plain place ≡ None) → word_place plain ≡ None
 place_nowhere plain never =
     nowhere_at (λ place. is_some (severity_at plain place)) 0 (length plain) (λ place. ap is_some (never place))
+
+-- Each word has a colon.
+colon_in : (severity : Severity) → (j : ℕ) × (j < length (word_of severity)) × (slice_index (word_of severity) j ≡ colon)
+colon_in Warning = (7, omega arith, refl)
+colon_in Error = (5, omega arith, refl)
+colon_in FatalError = (11, omega arith, refl)
+
+no_word : (plain : List ℕ) (severity : Severity) (place : ℕ) → HasNo colon plain → is_word_at plain severity place ≡ true → ⊥
+no_word plain severity place free is =
+    let occurs = word_occurs plain severity place is in
+    let last = colon_in severity in
+    passes_inside colon plain (place + last.0) (let fits = occurs.fits in omega (arith, fits, last.1))
+    (eq-eqb (slice_index plain (place + last.0)) colon (occurs.reads last.0 last.1 ∙ last.2)) free
+
+pub no_colon_no_word : (plain : List ℕ) → HasNo colon plain → word_place plain ≡ None
+no_colon_no_word plain free = place_nowhere plain (λ place. by place (severity_at plain place) refl)
+  where
+    by : (place : ℕ) (found : Option Severity) → severity_at plain place ≡ found → severity_at plain place ≡ None
+    by place None is = is
+    by place (Some severity) is =
+        absurd (no_word plain severity place free (has_word plain severity place (Warning ∷ Error ∷ FatalError ∷ []) is))
 
 -- What the first word of all severities says.
 abbrev all_severities : List Severity

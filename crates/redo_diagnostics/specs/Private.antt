@@ -1,2 +1,3 @@
 -- Definitions that only clauses of private functions cite. They help in proofs and need not be trusted.
+pub mod Runs
 pub mod Words

@@ -4,7 +4,8 @@ ghost use Rattle.redo_diagnostics.specs.Diagnostic.{diagnostic_from, diagnostic_
 use crate::flag::split_flag;
 use crate::key::key_of;
 use crate::place::place_of;
-use crate::plain::{ESCAPE, push_plain};
+use crate::plain::push_plain;
+use crate::sequence::ESCAPE;
 use crate::severity::Severity;
 use crate::text::Text;
 use crate::word::{find_word, word_of};
@@ -123,11 +124,14 @@ impl Diagnostic {
 
 /// Returns the diagnostic of a line, if it is one. The line must have no line feed, but may have any other bytes.
 ///
-/// Colours and links don't count. The only error is that an allocation failed. A line without a word and without an escape byte
-/// allocates nothing. For n bytes, this takes O(n) time.
+/// Colours and links don't count. The only error is that an allocation failed. A line without a colon, or without a word and without
+/// an escape byte, allocates nothing. For n bytes, this takes O(n) time.
 pub fn read_diagnostic(alloc: Global, line: &[u8]) -> Result<Option<Diagnostic>, AllocError>
     ensures { IfOk result (λ diagnostic. diagnostic ≡ diagnostic_of line.now) }
 {
+    if memchr(b':', line).is_none() {
+        return Ok(None);
+    }
     if memchr(ESCAPE, line).is_none() {
         return read_plain(alloc, line);
     }

@@ -19,6 +19,7 @@ mod key;
 mod laws;
 mod place;
 mod plain;
+mod sequence;
 mod severity;
 mod text;
 mod word;

@@ -3,7 +3,7 @@
 /// A line, and its severity, file, row, column, message, flag and key; `none` if it is no diagnostic.
 pub type Case = (&'static str, &'static str);
 
-pub const CHOSEN: [Case; 76] = [
+pub const CHOSEN: [Case; 92] = [
     (
         "a.c:1:10: fatal error: missing.h: No such file or directory",
         "fatal error|a.c|1|10|missing.h: No such file or directory|-|a.c: fatal error: missing.h: No such file or directory",
@@ -199,9 +199,70 @@ pub const CHOSEN: [Case; 76] = [
         "\x1b]8;;https://gcc.gnu.org/x\x07a.c\x1b]8;;\x07:1: warning: m [\x1b]8;;u\x07-W\x1b]8;;\x07]",
         "warning|a.c|1|-|m|-W|a.c: warning: m [-W]",
     ),
+    ("\x1b]8;;u\x1b\\a: error: m", "error|-|-|-|m|-|a: error: m"),
     (
-        "\x1b]8;;u\x1b\\a: error: m",
-        "error|-|-|-|m|-|\x1b]8;;u\x1b\\a: error: m",
+        "\x1b]8;;file://host/src/b.c\x07b.c\x1b]8;;\x07:1:2: error: m",
+        "error|b.c|1|2|m|-|b.c: error: m",
+    ),
+    (
+        "\x1b[01m\x1b[K\x1b]8;;file://host/src/b.c\x07b.c\x1b]8;;\x07:1:2:\x1b[m\x1b[K \x1b[01;31m\x1b[Kerror: \x1b[m\x1b[Km",
+        "error|b.c|1|2|m|-|b.c: error: m",
+    ),
+    (
+        "\x1b]8;;file://host/src/b.c\x1b\\b.c\x1b]8;;\x1b\\:1:2: error: m",
+        "error|b.c|1|2|m|-|b.c: error: m",
+    ),
+    (
+        "\x1b]8;id=x;file://host/src/b.c\x07b.c\x1b]8;;\x07:1: warning: m",
+        "warning|b.c|1|-|m|-|b.c: warning: m",
+    ),
+    (
+        "\x1b]8;id=x:y=z;file://host/src/b.c\x1b\\b.c\x1b]8;;\x1b\\:1:2: fatal error: m",
+        "fatal error|b.c|1|2|m|-|b.c: fatal error: m",
+    ),
+    (
+        "a: warning: m [\x1b]8;;https://gcc.gnu.org/-W;x\x07-Wx\x1b]8;;\x1b\\]",
+        "warning|-|-|-|m|-Wx|a: warning: m [-Wx]",
+    ),
+    (
+        "a: war\x1b]8;;\x1b\\ning: m",
+        "warning|-|-|-|m|-|a: warning: m",
+    ),
+    (
+        "\x1b]8;;file://host/src/b.c b.c:1:2: error: m",
+        "error|-|-|-|m|-|\x1b]8;;file: error: m",
+    ),
+    (
+        "\x1b]8;;u\x1b[1m\x07a: error: m",
+        "error|-|-|-|m|-|\x1b]8;;u\x07a: error: m",
+    ),
+    (
+        "\x1b]8;;u\x1b]a: error: m",
+        "error|-|-|-|m|-|\x1b]8;;u\x1b]a: error: m",
+    ),
+    (
+        "\x1b]8;;u\x07\x1b]8;;u x\x07a: error: m",
+        "error|-|-|-|m|-|\x1b]8;;u x\x07a: error: m",
+    ),
+    (
+        "\x1b]8;;é\x07a: error: m",
+        "error|-|-|-|m|-|\x1b]8;;é\x07a: error: m",
+    ),
+    (
+        "\x1b]8;;\x7f\x07a: error: m",
+        "error|-|-|-|m|-|\x1b]8;;\x7f\x07a: error: m",
+    ),
+    (
+        "\x1b]8;u\x07a: error: m",
+        "error|-|-|-|m|-|\x1b]8;u\x07a: error: m",
+    ),
+    (
+        "\x1b]9;;u\x07a: error: m",
+        "error|-|-|-|m|-|\x1b]9;;u\x07a: error: m",
+    ),
+    (
+        "\x1b]8;;u\x07a: error: m\x1b]8;;u\x1b",
+        "error|-|-|-|m\x1b]8;;u\x1b|-|a: error: m\x1b]8;;u\x1b",
     ),
     (
         "  12 |   puts(\"fatal error: x\");",

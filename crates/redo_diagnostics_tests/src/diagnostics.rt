@@ -61,7 +61,7 @@ fn add(text: &mut Vec<u8>, field: &[u8]) -> Result<(), AllocError> {
     text.extend_from_slice(field)
 }
 
-// Lines of up to a million bytes: a few bytes, again and again.
+// Lines of up to two million bytes: a colon, and a few bytes again and again.
 static REPEATED: &[(&str, bool)] = &[
     ("warning:", false),
     ("error: ", true),
@@ -71,6 +71,8 @@ static REPEATED: &[(&str, bool)] = &[
     ("\x1b[", false),
     ("\x1b[1", false),
     ("\x1b]8;;", false),
+    ("\x1b]8;;u\x07", false),
+    ("\x1b]8;id=1;u\x1b\\", false),
     ("\x1b[m", false),
     ("9", false),
     (":", false),
@@ -80,6 +82,7 @@ static REPEATED: &[(&str, bool)] = &[
 
 fn repeated(alloc: Global, part: &[u8]) -> Result<Vec<u8>, AllocError> {
     let mut line = Vec::with_capacity(alloc, 1_000_000)?;
+    line.push(b':')?;
     for _ in 0..100_000 {
         line.extend_from_slice(part)?;
     }
