@@ -9,5 +9,6 @@ pub mod PlaceLemmas
 pub mod PlaceLaws
 pub mod PlainLemmas
 pub mod ReadLemmas
+pub mod SequenceLaws
 pub mod SplitLemmas
 pub mod WordLemmas

@@ -1,5 +1,5 @@
 -- Lines with and without sequences.
-use Rattle.std.proofs.Common.{◌≡◌, ℕ, zero, suc, ◌-◌, ◌<◌, ◌≤◌, Bool, true, false, cond, List, [], ◌∷◌, ◌++◌, None, Some, length, take, drop, refl, sym, ◌∙◌, ap, arith}
+use Rattle.std.proofs.Common.{◌≡◌, ℕ, zero, suc, ◌+◌, ◌-◌, ◌<◌, ◌≤◌, Bool, true, false, cond, List, [], ◌∷◌, ◌++◌, None, Some, length, take, drop, refl, sym, ◌∙◌, ap, arith}
 use Rattle.std.proofs.lemmas.Bool.{cond-true, le-ltb, lt-ltb, ne_eqb}
 use Rattle.std.proofs.Math.Seq.{drop-append_seam}
 use Rattle.std.proofs.lemmas.List.{append-nil, length-append, take_rest}
@@ -64,6 +64,13 @@ plain-free [] others free = refl
 plain-free (byte ∷ front) others free =
     plain-by false byte (front ++ others) (no_escape byte (front ++ others) free.0)
     ∙ ap (λ (bs : List ℕ). byte ∷ bs) (plain-free front others free.1)
+
+-- A sequence at the start, and what follows it.
+pub plain-start : (others more : List ℕ) → sequence_len (escape ∷ (others ++ more)) ≡ 1 + length others
+    → plain_line (escape ∷ (others ++ more)) ≡ plain_line more
+plain-start others more is =
+    plain-by true escape (others ++ more) (begins (escape ∷ (others ++ more)) (omega (arith, is)))
+    ∙ ap (λ (n : ℕ). plain_line (drop n (others ++ more))) (omega (arith, is)) ∙ ap plain_line (drop-append_seam others more)
 
 plain-nil : plain_line [] ≡ []
 unfolding plain_after

@@ -1,6 +1,7 @@
 -- Definitions that state the laws about diagnostics.
-use Rattle.std.specs.Prelude.{◌≡◌, ◌≢◌, ℕ, List, [], ◌∷◌, ◌++◌, Option, None, Some}
-use Rattle.std.specs.List.{AllByRecursion}
+use Rattle.std.specs.Prelude.{◌≡◌, ◌≢◌, ◌⊎◌, ℕ, true, List, [], ◌∷◌, ◌++◌, Option, None, Some}
+use Rattle.std.specs.List.{AllByRecursion, list_all}
+use Rattle.redo_html.specs.Symbols.{is_parameter}
 use Rattle.redo_line.specs.Decimal.{AreDigits}
 use Rattle.redo_line.specs.Record.{colon, space}
 use Rattle.redo_diagnostics.specs.declared.severity.Severity.{Severity}
@@ -20,6 +21,14 @@ pub record IsAt (file : List ℕ) (severity : Severity) (message line : List ℕ
   pub column_digits : (digits : List ℕ) → column ≡ Some digits → AreDigits max_digits digits
   pub file_no_colon : AllByRecursion (λ byte. byte ≢ colon) file
   pub whole : plain_line line ≡ written_place file row column ++ word_of severity ++ space ∷ message
+
+-- A colour: `ESC [`, digits and semicolons, and `m` or `K`.
+pub record IsColour (colour : List ℕ) : Type 0 where
+  pub parameters : List ℕ
+  pub end : ℕ
+  pub are_parameters : list_all is_parameter parameters ≡ true
+  pub ends : (end ≡ 109) ⊎ (end ≡ 75)
+  pub whole : colour ≡ 27 ∷ 91 ∷ parameters ++ end ∷ []
 
 -- Whether both name the same file or program, and have the same word and the same text after it, except the random parts of names.
 pub record SaySame (one other : PartsValue) : Type 0 where

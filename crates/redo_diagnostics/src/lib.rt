@@ -5,6 +5,8 @@
 //!
 //! # Design
 //!
+//! - Colours and links are the sequences that `redo_html` defines. So the bytes that count are those that a page shows. A link without
+//!   an end is none, and counts.
 //! - Each word is searched in the whole line, and the first one that is found counts. The definition tests each place.
 //! - A key always has a colon and a space after its origin, even if the origin is empty: `warning: x` has the key `: warning: x`.
 //!   Otherwise `warning:y warning: z` and `warning: warning: z` would have the same key.
@@ -26,5 +28,7 @@ mod word;
 
 pub use counts::KeyCounts;
 pub use diagnostic::{Diagnostic, Place, read_diagnostic};
-pub use laws::{ids_are_distinct, keys_ignore_places, keys_tell_apart};
+pub use laws::{
+    colours_and_links_say_nothing, ids_are_distinct, keys_ignore_places, keys_tell_apart,
+};
 pub use severity::Severity;

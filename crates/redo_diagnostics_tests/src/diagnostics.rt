@@ -61,7 +61,7 @@ fn add(text: &mut Vec<u8>, field: &[u8]) -> Result<(), AllocError> {
     text.extend_from_slice(field)
 }
 
-// Lines of up to two million bytes: a colon, and a few bytes again and again.
+// Lines of up to two million bytes: a colon and a space, and then a few bytes again and again.
 static REPEATED: &[(&str, bool)] = &[
     ("warning:", false),
     ("error: ", true),
@@ -82,7 +82,7 @@ static REPEATED: &[(&str, bool)] = &[
 
 fn repeated(alloc: Global, part: &[u8]) -> Result<Vec<u8>, AllocError> {
     let mut line = Vec::with_capacity(alloc, 1_000_000)?;
-    line.push(b':')?;
+    line.extend_from_slice(b": ")?;
     for _ in 0..100_000 {
         line.extend_from_slice(part)?;
     }
