@@ -2,6 +2,7 @@
 use Rattle.std.proofs.Common.{◌≡◌, ℕ, ◌+◌, Bool, true, false, cond, List, [], ◌∷◌, ◌++◌, length, slice_index, refl, sym, ◌∙◌, ap, arith, ⊎_elim}
 use Rattle.std.specs.Prelude.{◌==◌, ◌||◌, ◌&&◌, nat_lt, option_map}
 use Rattle.std.specs.List.{list_all, list_any, prefix_len}
+use Rattle.std.proofs.Math.Bool.{or-true}
 use Rattle.std.proofs.lemmas.Bool.{and_parts}
 use Rattle.std.proofs.lemmas.List.{append_assoc, get_or-append-add, length-append, take_at}
 use Rattle.std.proofs.lemmas.List.Folds.{list_any-append}
@@ -111,11 +112,8 @@ link_gone link more is =
     text = is.parameters ++ 59 ∷ is.url
 
     semicolon : list_any (λ byte. byte == 59) text ≡ true
-    semicolon = list_any-append (λ byte. byte == 59) is.parameters (59 ∷ is.url) ∙ either (list_any (λ byte. byte == 59) is.parameters)
-      where
-        either : (b : Bool) → (b || true) ≡ true
-        either true = refl
-        either false = refl
+    semicolon =
+        list_any-append (λ byte. byte == 59) is.parameters (59 ∷ is.url) ∙ or-true (list_any (λ byte. byte == 59) is.parameters)
 
     sized : (end : List ℕ) → is.end ≡ end → sequence_len (start (text ++ (end ++ more))) ≡ 4 + length text + length end
         → sequence_len (start (text ++ (is.end ++ more))) ≡ 1 + length (93 ∷ 56 ∷ 59 ∷ (text ++ is.end))
