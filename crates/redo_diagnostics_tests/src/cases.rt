@@ -3,7 +3,7 @@
 /// A line, and its severity, file, row, column, message, flag and key; `none` if it is no diagnostic.
 pub type Case = (&'static str, &'static str);
 
-pub const CHOSEN: [Case; 92] = [
+pub const CHOSEN: [Case; 75] = [
     (
         "a.c:1:10: fatal error: missing.h: No such file or directory",
         "fatal error|a.c|1|10|missing.h: No such file or directory|-|a.c: fatal error: missing.h: No such file or directory",
@@ -199,6 +199,37 @@ pub const CHOSEN: [Case; 92] = [
         "\x1b]8;;https://gcc.gnu.org/x\x07a.c\x1b]8;;\x07:1: warning: m [\x1b]8;;u\x07-W\x1b]8;;\x07]",
         "warning|a.c|1|-|m|-W|a.c: warning: m [-W]",
     ),
+    (
+        "  12 |   puts(\"fatal error: x\");",
+        "error|-|-|-|x\");|-|: error: x\");",
+    ),
+    ("[ 3%] warning: m", "warning|-|-|-|m|-|: warning: m"),
+    (
+        "a: error: /tmp/cc123456.o/tmp/ccabcdef.o",
+        "error|-|-|-|/tmp/cc123456.o/tmp/ccabcdef.o|-|a: error: /tmp/cc*.o/tmp/cc*.o",
+    ),
+    (
+        "a: error: /cc/ccaaaaaa.",
+        "error|-|-|-|/cc/ccaaaaaa.|-|a: error: /cc/cc*.",
+    ),
+    (
+        "/tmp/cc123456.o: error: m",
+        "error|-|-|-|m|-|/tmp/cc*.o: error: m",
+    ),
+    ("::1: error: m", "error|-|-|-|m|-|: error: m"),
+    ("a:1:2:3: error: m", "error|-|-|-|m|-|a: error: m"),
+    ("a:1:2:error: m", "none"),
+    ("a:1:  error: m", "error|-|-|-|m|-|a: error: m"),
+    ("a:12: error:", "error|a|12|-||-|a: error:"),
+    (
+        "x:1: error: [b] [c",
+        "error|x|1|-|[b] [c|-|x: error: [b] [c",
+    ),
+    ("\x1b[m\x1b[Kerror: a", "error|-|-|-|a|-|: error: a"),
+];
+
+/// Lines with links, and with what looks like a link.
+pub const LINKED: [Case; 17] = [
     ("\x1b]8;;u\x1b\\a: error: m", "error|-|-|-|m|-|a: error: m"),
     (
         "\x1b]8;;file://host/src/b.c\x07b.c\x1b]8;;\x07:1:2: error: m",
@@ -264,31 +295,4 @@ pub const CHOSEN: [Case; 92] = [
         "\x1b]8;;u\x07a: error: m\x1b]8;;u\x1b",
         "error|-|-|-|m\x1b]8;;u\x1b|-|a: error: m\x1b]8;;u\x1b",
     ),
-    (
-        "  12 |   puts(\"fatal error: x\");",
-        "error|-|-|-|x\");|-|: error: x\");",
-    ),
-    ("[ 3%] warning: m", "warning|-|-|-|m|-|: warning: m"),
-    (
-        "a: error: /tmp/cc123456.o/tmp/ccabcdef.o",
-        "error|-|-|-|/tmp/cc123456.o/tmp/ccabcdef.o|-|a: error: /tmp/cc*.o/tmp/cc*.o",
-    ),
-    (
-        "a: error: /cc/ccaaaaaa.",
-        "error|-|-|-|/cc/ccaaaaaa.|-|a: error: /cc/cc*.",
-    ),
-    (
-        "/tmp/cc123456.o: error: m",
-        "error|-|-|-|m|-|/tmp/cc*.o: error: m",
-    ),
-    ("::1: error: m", "error|-|-|-|m|-|: error: m"),
-    ("a:1:2:3: error: m", "error|-|-|-|m|-|a: error: m"),
-    ("a:1:2:error: m", "none"),
-    ("a:1:  error: m", "error|-|-|-|m|-|a: error: m"),
-    ("a:12: error:", "error|a|12|-||-|a: error:"),
-    (
-        "x:1: error: [b] [c",
-        "error|x|1|-|[b] [c|-|x: error: [b] [c",
-    ),
-    ("\x1b[m\x1b[Kerror: a", "error|-|-|-|a|-|: error: a"),
 ];

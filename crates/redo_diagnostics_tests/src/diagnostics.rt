@@ -1,19 +1,23 @@
 //! The diagnostics of single lines, and of hostile ones.
-use crate::cases::{CHOSEN, Case};
+use crate::cases::{CHOSEN, Case, LINKED};
 use redo_diagnostics::{Diagnostic, KeyCounts, Severity, read_diagnostic};
 use redo_line::HashKeys;
 use std::alloc::{AllocError, Global};
 use std::process::Abort;
 use std::test::Fail;
 
-// A static, because a constant is written out wherever it is named.
+// Statics, because a constant is written out wherever it is named.
 static OF_CHOSEN: &[Case] = &CHOSEN;
+
+static OF_LINKED: &[Case] = &LINKED;
 
 #[test]
 fn diagnostics_of_chosen_lines(rt: HostRuntime) -> Result<(), Fail> {
-    for (line, want) in OF_CHOSEN {
-        let text = told(rt.alloc(), line.as_bytes())?;
-        assert_eq!(rt; text.as_slice(), want.as_bytes(), "{line}");
+    for cases in &[OF_CHOSEN, OF_LINKED] {
+        for (line, want) in *cases {
+            let text = told(rt.alloc(), line.as_bytes())?;
+            assert_eq!(rt; text.as_slice(), want.as_bytes(), "{line}");
+        }
     }
     Ok(())
 }
