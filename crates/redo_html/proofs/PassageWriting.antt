@@ -17,17 +17,17 @@ module _ (before : Option Output) (kind : TextKind) (look : Look) (bytes highlig
   start : WroteUpTo before before (html_from kind look bytes) (highlights ++ (part ++ rest))
   start = begin_parts before (html_from kind look bytes) (highlights ++ (part ++ rest)) step
 
-  pub highlights_failed : (after : Option Output) (broken : Broken) (done : Result (Look × ℕ) Broken) → IsErr done
-      → Writes before after highlights (Err broken) → WroteSomeOrFailed before after kind look bytes done
-  highlights_failed after broken done failed wrote =
-      some_failed before after kind look bytes broken done failed
+  pub highlights_failed : (after : Option Output) (broken : Broken) (next : Look) (done : Result ℕ Broken) → IsErr done
+      → Writes before after highlights (Err broken) → WroteSomeOrFailed before after kind look bytes next done
+  highlights_failed after broken next done failed wrote =
+      some_failed before after kind look bytes broken next done failed
       (failed_part before before after (html_from kind look bytes) highlights (part ++ rest) broken (Err broken) refl start wrote)
 
-  pub part_failed : (middle after : Option Output) (broken : Broken) (done : Result (Look × ℕ) Broken) → IsErr done
+  pub part_failed : (middle after : Option Output) (broken : Broken) (next : Look) (done : Result ℕ Broken) → IsErr done
       → middle ≡ append_output before highlights 0 → Writes middle after part (Err broken)
-      → WroteSomeOrFailed before after kind look bytes done
-  part_failed middle after broken done failed written wrote =
-      some_failed before after kind look bytes broken done failed
+      → WroteSomeOrFailed before after kind look bytes next done
+  part_failed middle after broken next done failed written wrote =
+      some_failed before after kind look bytes broken next done failed
       (failed_part before middle after (html_from kind look bytes) part rest broken (Err broken) refl
       (wrote_more before before middle (html_from kind look bytes) highlights (part ++ rest) start written) wrote)
 

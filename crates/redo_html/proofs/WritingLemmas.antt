@@ -71,11 +71,11 @@ failed_part before middle after text part rest broken done failed so_far wrote =
     (append_assoc so_far.prefix part rest ∙ so_far.splits)
 
 -- A write of some of a passage failed.
-pub some_failed : (before after : Option Output) (kind : TextKind) (look : Look) (bytes : List ℕ) (broken : Broken)
-    (done : Result (Look × ℕ) Broken) → IsErr done → Writes before after (html_from kind look bytes) (Err broken)
-    → WroteSomeOrFailed before after kind look bytes done
-some_failed before after kind look bytes broken (Ok step) failed wrote = absurd (cc)
-some_failed before after kind look bytes broken (Err other) failed wrote = wrote
+pub some_failed : (before after : Option Output) (kind : TextKind) (look : Look) (bytes : List ℕ) (broken : Broken) (next : Look)
+    (done : Result ℕ Broken) → IsErr done → Writes before after (html_from kind look bytes) (Err broken)
+    → WroteSomeOrFailed before after kind look bytes next done
+some_failed before after kind look bytes broken next (Ok count) failed wrote = absurd (cc)
+some_failed before after kind look bytes broken next (Err other) failed wrote = wrote
 
 pub passage_failed : (before after : Option Output) (kind : TextKind) (style : Style) (bytes : List ℕ) (broken : Broken)
     (done : Result Style Broken) → IsErr done → Writes before after (passage_html kind style bytes) (Err broken)

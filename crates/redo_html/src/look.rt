@@ -1,6 +1,6 @@
 //! Which highlights are open in a passage.
 ghost use Rattle.std.specs.Prelude.{◌≡◌};
-ghost use Rattle.redo_html.specs.Passage.{start_look, after_code_point, with_wanted};
+ghost use Rattle.redo_html.specs.Passage.{start_look, after_code_point};
 
 use crate::style::Style;
 
@@ -24,24 +24,10 @@ pub fn at_start(style: Style) -> Look
     }
 }
 
-/// Returns the look after a code point.
-pub fn with_code_point(look: Look, unprintable: bool) -> Look
-    ensures { result ≡ after_code_point look unprintable }
+/// Sets the look to the one after a code point.
+pub fn pass_code_point(look: &mut Look, unprintable: bool)
+    ensures { look.new ≡ after_code_point look.old unprintable }
 {
-    Look {
-        wanted: look.wanted,
-        current: look.wanted,
-        unprintable,
-    }
-}
-
-/// Returns the look with another style for the next code point.
-pub fn with_style(look: Look, style: Style) -> Look
-    ensures { result ≡ with_wanted look style }
-{
-    Look {
-        wanted: style,
-        current: look.current,
-        unprintable: look.unprintable,
-    }
+    look.current = look.wanted;
+    look.unprintable = unprintable;
 }

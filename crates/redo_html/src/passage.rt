@@ -12,7 +12,7 @@ ghost use Rattle.redo_html.specs.Symbols.{first_symbol, has_colours, symbol_len}
 ghost use Rattle.redo_html.specs.Symbols.Symbol.{CodePoint};
 ghost use Rattle.redo_html.specs.Private.Writing.{WrotePassage, WroteSomeOrFailed, IsRepeated, IsVerbatim, SkipsSequences, optional_highlight};
 
-use crate::look::{Look, at_start, with_code_point, with_style};
+use crate::look::{Look, at_start, pass_code_point};
 use crate::notation::write_unprintable;
 use crate::style::{Hue, Style, after_sequence, after_sequences, has_own_element, is_same};
 use crate::symbol::{ESCAPE, is_log, is_unprintable_code_point, symbol_at, verbatim_len};
@@ -61,45 +61,59 @@ pub fn write_passage<W: Sink>(
     let mut look = at_start(style);
     let mut done = 0;
     while done < bytes.len() {
-        let (next, len) = write_some(kind, look, &bytes[done..], out)?;
-        look = next;
-        done += len;
+        done += write_some(kind, &mut look, &bytes[done..], out)?;
     }
-    write_end(kind, look, out)?;
+    write_end(kind, &look, out)?;
     Ok(look.wanted)
 }
 
-// Writes the start of the rest of a passage, which isn't empty. Returns the look after it, and the number of its bytes.
+// Writes the start of the rest of a passage, which isn't empty. Returns the number of its bytes, and sets the look to the one after it.
+#[inline(always)]
 fn write_some<W: Sink>(
     kind: TextKind,
-    look: Look,
+    look: &mut Look,
     bytes: &[u8],
     out: &mut W,
-) -> Result<(Look, usize), Broken>
+) -> Result<usize, Broken>
     requires { 0 < length bytes.now }
-    ensures { WroteSomeOrFailed (W.written out.old) (W.written out.new) kind look bytes.now result }
+    ensures { WroteSomeOrFailed (W.written out.old) (W.written out.new) kind look.old bytes.now look.new result }
+{
+    if bytes[0] == ESCAPE && is_log(kind) {
+        let (style, len) = after_sequences(look.wanted, bytes);
+        if len > 0 {
+            look.wanted = style;
+            return Ok(len);
+        }
+    }
+    let verbatim = verbatim_len(bytes);
+    if verbatim > 0 {
+        return write_verbatim(kind, look, bytes, verbatim, out);
+    }
+    write_symbol(kind, look, bytes, out)
+}
+
+// Writes the first symbol of the rest of a passage, and all of a run of unprintable code points.
+#[inline(never)]
+fn write_symbol<W: Sink>(
+    kind: TextKind,
+    look: &mut Look,
+    bytes: &[u8],
+    out: &mut W,
+) -> Result<usize, Broken>
+    requires { 0 < length bytes.now }
+    ensures { WroteSomeOrFailed (W.written out.old) (W.written out.new) kind look.old bytes.now look.new result }
 {
     let first = bytes[0];
     if has_reference(first) {
         return write_visible(kind, look, u32::from(first), bytes, 1, out);
     }
-    if first != ESCAPE {
-        let verbatim = verbatim_len(bytes);
-        if verbatim > 0 {
-            return write_verbatim(kind, look, bytes, verbatim, out);
-        }
-    } else if is_log(kind) {
-        let (style, len) = after_sequences(look.wanted, bytes);
-        if len > 0 {
-            return write_after_sequences(kind, look, style, bytes, len, out);
-        }
-    }
     let (symbol, len) = symbol_at(kind, bytes);
     match symbol {
-        None => Ok((
-            with_style(look, after_sequence(look.wanted, bytes, len)),
-            len,
-        )),
+        None => {
+            let style = after_sequence(look.wanted, bytes, len);
+            look.wanted = style;
+            Ok(len)
+        }
         Some(code_point) => {
             if is_unprintable_code_point(code_point) {
                 write_unprintable_run(kind, look, code_point, bytes, out)
@@ -108,31 +122,6 @@ fn write_some<W: Sink>(
             }
         }
     }
-}
-
-// Writes code points that are written as they are, if the `len` bytes of sequences at the start are before some. `style` is the style
-// after the sequences.
-fn write_after_sequences<W: Sink>(
-    kind: TextKind,
-    look: Look,
-    style: Style,
-    bytes: &[u8],
-    len: usize,
-    out: &mut W,
-) -> Result<(Look, usize), Broken>
-    requires some { 0 < len }
-    requires log { has_colours kind ≡ true }
-    requires skipped { SkipsSequences look.wanted bytes.now style len }
-    ensures { WroteSomeOrFailed (W.written out.old) (W.written out.new) kind look bytes.now result }
-{
-    let next = with_style(look, style);
-    let rest = &bytes[len..];
-    let verbatim = verbatim_len(rest);
-    if verbatim == 0 {
-        return Ok((next, len));
-    }
-    let (last, more) = write_verbatim(kind, next, rest, verbatim, out)?;
-    Ok((last, len + more))
 }
 
 // Returns whether a byte is one of the three that are written as references.
@@ -145,57 +134,60 @@ fn has_reference(byte: u8) -> bool
 // Writes code points that are written as they are.
 fn write_verbatim<W: Sink>(
     kind: TextKind,
-    look: Look,
+    look: &mut Look,
     bytes: &[u8],
     len: usize,
     out: &mut W,
-) -> Result<(Look, usize), Broken>
+) -> Result<usize, Broken>
     requires some { 0 < len }
     requires verbatim { IsVerbatim bytes.now len }
-    ensures { WroteSomeOrFailed (W.written out.old) (W.written out.new) kind look bytes.now result }
+    ensures { WroteSomeOrFailed (W.written out.old) (W.written out.new) kind look.old bytes.now look.new result }
 {
     write_highlights(kind, look, false, out)?;
     push_all(out, &bytes[..len])?;
-    Ok((with_code_point(look, false), len))
+    pass_code_point(look, false);
+    Ok(len)
 }
 
 // Writes a code point that is not unprintable.
 fn write_visible<W: Sink>(
     kind: TextKind,
-    look: Look,
+    look: &mut Look,
     code_point: u32,
     bytes: &[u8],
     len: usize,
     out: &mut W,
-) -> Result<(Look, usize), Broken>
+) -> Result<usize, Broken>
     requires some { 0 < length bytes.now }
     requires code_point { first_symbol kind bytes.now ≡ CodePoint code_point }
     requires visible { is_unprintable code_point ≡ false }
     requires len { len ≡ symbol_len kind bytes.now }
-    ensures { WroteSomeOrFailed (W.written out.old) (W.written out.new) kind look bytes.now result }
+    ensures { WroteSomeOrFailed (W.written out.old) (W.written out.new) kind look.old bytes.now look.new result }
 {
     write_highlights(kind, look, false, out)?;
     write_code_point(code_point, &bytes[..len], out)?;
-    Ok((with_code_point(look, false), len))
+    pass_code_point(look, false);
+    Ok(len)
 }
 
 // Writes the unprintable code point at the start, as often as it occurs in a row.
 fn write_unprintable_run<W: Sink>(
     kind: TextKind,
-    look: Look,
+    look: &mut Look,
     code_point: u32,
     bytes: &[u8],
     out: &mut W,
-) -> Result<(Look, usize), Broken>
+) -> Result<usize, Broken>
     requires some { 0 < length bytes.now }
     requires code_point { first_symbol kind bytes.now ≡ CodePoint code_point }
     requires unprintable { is_unprintable code_point ≡ true }
-    ensures { WroteSomeOrFailed (W.written out.old) (W.written out.new) kind look bytes.now result }
+    ensures { WroteSomeOrFailed (W.written out.old) (W.written out.new) kind look.old bytes.now look.new result }
 {
     let (count, len) = repeats(kind, code_point, bytes);
     write_highlights(kind, look, true, out)?;
     write_unprintable(code_point, count, out)?;
-    Ok((with_code_point(look, true), len))
+    pass_code_point(look, true);
+    Ok(len)
 }
 
 // Returns how often the code point at the start occurs in a row, and the number of bytes of all of them.
@@ -246,11 +238,11 @@ fn write_code_point<W: Sink>(code_point: u32, bytes: &[u8], out: &mut W) -> Resu
 #[inline(always)]
 fn write_highlights<W: Sink>(
     kind: TextKind,
-    look: Look,
+    look: &Look,
     unprintable: bool,
     out: &mut W,
 ) -> Result<(), Broken>
-    ensures { Writes (W.written out.old) (W.written out.new) (flat_map (inline_html kind) (highlights_between look unprintable)) result }
+    ensures { Writes (W.written out.old) (W.written out.new) (flat_map (inline_html kind) (highlights_between look.now unprintable)) result }
 {
     if !unprintable && !look.unprintable {
         if is_same(look.wanted, look.current) {
@@ -262,10 +254,10 @@ fn write_highlights<W: Sink>(
 }
 
 // Writes the highlights between two visible code points with different styles.
-fn write_style_change<W: Sink>(kind: TextKind, look: Look, out: &mut W) -> Result<(), Broken>
-    requires visible { look.unprintable ≡ false }
-    requires changes { is_same_style look.wanted look.current ≡ false }
-    ensures { Writes (W.written out.old) (W.written out.new) (flat_map (inline_html kind) (highlights_between look false)) result }
+fn write_style_change<W: Sink>(kind: TextKind, look: &Look, out: &mut W) -> Result<(), Broken>
+    requires visible { look.now.unprintable ≡ false }
+    requires changes { is_same_style look.now.wanted look.now.current ≡ false }
+    ensures { Writes (W.written out.old) (W.written out.new) (flat_map (inline_html kind) (highlights_between look.now false)) result }
 {
     let ends = has_own_element(look.current);
     let starts = has_own_element(look.wanted);
@@ -278,11 +270,11 @@ fn write_style_change<W: Sink>(kind: TextKind, look: Look, out: &mut W) -> Resul
 // Writes the highlights before a code point, if there are any.
 fn write_changed_highlights<W: Sink>(
     kind: TextKind,
-    look: Look,
+    look: &Look,
     unprintable: bool,
     out: &mut W,
 ) -> Result<(), Broken>
-    ensures { Writes (W.written out.old) (W.written out.new) (flat_map (inline_html kind) (highlights_between look unprintable)) result }
+    ensures { Writes (W.written out.old) (W.written out.new) (flat_map (inline_html kind) (highlights_between look.now unprintable)) result }
 {
     let unprintable_ends = ends_unprintable(look, unprintable);
     let style_ends = ends_style(look);
@@ -297,34 +289,34 @@ fn write_changed_highlights<W: Sink>(
 }
 
 // Returns whether the highlight for unprintable code points ends before a code point.
-fn ends_unprintable(look: Look, unprintable: bool) -> bool
-    ensures { result ≡ (look.unprintable && not (is_same_style look.wanted look.current && unprintable)) }
+fn ends_unprintable(look: &Look, unprintable: bool) -> bool
+    ensures { result ≡ (look.now.unprintable && not (is_same_style look.now.wanted look.now.current && unprintable)) }
 {
     look.unprintable && !(is_same(look.wanted, look.current) && unprintable)
 }
 
-fn starts_unprintable(look: Look, unprintable: bool) -> bool
-    ensures { result ≡ (unprintable && not (is_same_style look.wanted look.current && look.unprintable)) }
+fn starts_unprintable(look: &Look, unprintable: bool) -> bool
+    ensures { result ≡ (unprintable && not (is_same_style look.now.wanted look.now.current && look.now.unprintable)) }
 {
     unprintable && !(is_same(look.wanted, look.current) && look.unprintable)
 }
 
 // Returns whether the highlight of the open style ends before the next code point.
-fn ends_style(look: Look) -> bool
-    ensures { result ≡ (not (is_same_style look.wanted look.current) && has_element look.current) }
+fn ends_style(look: &Look) -> bool
+    ensures { result ≡ (not (is_same_style look.now.wanted look.now.current) && has_element look.now.current) }
 {
     !is_same(look.wanted, look.current) && has_own_element(look.current)
 }
 
-fn starts_style(look: Look) -> bool
-    ensures { result ≡ (not (is_same_style look.wanted look.current) && has_element look.wanted) }
+fn starts_style(look: &Look) -> bool
+    ensures { result ≡ (not (is_same_style look.now.wanted look.now.current) && has_element look.now.wanted) }
 {
     !is_same(look.wanted, look.current) && has_own_element(look.wanted)
 }
 
 // Writes the highlights at the end of a passage.
-fn write_end<W: Sink>(kind: TextKind, look: Look, out: &mut W) -> Result<(), Broken>
-    ensures { Writes (W.written out.old) (W.written out.new) (html_from kind look []) result }
+fn write_end<W: Sink>(kind: TextKind, look: &Look, out: &mut W) -> Result<(), Broken>
+    ensures { Writes (W.written out.old) (W.written out.new) (html_from kind look.now []) result }
 {
     let style_ends = has_own_element(look.current);
     let end_tag = style_end_tag(look.current);

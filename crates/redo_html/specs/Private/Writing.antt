@@ -37,9 +37,9 @@ pub record WroteSome (before after : Option Output) (kind : TextKind) (look : Lo
   pub style : style_in kind next.wanted (drop count bytes) ≡ style_in kind look.wanted bytes
 
 -- Some of a passage was written, or a write failed.
-abbrev pub WroteSomeOrFailed : Option Output → Option Output → TextKind → Look → List ℕ → Result (Look × ℕ) Broken → Type 0
-WroteSomeOrFailed before after kind look bytes (Ok step) = WroteSome before after kind look bytes step.0 step.1
-WroteSomeOrFailed before after kind look bytes (Err broken) = Writes before after (html_from kind look bytes) (Err broken)
+abbrev pub WroteSomeOrFailed : Option Output → Option Output → TextKind → Look → List ℕ → Look → Result ℕ Broken → Type 0
+WroteSomeOrFailed before after kind look bytes next (Ok count) = WroteSome before after kind look bytes next count
+WroteSomeOrFailed before after kind look bytes next (Err broken) = Writes before after (html_from kind look bytes) (Err broken)
 
 -- A passage was written, and at its end the style is `last`, or a write failed.
 abbrev pub WrotePassage : Option Output → Option Output → TextKind → Style → List ℕ → Result Style Broken → Type 0

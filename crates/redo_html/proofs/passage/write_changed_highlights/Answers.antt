@@ -8,12 +8,12 @@ use Rattle.redo_html.proofs.passage.write_changed_highlights.Goals as goal
 
 pub returns-in_err-write_highlight : goal.returns-in_err-write_highlight
 returns-in_err-write_highlight g c =
-    first_failed _ (flat_map (inline_html c.args.kind) (highlights_between c.args.look c.args.unprintable))
+    first_failed _ (flat_map (inline_html c.args.kind) (highlights_between c.args.look.now c.args.unprintable))
     (optional_highlight c.args.kind c.ends_unprintable-unprintable_ends.result (codes "</i>"))
     (optional_highlight c.args.kind c.ends_style-style_ends.result c.style_end_tag-end_tag.result.now)
     (optional_highlight c.args.kind c.starts_style-style_starts.result c.style_start_tag-start_tag.result.now)
     (optional_highlight c.args.kind c.starts_unprintable-unprintable_starts.result (codes "<i>"))
-    (highlights_written c.args.kind c.args.look c.args.unprintable c.ends_unprintable-unprintable_ends.result c.ends_style-style_ends.result
+    (highlights_written c.args.kind c.args.look.now c.args.unprintable c.ends_unprintable-unprintable_ends.result c.ends_style-style_ends.result
     c.starts_style-style_starts.result c.starts_unprintable-unprintable_starts.result c.style_end_tag-end_tag.result.now
     c.style_start_tag-start_tag.result.now
     c.ends_unprintable-unprintable_ends.ensures c.ends_style-style_ends.ensures c.starts_style-style_starts.ensures
@@ -22,12 +22,12 @@ returns-in_err-write_highlight g c =
 
 pub returns-in_err-write_highlight-2 : goal.returns-in_err-write_highlight-2
 returns-in_err-write_highlight-2 g c =
-    second_failed _ (flat_map (inline_html c.args.kind) (highlights_between c.args.look c.args.unprintable))
+    second_failed _ (flat_map (inline_html c.args.kind) (highlights_between c.args.look.now c.args.unprintable))
     (optional_highlight c.args.kind c.ends_unprintable-unprintable_ends.result (codes "</i>"))
     (optional_highlight c.args.kind c.ends_style-style_ends.result c.style_end_tag-end_tag.result.now)
     (optional_highlight c.args.kind c.starts_style-style_starts.result c.style_start_tag-start_tag.result.now)
     (optional_highlight c.args.kind c.starts_unprintable-unprintable_starts.result (codes "<i>"))
-    (highlights_written c.args.kind c.args.look c.args.unprintable c.ends_unprintable-unprintable_ends.result c.ends_style-style_ends.result
+    (highlights_written c.args.kind c.args.look.now c.args.unprintable c.ends_unprintable-unprintable_ends.result c.ends_style-style_ends.result
     c.starts_style-style_starts.result c.starts_unprintable-unprintable_starts.result c.style_end_tag-end_tag.result.now
     c.style_start_tag-start_tag.result.now
     c.ends_unprintable-unprintable_ends.ensures c.ends_style-style_ends.ensures c.starts_style-style_starts.ensures
@@ -36,12 +36,12 @@ returns-in_err-write_highlight-2 g c =
 
 pub returns-in_err-write_highlight-3 : goal.returns-in_err-write_highlight-3
 returns-in_err-write_highlight-3 g c =
-    third_failed _ (flat_map (inline_html c.args.kind) (highlights_between c.args.look c.args.unprintable))
+    third_failed _ (flat_map (inline_html c.args.kind) (highlights_between c.args.look.now c.args.unprintable))
     (optional_highlight c.args.kind c.ends_unprintable-unprintable_ends.result (codes "</i>"))
     (optional_highlight c.args.kind c.ends_style-style_ends.result c.style_end_tag-end_tag.result.now)
     (optional_highlight c.args.kind c.starts_style-style_starts.result c.style_start_tag-start_tag.result.now)
     (optional_highlight c.args.kind c.starts_unprintable-unprintable_starts.result (codes "<i>"))
-    (highlights_written c.args.kind c.args.look c.args.unprintable c.ends_unprintable-unprintable_ends.result c.ends_style-style_ends.result
+    (highlights_written c.args.kind c.args.look.now c.args.unprintable c.ends_unprintable-unprintable_ends.result c.ends_style-style_ends.result
     c.starts_style-style_starts.result c.starts_unprintable-unprintable_starts.result c.style_end_tag-end_tag.result.now
     c.style_start_tag-start_tag.result.now
     c.ends_unprintable-unprintable_ends.ensures c.ends_style-style_ends.ensures c.starts_style-style_starts.ensures
@@ -51,12 +51,12 @@ returns-in_err-write_highlight-3 g c =
 
 pub returns : goal.returns
 returns g c =
-    fourth_done _ (flat_map (inline_html c.args.kind) (highlights_between c.args.look c.args.unprintable))
+    fourth_done _ (flat_map (inline_html c.args.kind) (highlights_between c.args.look.now c.args.unprintable))
     (optional_highlight c.args.kind c.ends_unprintable-unprintable_ends.result (codes "</i>"))
     (optional_highlight c.args.kind c.ends_style-style_ends.result c.style_end_tag-end_tag.result.now)
     (optional_highlight c.args.kind c.starts_style-style_starts.result c.style_start_tag-start_tag.result.now)
     (optional_highlight c.args.kind c.starts_unprintable-unprintable_starts.result (codes "<i>"))
-    (highlights_written c.args.kind c.args.look c.args.unprintable c.ends_unprintable-unprintable_ends.result c.ends_style-style_ends.result
+    (highlights_written c.args.kind c.args.look.now c.args.unprintable c.ends_unprintable-unprintable_ends.result c.ends_style-style_ends.result
     c.starts_style-style_starts.result c.starts_unprintable-unprintable_starts.result c.style_end_tag-end_tag.result.now
     c.style_start_tag-start_tag.result.now
     c.ends_unprintable-unprintable_ends.ensures c.ends_style-style_ends.ensures c.starts_style-style_starts.ensures

@@ -8,16 +8,16 @@ use Rattle.redo_html.proofs.passage.write_end.Goals as goal
 
 pub returns-in_err-write_highlight : goal.returns-in_err-write_highlight
 returns-in_err-write_highlight g c =
-    at_first _ (html_from c.args.kind c.args.look []) _ (optional_highlight c.args.kind c.args.look.unprintable (codes "</i>"))
+    at_first _ (html_from c.args.kind c.args.look.now []) _ (optional_highlight c.args.kind c.args.look.now.unprintable (codes "</i>"))
     (optional_highlight c.args.kind c.has_own_element-style_ends.result c.style_end_tag-end_tag.result.now) _ _ c.from_residual.ensures.0
     c.in_err-write_highlight.ensures
-    (end_written c.args.kind c.args.look c.has_own_element-style_ends.result c.style_end_tag-end_tag.result.now
+    (end_written c.args.kind c.args.look.now c.has_own_element-style_ends.result c.style_end_tag-end_tag.result.now
     c.has_own_element-style_ends.ensures c.style_end_tag-end_tag.ensures)
 
 pub returns : goal.returns
 returns g c =
-    at_last _ (html_from c.args.kind c.args.look []) _ _ (optional_highlight c.args.kind c.args.look.unprintable (codes "</i>"))
+    at_last _ (html_from c.args.kind c.args.look.now []) _ _ (optional_highlight c.args.kind c.args.look.now.unprintable (codes "</i>"))
     (optional_highlight c.args.kind c.has_own_element-style_ends.result c.style_end_tag-end_tag.result.now) _
     c.in_ok-write_highlight.ensures c.write_highlight-2.ensures
-    (end_written c.args.kind c.args.look c.has_own_element-style_ends.result c.style_end_tag-end_tag.result.now
+    (end_written c.args.kind c.args.look.now c.has_own_element-style_ends.result c.style_end_tag-end_tag.result.now
     c.has_own_element-style_ends.ensures c.style_end_tag-end_tag.ensures)

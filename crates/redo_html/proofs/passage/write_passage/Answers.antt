@@ -1,6 +1,7 @@
 use Rattle.std.proofs.Common.{◌≤◌, ℕ, List, [], Ok, Err, length, drop, ap, sym, ◌∙◌, subst, arith}
 use Rattle.std.proofs.lemmas.List.{take_rest, length-drop, drop-drop, drop_all}
 use Rattle.redo_device.specs.Sink.{Writes}
+use Rattle.redo_html.specs.declared.look.Look.{Look}
 use Rattle.redo_html.specs.Passage.{passage_html, html_from}
 use Rattle.redo_html.specs.Private.Writing.{WroteUpTo, WroteSome, style_in}
 use Rattle.redo_html.proofs.WritingLemmas.{begin_parts, wrote_on, wrote_rest, passage_failed}
@@ -14,18 +15,18 @@ loop-done-init g c = record {
   style_left = ap (λ look. style_in c.args.kind look.wanted c.args.bytes.now) c.at_start-look.ensures;
 }
 
-pub returns-in_err-next : goal.returns-in_err-next
-returns-in_err-next g c =
+pub returns-in_err-done : goal.returns-in_err-done
+returns-in_err-done g c =
     let bytes = c.args.bytes.now in
     let done = c.loop-done.done in
     let middle = g.W.Sink.written c.loop-done.out in
     let after = g.W.Sink.written c.write_some.new.out in
-    let wrote : Writes middle after (html_from c.args.kind c.loop-done.look (drop done bytes)) (Err c.in_err-next.field-0.0) =
-    subst (λ (rest : List ℕ). Writes middle after (html_from c.args.kind c.loop-done.look rest) (Err c.in_err-next.field-0.0))
-    (take_rest bytes done) c.in_err-next.ensures in
-    passage_failed _ _ c.args.kind c.args.style bytes c.in_err-next.field-0.0 _ c.from_residual.ensures.0
+    let wrote : Writes middle after (html_from c.args.kind c.loop-done.look (drop done bytes)) (Err c.in_err-done.field-0.0) =
+    subst (λ (rest : List ℕ). Writes middle after (html_from c.args.kind c.loop-done.look rest) (Err c.in_err-done.field-0.0))
+    (take_rest bytes done) c.in_err-done.ensures in
+    passage_failed _ _ c.args.kind c.args.style bytes c.in_err-done.field-0.0 _ c.from_residual.ensures.0
     (wrote_rest _ middle after (passage_html c.args.kind c.args.style bytes) (html_from c.args.kind c.loop-done.look (drop done bytes))
-    (Err c.in_err-next.field-0.0) c.loop-done.invariant.wrote wrote)
+    (Err c.in_err-done.field-0.0) c.loop-done.invariant.wrote wrote)
 
 pub loop-done-preserved : goal.loop-done-preserved
 loop-done-preserved g c =
@@ -34,17 +35,19 @@ loop-done-preserved g c =
     let done = c.loop-done.done in
     let middle = g.W.Sink.written c.loop-done.out in
     let after = g.W.Sink.written c.write_some.new.out in
-    let some : WroteSome middle after c.args.kind c.loop-done.look (drop done bytes) c.in_ok-next.next c.in_ok-next.len =
-    subst (λ (rest : List ℕ). WroteSome middle after c.args.kind c.loop-done.look rest c.in_ok-next.next c.in_ok-next.len)
-    (take_rest bytes done) c.in_ok-next.ensures in
+    let next : Look = c.write_some.new.look in
+    let len : ℕ = c.in_ok-done.field-0 in
+    let some : WroteSome middle after c.args.kind c.loop-done.look (drop done bytes) next len =
+    subst (λ (rest : List ℕ). WroteSome middle after c.args.kind c.loop-done.look rest next len)
+    (take_rest bytes done) c.in_ok-done.ensures in
     let within = some.within in
     let rest = length-drop done bytes in
     record {
       within = omega arith;
       wrote = subst (λ (left : List ℕ). WroteUpTo before after (passage_html c.args.kind c.args.style bytes)
-          (html_from c.args.kind c.in_ok-next.next left)) (drop-drop c.in_ok-next.len done bytes)
+          (html_from c.args.kind next left)) (drop-drop len done bytes)
           (wrote_on before middle after _ _ _ c.loop-done.invariant.wrote some.wrote);
-      style_left = ap (style_in c.args.kind c.in_ok-next.next.wanted) (sym (drop-drop c.in_ok-next.len done bytes)) ∙ some.style
+      style_left = ap (style_in c.args.kind next.wanted) (sym (drop-drop len done bytes)) ∙ some.style
           ∙ c.loop-done.invariant.style_left;
     }
 

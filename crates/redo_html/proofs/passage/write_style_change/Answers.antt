@@ -12,7 +12,7 @@ use Rattle.redo_html.proofs.passage.write_style_change.Goals as goal
 pub returns : goal.returns
 returns g c =
     let kind = c.args.kind in
-    let look = c.args.look in
+    let look = c.args.look.now in
     let ends = c.has_own_element-ends.result in
     let starts = c.has_own_element-starts.result in
     let end_tag = c.style_end_tag-end_tag.result.now in

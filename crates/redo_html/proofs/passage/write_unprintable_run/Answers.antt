@@ -11,32 +11,32 @@ pub returns-in_err-write_highlights : goal.returns-in_err-write_highlights
 returns-in_err-write_highlights g c =
     let bytes = c.args.bytes.now in
     let kind = c.args.kind in
-    let look = c.args.look in
+    let look = c.args.look.now in
     let found = c.repeats-count.result in
     highlights_failed _ kind look bytes (flat_map (inline_html kind) (highlights_between look true))
     (unprintable_text c.args.code_point found.0) true found.1
-    (unprintable_written kind look bytes c.args.code_point found.0 found.1 c.requires.unprintable c.repeats-count.ensures) _ _ _
+    (unprintable_written kind look bytes c.args.code_point found.0 found.1 c.requires.unprintable c.repeats-count.ensures) _ _ _ _
     c.from_residual.ensures.0 c.in_err-write_highlights.ensures
 
 pub returns-in_err-write_unprintable : goal.returns-in_err-write_unprintable
 returns-in_err-write_unprintable g c =
     let bytes = c.args.bytes.now in
     let kind = c.args.kind in
-    let look = c.args.look in
+    let look = c.args.look.now in
     let found = c.repeats-count.result in
     part_failed _ kind look bytes (flat_map (inline_html kind) (highlights_between look true))
     (unprintable_text c.args.code_point found.0) true found.1
-    (unprintable_written kind look bytes c.args.code_point found.0 found.1 c.requires.unprintable c.repeats-count.ensures) _ _ _ _
+    (unprintable_written kind look bytes c.args.code_point found.0 found.1 c.requires.unprintable c.repeats-count.ensures) _ _ _ _ _
     c.from_residual-in_err-write_unprintable.ensures.0 c.in_ok-write_highlights.ensures c.in_err-write_unprintable.ensures
 
 pub returns : goal.returns
 returns g c =
     let bytes = c.args.bytes.now in
     let kind = c.args.kind in
-    let look = c.args.look in
+    let look = c.args.look.now in
     let found = c.repeats-count.result in
     both_written _ kind look bytes (flat_map (inline_html kind) (highlights_between look true))
     (unprintable_text c.args.code_point found.0) true found.1
     (unprintable_written kind look bytes c.args.code_point found.0 found.1 c.requires.unprintable c.repeats-count.ensures)
-    _ _ _ c.with_code_point.ensures (repeated_style kind look.wanted bytes c.args.code_point found.0 found.1 c.repeats-count.ensures)
+    _ _ _ c.pass_code_point.ensures (repeated_style kind look.wanted bytes c.args.code_point found.0 found.1 c.repeats-count.ensures)
     c.repeats-count.ensures.bytes_taken c.repeats-count.ensures.within c.in_ok-write_highlights.ensures c.in_ok-write_unprintable.ensures

@@ -21,27 +21,27 @@ pub returns-in_err-write_highlights : goal.returns-in_err-write_highlights
 returns-in_err-write_highlights g c =
     let bytes = c.args.bytes.now in
     let kind = c.args.kind in
-    let look = c.args.look in
+    let look = c.args.look.now in
     highlights_failed _ kind look bytes (flat_map (inline_html kind) (highlights_between look false))
     (escaped (encode_utf8 c.args.code_point)) false (symbol_len kind bytes)
-    (visible_step kind look bytes c.args.code_point c.requires.some c.requires.code_point c.requires.visible) _ _ _
+    (visible_step kind look bytes c.args.code_point c.requires.some c.requires.code_point c.requires.visible) _ _ _ _
     c.from_residual.ensures.0 c.in_err-write_highlights.ensures
 
 pub returns-in_err-write_code_point : goal.returns-in_err-write_code_point
 returns-in_err-write_code_point g c =
     let bytes = c.args.bytes.now in
     let kind = c.args.kind in
-    let look = c.args.look in
+    let look = c.args.look.now in
     part_failed _ kind look bytes (flat_map (inline_html kind) (highlights_between look false))
     (escaped (encode_utf8 c.args.code_point)) false (symbol_len kind bytes)
-    (visible_step kind look bytes c.args.code_point c.requires.some c.requires.code_point c.requires.visible) _ _ _ _
+    (visible_step kind look bytes c.args.code_point c.requires.some c.requires.code_point c.requires.visible) _ _ _ _ _
     c.from_residual-in_err-write_code_point.ensures.0 c.in_ok-write_highlights.ensures c.in_err-write_code_point.ensures
 
 pub returns : goal.returns
 returns g c =
     let bytes = c.args.bytes.now in
     let kind = c.args.kind in
-    let look = c.args.look in
+    let look = c.args.look.now in
     let bounds = symbol_bounds kind bytes c.requires.some in
     let len_is = sym c.requires.len in
     let some = subst (λ (n : ℕ). 0 < n) len_is bounds.0 in
@@ -51,7 +51,7 @@ returns g c =
     (ap (λ (n : ℕ). flat_map (inline_html kind) (highlights_between look false)
     ++ (escaped (encode_utf8 c.args.code_point) ++ html_from kind (after_code_point look false) (drop n bytes))) c.requires.len
     ∙ visible_step kind look bytes c.args.code_point c.requires.some c.requires.code_point c.requires.visible)
-    _ _ _ c.with_code_point.ensures (ap (λ (n : ℕ). style_in kind look.wanted (drop n bytes)) c.requires.len
+    _ _ _ c.pass_code_point.ensures (ap (λ (n : ℕ). style_in kind look.wanted (drop n bytes)) c.requires.len
     ∙ code_point_style kind look.wanted bytes c.requires.some c.args.code_point c.requires.code_point) some within
     c.in_ok-write_highlights.ensures c.in_ok-write_code_point.ensures
 
