@@ -1,6 +1,6 @@
 -- Lemmas about the HTML of a passage: one step for each kind of symbol, and the end.
-use Rattle.std.proofs.Common.{◌≡◌, ℕ, zero, suc, ◌<◌, Bool, true, false, List, [], ◌∷◌, ◌++◌, length, drop, refl, sym, ◌∙◌, ap, arith}
-use Rattle.std.specs.Prelude.{◌&&◌, not, codes, encode_utf8, if◌then◌else◌}
+use Rattle.std.proofs.Common.{◌≡◌, ℕ, zero, suc, ◌<◌, Bool, true, false, List, [], ◌∷◌, ◌++◌, length, drop, slice_index, refl, sym, ◌∙◌, ap, arith}
+use Rattle.std.specs.Prelude.{◌==◌, ◌||◌, ◌&&◌, not, codes, encode_utf8, if◌then◌else◌}
 use Rattle.std.specs.List.{flat_map, list_all}
 use Rattle.std.proofs.lemmas.Bool.{and_parts, cond-true, cond-false, eq-eqb}
 use Rattle.std.proofs.lemmas.List.{append_assoc, append-nil}
@@ -8,7 +8,7 @@ use Rattle.std.proofs.lemmas.List.Concat.{flat_map-append}
 use Rattle.redo_html.specs.declared.text_kind.TextKind.{TextKind}
 use Rattle.redo_html.specs.declared.look.Look.{Look}
 use Rattle.redo_html.specs.declared.style.Style.{Style}
-use Rattle.redo_html.specs.Passage.{Inline, escaped, highlight_text, highlight_html, inline_html, has_element, style_start, style_end, hue_number, same_bool, is_same_style, highlight_if, highlights_between, after_code_point, with_wanted, inlines_from, html_from}
+use Rattle.redo_html.specs.Passage.{Inline, escaped, escaped_byte, highlight_text, highlight_html, inline_html, has_element, style_start, style_end, hue_number, same_bool, is_same_style, highlight_if, highlights_between, after_code_point, with_wanted, inlines_from, html_from}
 use Rattle.redo_html.specs.Passage.Inline.{UnprintableStart, UnprintableEnd, StyleStart, StyleEnd, Text}
 use Rattle.redo_html.specs.Laws.{is_plain}
 use Rattle.redo_html.specs.Shown.{Run, is_unprintable, unprintable_text, code_points_text, run_text, runs_of, shown_text}
@@ -18,7 +18,7 @@ use Rattle.redo_html.specs.Symbols.{Symbol, first_symbol, symbol_len, symbols}
 use Rattle.redo_html.specs.Symbols.Symbol.{CodePoint, Sequence}
 use Rattle.redo_html.specs.Private.Writing.{IsRepeated, optional_highlight}
 use Rattle.redo_html.proofs.TextReading.{safe_escaped, unprintable_safe}
-use Rattle.redo_html.proofs.SymbolLemmas.{symbols-nil, symbols-step, plain_symbol, plain_visible, plain_encoded, visible_run, unprintable_run}
+use Rattle.redo_html.proofs.SymbolLemmas.{symbols-nil, symbols-step, plain_symbol, plain_visible, plain_encoded, reference_encoded, reference_symbol, visible_run, unprintable_run}
 
 -- ---- highlights
 
@@ -128,6 +128,19 @@ visible_step kind look bytes code_point some first visible =
     ∙ ap (λ (rs : List Run). flat_map (inline_html kind) (inlines_from look rs)) (sym (visible_run code_point (runs_of rest) visible))
     ∙ ap (λ (ss : List Symbol). flat_map (inline_html kind) (inlines_from look (runs_of ss)))
     (sym (symbols-step kind bytes some ∙ ap (λ (s : Symbol). s ∷ rest) first))
+
+pub reference_step : (kind : TextKind) (look : Look) (bytes : List ℕ) → 0 < length bytes
+    → (slice_index bytes 0 == 38 || slice_index bytes 0 == 60 || slice_index bytes 0 == 62) ≡ true
+    → highlights kind look false ++ (escaped_byte (slice_index bytes 0) ++ html_from kind (after_code_point look false) (drop 1 bytes))
+    ≡ html_from kind look bytes
+reference_step kind look bytes some is =
+    let first = slice_index bytes 0 in
+    let found = reference_symbol kind bytes some is in
+    let after = after_code_point look false in
+    ap (λ (t : List ℕ). highlights kind look false ++ (t ++ html_from kind after (drop 1 bytes)))
+    (sym (append-nil (escaped_byte first)) ∙ ap escaped (sym (reference_encoded first is)))
+    ∙ ap (λ (n : ℕ). highlights kind look false ++ (escaped (encode_utf8 first) ++ html_from kind after (drop n bytes))) (sym found.1)
+    ∙ visible_step kind look bytes first some found.0 found.2
 
 pub unprintable_step : (kind : TextKind) (look : Look) (bytes : List ℕ) (code_point count len : ℕ) → is_unprintable code_point ≡ true
     → IsRepeated kind code_point bytes count len

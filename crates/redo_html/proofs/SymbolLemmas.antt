@@ -246,6 +246,10 @@ reference_symbol kind (byte ∷ bytes) some is =
     let symbol = ascii_symbol kind byte bytes (let below = reference_below byte is in omega arith) (not-true (byte == 27) facts.0) in
     (symbol.0, symbol.1, not-true (is_unprintable byte) facts.1)
 
+pub reference_encoded : (byte : ℕ) → (byte == 38 || byte == 60 || byte == 62) ≡ true → encode_utf8 byte ≡ byte ∷ []
+unfolding encode_utf8
+reference_encoded byte is = let below = reference_below byte is in cond-true _ _ _ (lt-ltb byte 128 (omega arith))
+
 pub plain_encoded : (byte : ℕ) → is_plain byte ≡ true → encode_utf8 byte ≡ byte ∷ []
 unfolding encode_utf8
 plain_encoded byte plain = let below = plain_below byte plain in cond-true _ _ _ (lt-ltb byte 128 (omega arith))

@@ -1,9 +1,9 @@
 //! Passages of text: writes what they show, with highlights for unprintable code points and for styles.
-ghost use Rattle.std.specs.Prelude.{◌≡◌, ◌≤◌, ◌<◌, ◌==◌, ◌||◌, ◌↔◌, ◌∷◌, ◌++◌, ◌&&◌, not, [], true, false, IsTrue, Some, length, take, encode_utf8};
+ghost use Rattle.std.specs.Prelude.{◌≡◌, ◌≤◌, ◌<◌, ◌==◌, ◌||◌, ◌↔◌, ◌∷◌, ◌++◌, ◌&&◌, not, [], true, false, IsTrue, Some, length, take, slice_index, encode_utf8};
 ghost use Rattle.std.specs.List.{flat_map, list_all};
 ghost use Rattle.redo_device.specs.Sink.{Writes};
 ghost use Rattle.redo_html.specs.declared.text_kind.TextKind.TheVariants as text_kind;
-ghost use Rattle.redo_html.specs.Passage.{escaped, has_element, is_same_style, highlight_text, has_highlights, inline_html, highlights_between, passage_html, html_from};
+ghost use Rattle.redo_html.specs.Passage.{escaped, escaped_byte, has_element, is_same_style, highlight_text, has_highlights, inline_html, highlights_between, passage_html, html_from};
 ghost use Rattle.redo_html.specs.Passage.Inline.{StyleStart, StyleEnd};
 ghost use Rattle.redo_html.specs.Laws.{is_plain};
 ghost use Rattle.redo_html.specs.Style.{plain_style};
@@ -78,12 +78,16 @@ fn write_some<W: Sink>(
     requires { 0 < length bytes.now }
     ensures { WroteSomeOrFailed (W.written out.old) (W.written out.new) kind look.old bytes.now look.new result }
 {
-    if bytes[0] == ESCAPE && is_log(kind) {
+    let first = bytes[0];
+    if first == ESCAPE && is_log(kind) {
         let (style, len) = after_sequences(look.wanted, bytes);
         if len > 0 {
             look.wanted = style;
             return Ok(len);
         }
+    }
+    if has_reference(first) {
+        return write_reference(kind, look, first, bytes, out);
     }
     let verbatim = verbatim_len(bytes);
     if verbatim > 0 {
@@ -103,10 +107,6 @@ fn write_symbol<W: Sink>(
     requires { 0 < length bytes.now }
     ensures { WroteSomeOrFailed (W.written out.old) (W.written out.new) kind look.old bytes.now look.new result }
 {
-    let first = bytes[0];
-    if has_reference(first) {
-        return write_visible(kind, look, u32::from(first), bytes, 1, out);
-    }
     let (symbol, len) = symbol_at(kind, bytes);
     match symbol {
         None => {
@@ -129,6 +129,39 @@ fn has_reference(byte: u8) -> bool
     ensures { result ≡ (byte == 38 || byte == 60 || byte == 62) }
 {
     byte == b'&' || byte == b'<' || byte == b'>'
+}
+
+// Writes a byte that is written as a reference.
+#[inline(always)]
+fn write_reference<W: Sink>(
+    kind: TextKind,
+    look: &mut Look,
+    first: u8,
+    bytes: &[u8],
+    out: &mut W,
+) -> Result<usize, Broken>
+    requires some { 0 < length bytes.now }
+    requires first { first ≡ slice_index bytes.now 0 }
+    requires reference { (first == 38 || first == 60 || first == 62) ≡ true }
+    ensures { WroteSomeOrFailed (W.written out.old) (W.written out.new) kind look.old bytes.now look.new result }
+{
+    write_highlights(kind, look, false, out)?;
+    push_all(out, reference(first))?;
+    pass_code_point(look, false);
+    Ok(1)
+}
+
+fn reference(byte: u8) -> &'static [u8]
+    requires { (byte == 38 || byte == 60 || byte == 62) ≡ true }
+    ensures { result.now ≡ escaped_byte byte }
+{
+    if byte == b'&' {
+        b"&amp;"
+    } else if byte == b'<' {
+        b"&lt;"
+    } else {
+        b"&gt;"
+    }
 }
 
 // Writes code points that are written as they are.
@@ -259,12 +292,34 @@ fn write_style_change<W: Sink>(kind: TextKind, look: &Look, out: &mut W) -> Resu
     requires changes { is_same_style look.now.wanted look.now.current ≡ false }
     ensures { Writes (W.written out.old) (W.written out.new) (flat_map (inline_html kind) (highlights_between look.now false)) result }
 {
-    let ends = has_own_element(look.current);
-    let starts = has_own_element(look.wanted);
-    let end_tag = style_end_tag(look.current);
-    let start_tag = style_start_tag(look.wanted);
-    write_highlight(kind, ends, end_tag, out)?;
-    write_highlight(kind, starts, start_tag, out)
+    write_style_end(kind, look.current, out)?;
+    write_style_start(kind, look.wanted, out)
+}
+
+// Writes the end of the highlight of a style, if it has one.
+#[inline(always)]
+fn write_style_end<W: Sink>(kind: TextKind, style: Style, out: &mut W) -> Result<(), Broken>
+    ensures { Writes (W.written out.old) (W.written out.new)
+        (optional_highlight kind (has_element style) (60 ∷ (highlight_text (StyleEnd style) ++ 62 ∷ []))) result }
+{
+    if has_own_element(style) && shows_highlights(kind) {
+        push_all(out, style_end_tag(style))
+    } else {
+        Ok(())
+    }
+}
+
+// Writes the start of the highlight of a style, if it has one.
+#[inline(always)]
+fn write_style_start<W: Sink>(kind: TextKind, style: Style, out: &mut W) -> Result<(), Broken>
+    ensures { Writes (W.written out.old) (W.written out.new)
+        (optional_highlight kind (has_element style) (60 ∷ (highlight_text (StyleStart style) ++ 62 ∷ []))) result }
+{
+    if has_own_element(style) && shows_highlights(kind) {
+        push_all(out, style_start_tag(style))
+    } else {
+        Ok(())
+    }
 }
 
 // Writes the highlights before a code point, if there are any.
@@ -318,10 +373,9 @@ fn starts_style(look: &Look) -> bool
 fn write_end<W: Sink>(kind: TextKind, look: &Look, out: &mut W) -> Result<(), Broken>
     ensures { Writes (W.written out.old) (W.written out.new) (html_from kind look.now []) result }
 {
-    let style_ends = has_own_element(look.current);
-    let end_tag = style_end_tag(look.current);
+    let style = look.current;
     write_highlight(kind, look.unprintable, b"</i>", out)?;
-    write_highlight(kind, style_ends, end_tag, out)
+    write_style_end(kind, style, out)
 }
 
 fn write_highlight<W: Sink>(

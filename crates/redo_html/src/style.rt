@@ -1,11 +1,11 @@
 //! The styles that compilers set.
-ghost use Rattle.std.specs.Prelude.{◌≡◌, ◌≤◌, length, slice_index};
+ghost use Rattle.std.specs.Prelude.{◌≡◌, ◌≤◌, ◌∷◌, ◌&&◌, ℕ, List, true, nat_le, length, slice_index};
 ghost use Rattle.redo_html.specs.Passage.{hue_number, is_same_style, has_element};
 ghost use Rattle.redo_html.specs.Style.{digit_hue, attribute_added, setting_after, restyled};
 ghost use Rattle.redo_html.specs.Symbols.{sequence_numbers, numbers_from};
 ghost use Rattle.redo_html.specs.Private.Writing.{IsSequence, ReadsParameter, ReadsSequence, SkipsSequences};
 
-use crate::symbol::{is_parameter_byte, sequence_size};
+use crate::symbol::sequence_size;
 
 /// A hue. `Plain` is the colour of the page's text.
 #[derive(Clone, Copy, Debug, PartialEq, Eq)]
@@ -118,18 +118,36 @@ fn read_parameters(style: Style, bytes: &[u8]) -> (Style, usize)
     let mut value = 0;
     let parameters = &bytes[2..];
     for (at, byte) in parameters.iter().enumerate() {
-        if *byte == b'm' {
+        if is_digit(*byte) {
+            value = after_digit(value, *byte);
+        } else if *byte == b';' {
+            setting = after_number(setting, value);
+            value = 0;
+        } else if *byte == b'm' {
             return (after_number(setting, value).style, at + 3);
-        }
-        if *byte == b'K' {
+        } else if *byte == b'K' {
             return (style, at + 3);
-        }
-        if !is_parameter_byte(*byte) {
+        } else {
             return (style, 0);
         }
-        (setting, value) = after_byte(setting, value, *byte);
     }
     (style, 0)
+}
+
+fn is_digit(byte: u8) -> bool
+    ensures { result ≡ (nat_le 48 byte && nat_le byte 57) }
+{
+    b'0' <= byte && byte <= b'9'
+}
+
+// Returns the value of digits after one more.
+fn after_digit(value: u32, byte: u8) -> u32
+    requires value { value ≤ 999 }
+    requires digit { (nat_le 48 byte && nat_le byte 57) ≡ true }
+    ensures bound { result ≤ 999 }
+    ensures same { (rest : List ℕ) → numbers_from value (byte ∷ rest) ≡ numbers_from result rest }
+{
+    (10 * value + u32::from(byte - 48)).min(999)
 }
 
 /// Returns the style after the sequence at the start of `bytes`, which has `len` bytes.

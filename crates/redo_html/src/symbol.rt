@@ -380,8 +380,8 @@ fn parameters_len(bytes: &[u8]) -> usize
     bytes.len()
 }
 
-/// Returns whether a byte may be in the parameters of a sequence.
-pub fn is_parameter_byte(byte: u8) -> bool
+// Returns whether a byte may be in the parameters of a sequence.
+fn is_parameter_byte(byte: u8) -> bool
     ensures { result ≡ is_parameter byte }
 {
     (b'0' <= byte && byte <= b'9') || byte == b';'

@@ -38,18 +38,3 @@ returns-in-None g c =
           ∙ ap (λ (n : ℕ). style_in kind (restyled look.wanted (sequence_numbers bytes)) (drop n bytes)) c.symbol_at-symbol.ensures.len
           ∙ sequence_style kind look.wanted bytes c.requires (sequence_numbers bytes) found.0;
     }
-
--- One of the three bytes with references.
-pub write_visible-requires-clause-code_point : goal.write_visible-requires-clause-code_point
-write_visible-requires-clause-code_point g c =
-    (reference_symbol c.args.kind c.args.bytes.now c.requires (sym c.has_reference.ensures ∙ c.if-has_reference.true)).0
-    ∙ ap CodePoint (sym c.from.ensures)
-
-pub write_visible-requires-clause-visible : goal.write_visible-requires-clause-visible
-write_visible-requires-clause-visible g c =
-    ap is_unprintable c.from.ensures
-    ∙ (reference_symbol c.args.kind c.args.bytes.now c.requires (sym c.has_reference.ensures ∙ c.if-has_reference.true)).2
-
-pub write_visible-requires-clause-len : goal.write_visible-requires-clause-len
-write_visible-requires-clause-len g c =
-    sym (reference_symbol c.args.kind c.args.bytes.now c.requires (sym c.has_reference.ensures ∙ c.if-has_reference.true)).1
