@@ -287,6 +287,7 @@ fn write_highlights<W: Sink>(
 }
 
 // Writes the highlights between two visible code points with different styles.
+#[inline(always)]
 fn write_style_change<W: Sink>(kind: TextKind, look: &Look, out: &mut W) -> Result<(), Broken>
     requires visible { look.now.unprintable ≡ false }
     requires changes { is_same_style look.now.wanted look.now.current ≡ false }

@@ -190,6 +190,7 @@ fn after_byte(setting: Setting, value: u32, byte: u8) -> (Setting, u32)
     }
 }
 
+#[inline(always)]
 fn after_number(setting: Setting, number: u32) -> Setting
     ensures { result ≡ setting_after setting number }
 {
