@@ -275,7 +275,8 @@ fn write_highlights<W: Sink>(
     unprintable: bool,
     out: &mut W,
 ) -> Result<(), Broken>
-    ensures { Writes (W.written out.old) (W.written out.new) (flat_map (inline_html kind) (highlights_between look.now unprintable)) result }
+    ensures { Writes (W.written out.old) (W.written out.new)
+        (flat_map (inline_html kind) (highlights_between look.now unprintable)) result }
 {
     if !unprintable && !look.unprintable {
         if is_same(look.wanted, look.current) {
@@ -330,7 +331,8 @@ fn write_changed_highlights<W: Sink>(
     unprintable: bool,
     out: &mut W,
 ) -> Result<(), Broken>
-    ensures { Writes (W.written out.old) (W.written out.new) (flat_map (inline_html kind) (highlights_between look.now unprintable)) result }
+    ensures { Writes (W.written out.old) (W.written out.new)
+        (flat_map (inline_html kind) (highlights_between look.now unprintable)) result }
 {
     let unprintable_ends = ends_unprintable(look, unprintable);
     let style_ends = ends_style(look);

@@ -13,7 +13,8 @@ returns-in_err-write_highlight g c =
     (optional_highlight c.args.kind c.ends_style-style_ends.result c.style_end_tag-end_tag.result.now)
     (optional_highlight c.args.kind c.starts_style-style_starts.result c.style_start_tag-start_tag.result.now)
     (optional_highlight c.args.kind c.starts_unprintable-unprintable_starts.result (codes "<i>"))
-    (highlights_written c.args.kind c.args.look.now c.args.unprintable c.ends_unprintable-unprintable_ends.result c.ends_style-style_ends.result
+    (highlights_written c.args.kind c.args.look.now c.args.unprintable c.ends_unprintable-unprintable_ends.result
+    c.ends_style-style_ends.result
     c.starts_style-style_starts.result c.starts_unprintable-unprintable_starts.result c.style_end_tag-end_tag.result.now
     c.style_start_tag-start_tag.result.now
     c.ends_unprintable-unprintable_ends.ensures c.ends_style-style_ends.ensures c.starts_style-style_starts.ensures
@@ -27,7 +28,8 @@ returns-in_err-write_highlight-2 g c =
     (optional_highlight c.args.kind c.ends_style-style_ends.result c.style_end_tag-end_tag.result.now)
     (optional_highlight c.args.kind c.starts_style-style_starts.result c.style_start_tag-start_tag.result.now)
     (optional_highlight c.args.kind c.starts_unprintable-unprintable_starts.result (codes "<i>"))
-    (highlights_written c.args.kind c.args.look.now c.args.unprintable c.ends_unprintable-unprintable_ends.result c.ends_style-style_ends.result
+    (highlights_written c.args.kind c.args.look.now c.args.unprintable c.ends_unprintable-unprintable_ends.result
+    c.ends_style-style_ends.result
     c.starts_style-style_starts.result c.starts_unprintable-unprintable_starts.result c.style_end_tag-end_tag.result.now
     c.style_start_tag-start_tag.result.now
     c.ends_unprintable-unprintable_ends.ensures c.ends_style-style_ends.ensures c.starts_style-style_starts.ensures
@@ -41,7 +43,8 @@ returns-in_err-write_highlight-3 g c =
     (optional_highlight c.args.kind c.ends_style-style_ends.result c.style_end_tag-end_tag.result.now)
     (optional_highlight c.args.kind c.starts_style-style_starts.result c.style_start_tag-start_tag.result.now)
     (optional_highlight c.args.kind c.starts_unprintable-unprintable_starts.result (codes "<i>"))
-    (highlights_written c.args.kind c.args.look.now c.args.unprintable c.ends_unprintable-unprintable_ends.result c.ends_style-style_ends.result
+    (highlights_written c.args.kind c.args.look.now c.args.unprintable c.ends_unprintable-unprintable_ends.result
+    c.ends_style-style_ends.result
     c.starts_style-style_starts.result c.starts_unprintable-unprintable_starts.result c.style_end_tag-end_tag.result.now
     c.style_start_tag-start_tag.result.now
     c.ends_unprintable-unprintable_ends.ensures c.ends_style-style_ends.ensures c.starts_style-style_starts.ensures
@@ -56,7 +59,8 @@ returns g c =
     (optional_highlight c.args.kind c.ends_style-style_ends.result c.style_end_tag-end_tag.result.now)
     (optional_highlight c.args.kind c.starts_style-style_starts.result c.style_start_tag-start_tag.result.now)
     (optional_highlight c.args.kind c.starts_unprintable-unprintable_starts.result (codes "<i>"))
-    (highlights_written c.args.kind c.args.look.now c.args.unprintable c.ends_unprintable-unprintable_ends.result c.ends_style-style_ends.result
+    (highlights_written c.args.kind c.args.look.now c.args.unprintable c.ends_unprintable-unprintable_ends.result
+    c.ends_style-style_ends.result
     c.starts_style-style_starts.result c.starts_unprintable-unprintable_starts.result c.style_end_tag-end_tag.result.now
     c.style_start_tag-start_tag.result.now
     c.ends_unprintable-unprintable_ends.ensures c.ends_style-style_ends.ensures c.starts_style-style_starts.ensures

@@ -21,7 +21,8 @@ loop-at-preserved c =
     let setting = c.loop-at.setting in
     let inside : at < length parameters = c.loop-at-test.true in
     let byte = slice_index parameters at in
-    let count : is_parameter byte ≡ true → prefix_len is_parameter parameters ≡ (at + 1) + prefix_len is_parameter (drop (at + 1) parameters) =
+    let count : is_parameter byte ≡ true
+    → prefix_len is_parameter parameters ≡ (at + 1) + prefix_len is_parameter (drop (at + 1) parameters) =
     λ is. c.loop-at.invariant.count
     ∙ ap (λ (n : ℕ). at + n) (prefix_len-drop_yes is_parameter parameters at 0 inside is) ∙ omega arith in
     let same : (rest : List ℕ) → fold setting_after setting (numbers_from c.loop-at.value (byte ∷ rest))
