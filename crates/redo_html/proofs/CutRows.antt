@@ -2,7 +2,7 @@
 use Rattle.std.proofs.Common.{◌≡◌, ℕ, true, false, [], List, ◌∷◌, ◌++◌, refl}
 use Rattle.std.specs.Prelude.{◌==◌, codes, Bool, map}
 use Rattle.redo_html.specs.Cut.{begins_at, last_where, may_cut}
-use Rattle.redo_html.specs.Symbols.{first_code_point, code_point_len, sequence_len, is_sequence, symbol_len}
+use Rattle.redo_html.specs.Symbols.{code_point_len, sequence_len, is_sequence, symbol_len}
 
 abbrev esc : ℕ
 esc = 27

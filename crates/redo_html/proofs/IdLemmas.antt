@@ -1,11 +1,10 @@
 -- The ids of elements.
-use Rattle.std.proofs.Common.{◌≡◌, ◌≢◌, ℕ, ◌<◌, ◌^◌, true, List, [], ◌∷◌, ◌++◌, decimal, refl, sym, ap, ◌∙◌, arith}
-use Rattle.std.specs.Prelude.{◌==◌, ◌||◌, nat_lt, not, if◌then◌else◌}
+use Rattle.std.proofs.Common.{◌≡◌, ℕ, ◌<◌, true, List, [], ◌∷◌, ◌++◌, decimal, refl, sym, ap, ◌∙◌, arith}
+use Rattle.std.specs.Prelude.{◌==◌, ◌||◌, not, if◌then◌else◌}
 use Rattle.std.specs.List.{list_all}
 use Rattle.std.proofs.lemmas.Bool.{and_parts, lt-ltb, not-true, or_parts}
 use Rattle.std.proofs.lemmas.Fmt.{decimal_injective}
-use Rattle.redo_html.specs.declared.markup.Markup.TheVariants.{Article, TargetItem}
-use Rattle.redo_html.specs.Laws.{HasOwnId, id_of, until_quote}
+use Rattle.redo_html.specs.Laws.{HasOwnId, until_quote}
 use Rattle.redo_html.specs.Shown.{number_text}
 use Rattle.redo_html.proofs.TagReading.{is_low, is_value_byte, number_value}
 

@@ -2,13 +2,11 @@ use Rattle.std.proofs.Common.{◌<◌, ◌≤◌, ℕ, length, drop, sym, ◌∙
 use Rattle.redo_html.specs.declared.style.Style.{Style}
 use Rattle.redo_html.specs.Passage.{with_wanted, html_from}
 use Rattle.redo_html.specs.Style.{restyled}
-use Rattle.redo_html.specs.Shown.{is_unprintable}
 use Rattle.redo_html.specs.Symbols.{sequence_numbers}
-use Rattle.redo_html.specs.Symbols.Symbol.{CodePoint}
 use Rattle.redo_html.specs.Private.Writing.{IsSequence, style_in}
 use Rattle.redo_html.proofs.PassageLemmas.{sequence_step}
 use Rattle.redo_html.proofs.StyleLemmas.{sequence_style}
-use Rattle.redo_html.proofs.SymbolLemmas.{reference_symbol, sequence_found, symbol_bounds}
+use Rattle.redo_html.proofs.SymbolLemmas.{sequence_found, symbol_bounds}
 use Rattle.redo_html.proofs.WritingLemmas.{begin_parts}
 use Rattle.redo_html.proofs.passage.write_symbol.Goals as goal
 
