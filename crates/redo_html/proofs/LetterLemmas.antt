@@ -1,12 +1,12 @@
 -- Lemmas about letters that are easy to tell from their bytes.
-use Rattle.std.proofs.Common.{◌≡◌, ℕ, ◌<◌, ◌≤◌, ◌%◌, true, false, List, [], ◌∷◌, length, slice_index, refl, sym, ◌∙◌, ap, subst, arith, ⊎_elim, inl, inr, ◌⊎◌}
+use Rattle.std.proofs.Common.{◌≡◌, ℕ, ◌<◌, ◌≤◌, ◌%◌, Bool, true, false, List, [], ◌∷◌, length, slice_index, refl, sym, ◌∙◌, ap, subst, arith, ⊎_elim, inl, inr, ◌⊎◌}
 use Rattle.std.specs.Prelude.{◌==◌, ◌||◌, ◌&&◌, not, nat_lt, nat_le}
 use Rattle.std.specs.List.{list_all, list_any}
 use Rattle.std.proofs.lemmas.Bool.{and_parts, and_left, and_right, or_cases, or_from, eqb-true, ltb-true, leb-true, le-ltb, lt-leb, lt-ltb, ne_eqb, eq-eqb, cond-true, and_from, cases_lt}
 use Rattle.bstr.specs.Utf8.{Decoded, continues, second, decoded, good, code_of_2, code_of_3}
 use Rattle.bstr.proofs.lemmas.PieceLemmas.{value-6, value-9}
 use Rattle.redo_html.specs.Shown.{is_between, is_control, ends_plane, is_unprintable, unseen_ranges}
-use Rattle.redo_html.specs.Private.Writing.{IsVerbatim, is_pair, is_triple}
+use Rattle.redo_html.specs.Private.Writing.{IsVerbatim}
 use Rattle.redo_html.proofs.VerbatimLemmas.{high_code_points}
 
 -- ---- numbers between which no code point is unprintable
@@ -36,6 +36,23 @@ visible_between low high n letter ends apart above below =
     (or_from (ends_plane n) (list_any (is_between n) unseen_ranges)
     (lt-leb 0xFFFE (n % 0x10000) (omega (arith, ends, below)))
     (none_between low high n unseen_ranges apart above below))
+
+-- Whether a byte is the first of a letter of U+00C0 to U+07FF, except in the two blocks of 64 that have unprintable code points.
+abbrev pub is_lead_of_2 : ℕ → Bool
+is_lead_of_2 first = (nat_le 0xC3 first && nat_le first 0xCC)
+    || ((nat_le 0xCE first && nat_le first 0xD7) || (nat_le 0xD9 first && nat_le first 0xDF))
+
+-- Whether two bytes are such a letter.
+abbrev pub is_pair : ℕ → ℕ → Bool
+is_pair first next = continues next && is_lead_of_2 first
+
+-- Whether three bytes are a letter of U+4000 to U+CFFF, or of some blocks before it: quotation marks, signs, kana, and the scripts of
+-- India.
+abbrev pub is_triple : ℕ → ℕ → ℕ → Bool
+is_triple first next last =
+    continues next && (continues last && ((nat_le 0xE4 first && nat_le first 0xEC)
+    || ((first == 0xE2 && (next == 0x80 && (nat_le 0x90 last && nat_le last 0xA7)))
+    || ((first == 0xE2 && nat_le 0x82 next) || ((first == 0xE3 && not (next == 0x85)) || (first == 0xE0 && nat_le 0xA0 next))))))
 
 -- ---- letters of two bytes
 

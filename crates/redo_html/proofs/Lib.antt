@@ -11,6 +11,7 @@ mod LargeRows
 mod LawRows
 mod CodePointRows
 mod LetterLemmas
+mod LetterSteps
 mod LineLemmas
 mod LineRows
 mod LinkLemmas

@@ -59,8 +59,8 @@
 //! chart stay the same with other texts, and that only the markup of a page decides whether its tags nest.
 //!
 //! **Speed.** A stretch of code points that are written as they are (`verbatim_len`) is one write. Sixteen bytes at once are tested
-//! for plain ones, and a table says which of the last bytes are plain. Ranges of bytes tell the letters of most scripts, and only other
-//! characters are decoded. Each sequence is read in one pass, and the sequences before a stretch are read in a row. Every other code
+//! for plain ones, and a table says which of the last bytes are plain. A table of states tells the letters of most scripts (`STEPS`), and
+//! only other characters are decoded. Each sequence is read in one pass, and the sequences before a stretch are read in a row. Every other code
 //! point is a write of its own, and so is each number and each fixed text of a chart.
 #![tactic(auto)]
 

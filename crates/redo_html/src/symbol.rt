@@ -1,11 +1,11 @@
 //! The symbols of a text: code points, and sequences that set colours.
-ghost use Rattle.std.specs.Prelude.{◌≡◌, ◌≤◌, ◌<◌, ◌+◌, ◌==◌, ◌||◌, ◌&&◌, true, length, take, slice_index};
+ghost use Rattle.std.specs.Prelude.{◌≡◌, ◌≤◌, ◌<◌, ◌+◌, ◌/◌, ◌%◌, ◌^◌, slice_index_or, ◌==◌, ◌||◌, ◌&&◌, true, length, take, slice_index};
 ghost use Rattle.std.specs.List.{list_all, list_any, prefix_len};
 ghost use Rattle.redo_html.specs.Laws.{is_plain};
 ghost use Rattle.redo_html.specs.Shown.{is_unprintable, is_control, ends_plane, is_between, unseen_ranges};
 ghost use Rattle.redo_html.specs.Symbols.{first_code_point, code_point_len, is_parameter, is_link_byte, begins_link_text, end_len, link_len, sequence_len, has_colours, first_symbol, symbol_len};
-ghost use Rattle.redo_html.specs.Private.Writing.{ArePlain, IsVerbatim, first_set, is_pair, is_triple, symbol_code_point};
-ghost use Rattle.bstr.specs.Utf8.{continues};
+ghost use Rattle.redo_html.specs.Private.Writing.{ArePlain, IsVerbatim, first_set, symbol_code_point};
+ghost use Rattle.redo_html.specs.declared.symbol.TheConstants.{STEPS};
 
 use crate::text_kind::TextKind;
 use bstr::decode_utf8;
@@ -53,6 +53,58 @@ const Y: bool = true;
 
 const N: bool = false;
 
+// Two states between the bytes of letters: before a letter, and after bytes that no letter has.
+const START: u64 = 0;
+
+const FAILED: u64 = 42;
+
+// The states after each byte. A state is a multiple of 6, and the six lowest bits of `STEPS[byte] >> state` are the state after the byte.
+// Read from the right, each pair of octal digits is for one state: before a letter, before its last byte, before its last two bytes,
+// after `E0`, after `E2`, after `E2 80`, after `E3`, and `FAILED`.
+const STEPS: [u64; 256] = [
+    O, O, O, O, O, O, O, O, O, P, P, O, O, O, O, O, O, O, O, O, O, O, O, O, O, O, O, O, O, O, O, O,
+    P, P, P, P, P, P, O, P, P, P, P, P, P, P, P, P, P, P, P, P, P, P, P, P, P, P, P, P, O, P, O, P,
+    P, P, P, P, P, P, P, P, P, P, P, P, P, P, P, P, P, P, P, P, P, P, P, P, P, P, P, P, P, P, P, P,
+    P, P, P, P, P, P, P, P, P, P, P, P, P, P, P, P, P, P, P, P, P, P, P, P, P, P, P, P, P, P, P, O,
+    C1, C2, C4, C4, C4, C3, C4, C4, C4, C4, C4, C4, C4, C4, C4, C4, C5, C5, C5, C5, C5, C5, C5, C5,
+    C5, C5, C5, C5, C5, C5, C5, C5, C6, C6, C6, C6, C6, C6, C6, C6, C7, C7, C7, C7, C7, C7, C7, C7,
+    C7, C7, C7, C7, C7, C7, C7, C7, C7, C7, C7, C7, C7, C7, C7, C7, O, O, O, S2, S2, S2, S2, S2,
+    S2, S2, S2, S2, S2, O, S2, S2, S2, S2, S2, S2, S2, S2, S2, S2, O, S2, S2, S2, S2, S2, S2, S2,
+    E0, O, E2, E3, S3, S3, S3, S3, S3, S3, S3, S3, S3, O, O, O, O, O, O, O, O, O, O, O, O, O, O, O,
+    O, O, O, O,
+];
+
+// Bytes that no letter has.
+const O: u64 = 0o52_52_52_52_52_52_52_52;
+
+// Plain bytes, and first bytes of letters.
+const P: u64 = 0o52_52_52_52_52_52_52_00;
+
+const S2: u64 = 0o52_52_52_52_52_52_52_06;
+
+const S3: u64 = 0o52_52_52_52_52_52_52_14;
+
+const E0: u64 = 0o52_52_52_52_52_52_52_22;
+
+const E2: u64 = 0o52_52_52_52_52_52_52_30;
+
+const E3: u64 = 0o52_52_52_52_52_52_52_44;
+
+// The other bytes of letters: 80, 81, 85, other ones up to 8F, and those up to 9F, A7 and BF.
+const C1: u64 = 0o52_06_52_36_52_06_00_52;
+
+const C2: u64 = 0o52_06_52_52_52_06_00_52;
+
+const C3: u64 = 0o52_52_52_06_52_06_00_52;
+
+const C4: u64 = 0o52_06_52_06_52_06_00_52;
+
+const C5: u64 = 0o52_06_00_06_52_06_00_52;
+
+const C6: u64 = 0o52_06_00_06_06_06_00_52;
+
+const C7: u64 = 0o52_06_52_06_06_06_00_52;
+
 /// The byte at the start of each sequence.
 pub const ESCAPE: u8 = 27;
 
@@ -92,60 +144,26 @@ fn letters_len(bytes: &[u8]) -> usize
     ensures { IsVerbatim bytes.now result }
 {
     let mut len = 0;
-    while len < WINDOW && bytes.len() - len >= 3 {
-        let more = letter_len(&bytes[len..]);
-        if more == 0 {
+    let mut state = START;
+    for (at, byte) in bytes.iter().enumerate() {
+        if state == FAILED || at == WINDOW {
             return len;
         }
-        len += more;
+        state = next_state(state, *byte);
+        if state == START {
+            len = at + 1;
+        }
     }
     len
 }
 
-// Returns the number of bytes of the first code point if it is a plain byte or easy to tell as a letter, or 0 otherwise.
-fn letter_len(bytes: &[u8]) -> usize
-    requires { 3 ≤ length bytes.now }
-    ensures { IsVerbatim bytes.now result }
+// Returns the state after a byte.
+#[inline(always)]
+fn next_state(state: u64, byte: u8) -> u64
+    requires { state < 64 }
+    ensures { result ≡ (slice_index_or STEPS byte 0 / 2 ^ state) % 64 }
 {
-    if is_plain_by_table(bytes[0]) {
-        1
-    } else if is_letter_of_2(bytes[0], bytes[1]) {
-        2
-    } else if is_letter_of_3(bytes[0], bytes[1], bytes[2]) {
-        3
-    } else {
-        0
-    }
-}
-
-// Returns whether two bytes are a letter of U+00C0 to U+07FF, except in the two blocks of 64 that have unprintable code points.
-fn is_letter_of_2(first: u8, second: u8) -> bool
-    ensures { result ≡ is_pair first second }
-{
-    is_continuation(second)
-        && ((0xC3 <= first && first <= 0xCC)
-            || (0xCE <= first && first <= 0xD7)
-            || (0xD9 <= first && first <= 0xDF))
-}
-
-// Returns whether three bytes are a letter of U+4000 to U+CFFF, or of some blocks before it: quotation marks, signs, kana, and the
-// scripts of India.
-fn is_letter_of_3(first: u8, second: u8, third: u8) -> bool
-    ensures { result ≡ is_triple first second third }
-{
-    is_continuation(second)
-        && is_continuation(third)
-        && ((0xE4 <= first && first <= 0xEC)
-            || (first == 0xE2 && second == 0x80 && 0x90 <= third && third <= 0xA7)
-            || (first == 0xE2 && 0x82 <= second)
-            || (first == 0xE3 && second != 0x85)
-            || (first == 0xE0 && 0xA0 <= second))
-}
-
-fn is_continuation(byte: u8) -> bool
-    ensures { result ≡ continues byte }
-{
-    0x7F < byte && byte < 0xC0
+    (STEPS[byte as usize] >> state) % 64
 }
 
 // Returns the number of bytes of the first code point if it is visible and not in ASCII, or 0 otherwise.

@@ -1,8 +1,7 @@
 -- The postconditions of writers in parts.
-use Rattle.std.specs.Prelude.{◌≡◌, ⊤, ℕ, ◌-◌, fold, ◌<◌, ◌≤◌, Bool, true, false, ◌==◌, ◌||◌, ◌&&◌, not, nat_le, encode_utf8, List, [], ◌∷◌, ◌++◌, map, Option, None, Some, length, take, drop, replicate, slice_index, Result, Ok, Err, if◌then◌else◌}
+use Rattle.std.specs.Prelude.{◌≡◌, ⊤, ℕ, ◌-◌, fold, ◌<◌, ◌≤◌, Bool, true, false, ◌==◌, ◌&&◌, not, encode_utf8, List, [], ◌∷◌, ◌++◌, map, Option, None, Some, length, take, drop, replicate, slice_index, Result, Ok, Err, if◌then◌else◌}
 use Rattle.std.specs.Int.{w64, trailing_zeros}
 use Rattle.std.specs.List.{flat_map, list_all}
-use Rattle.bstr.specs.Utf8.{continues}
 use Rattle.redo_device.specs.declared.feed.Broken.{Broken}
 use Rattle.redo_device.specs.Sink.{Output, append_output, Writes}
 use Rattle.redo_html.specs.declared.text_kind.TextKind.{TextKind}
@@ -65,17 +64,6 @@ pub record IsVerbatim (bytes : List ℕ) (len : ℕ) : Type 0 where
   pub verbatim : list_all is_verbatim code_points ≡ true
   pub bytes_are : take len bytes ≡ flat_map encode_utf8 code_points
   pub symbols_are : (kind : TextKind) → symbols kind bytes ≡ map CodePoint code_points ++ symbols kind (drop len bytes)
-
--- Whether two bytes are a letter of U+00C0 to U+07FF, except in the two blocks of 64 that have unprintable code points.
-abbrev pub is_pair : ℕ → ℕ → Bool
-is_pair first next = continues next && ((nat_le 0xC3 first && nat_le first 0xCC) || ((nat_le 0xCE first && nat_le first 0xD7) || (nat_le 0xD9 first && nat_le first 0xDF)))
-
--- Whether three bytes are a letter of U+4000 to U+CFFF, or of some blocks before it.
-abbrev pub is_triple : ℕ → ℕ → ℕ → Bool
-is_triple first next last =
-    continues next && (continues last && ((nat_le 0xE4 first && nat_le first 0xEC)
-    || ((first == 0xE2 && (next == 0x80 && (nat_le 0x90 last && nat_le last 0xA7)))
-    || ((first == 0xE2 && nat_le 0x82 next) || ((first == 0xE3 && not (next == 0x85)) || (first == 0xE0 && nat_le 0xA0 next))))))
 
 -- The code point that a symbol is, if it is one.
 abbrev pub symbol_code_point : Symbol → Option ℕ

@@ -1,10 +1,11 @@
-use Rattle.std.proofs.Common.{length, ◌-◌}
+use Rattle.std.proofs.Common.{◌≡◌}
 use Rattle.redo_html.specs.Private.Writing.{IsVerbatim}
+use Rattle.redo_html.proofs.LetterSteps.{State, number, Pending}
 use Rattle.redo_html.proofs.symbol.letters_len.Given as goal
 
--- The bytes so far are code points that are written as they are.
-abbrev pub invariant-loop-len : goal.invariant-loop-len
-invariant-loop-len l = IsVerbatim l.bytes l.len
-
-abbrev pub decreases-loop-len : goal.decreases-loop-len
-decreases-loop-len l = length l.bytes - l.len
+-- The bytes up to `len` are code points that are written as they are, and the state says what the next bytes may be.
+abbrev pub invariant-loop-at : goal.invariant-loop-at
+invariant-loop-at l = record {
+  verbatim : IsVerbatim l.bytes l.len;
+  state : (s : State) × (l.state ≡ number s) × Pending l.bytes l.at s;
+}
