@@ -1,4 +1,4 @@
--- What a loop over a reader has read of a file with at most `max_bytes` bytes.
+-- The part of a file with at most `max_bytes` bytes that a loop over a reader has read.
 use Rattle.std.proofs.Common.{◌≡◌, ℕ, ◌-◌, ◌<◌, ◌≤◌, true, false, List, ◌++◌, Option, None, Some, IsSome, is_some, Ok, Err, length, take, sym, ap, arith}
 use Rattle.std.proofs.lemmas.Bool.{le-ltb, lt-ltb}
 use Rattle.std.proofs.lemmas.List.{length-append, length-take}

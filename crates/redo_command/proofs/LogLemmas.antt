@@ -43,7 +43,7 @@ take-next : {A : Type 0} (xs : List A) (i : ℕ) (x : A) → slice_get xs i ≡ 
 take-next xs i x there = take_more xs i x (slice_get_within xs i x there)
     ∙ ap (λ last. take i xs ++ last ∷ []) (get_or_from_slice_get xs i x x there)
 
--- So does the reader of the log at the next position of an index.
+-- The reader of the log at the next position of an index gives its stream, too.
 pub give_next : {A : Type 0} (contents : A → Option Stream) (known : ℕ → Option Stream) (index : List IndexEntry) (i number : ℕ)
     (readers : List A) (reader : A)
     → slice_get (numbers_of index) i ≡ Some number → AllGive (take i (known_logs known index)) (map contents readers)

@@ -1,4 +1,4 @@
--- What results of writing, flushing and reading the index say.
+-- The results of writing, flushing and reading the index.
 use Rattle.std.proofs.Common.{◌≡◌, ◌⊎◌, ◌∙◌, inl, inr, ℕ, false, List, [], map, Option, None, Some, Result, Ok, Err, IfOk, IsErrAnd, refl, sym, ap, subst}
 use Rattle.std.specs.Global.{Vec}
 use Rattle.redo_device.specs.Feed.{Stream, SomeStream}
@@ -23,7 +23,7 @@ use Rattle.redo_command.specs.Private.Program.{IsIndexResult}
 use Rattle.redo_command.specs.Private.Shown.{IsShown}
 use Rattle.redo_command.proofs.LogLemmas.{match_known}
 
--- What the result of a run says about the streams of its readers, it says about the logs that they give.
+-- The result of a run states the same about the streams of its readers and about the logs that they give.
 module _ {A : Type 0} (text : List Log → List (List ℕ) → List ℕ) (contents : A → Option Stream) (known : ℕ → Option Stream)
     (index : List IndexEntry) (readers : List A) (arguments : List (Vec ℕ)) (give : AllGive (known_logs known index) (map contents readers))
     (before after : Option Output) where
@@ -83,7 +83,7 @@ closed_twice (Ok done) flushed result (inr is) closed = inr (subst (λ r. IsClos
 closed_twice (Err failure) flushed result is closed = subst (λ r. IsClosedAfter r result) is closed
 
 module _ (P : Result (Unit {0}) Failure → Type 0) where
-  -- What is shown is shown after the output file was closed.
+  -- A result of showing logs is one after the output file was closed, too.
   pub is_shown_closed : (shown result : Result (Unit {0}) Failure) → IsClosedAfter shown result → IsShown P shown → IsShown P result
   is_shown_closed (Ok done) result closed (inl is) = absurd is
   is_shown_closed (Err failure) result closed (inl is) = inl (subst (λ r. IsErrAnd r IsIndexFailure) (sym closed) is)
@@ -97,7 +97,7 @@ module _ (P : Result (Unit {0}) Failure → Type 0) where
   is_memory_failure (Ok done) is = absurd is
   is_memory_failure (Err failure) is = inl (subst IsIndexFailure (sym is) tt)
 
--- What holds of every stream holds of a reader's stream.
+-- A property of every stream is a property of a reader's stream.
 any_stream : (known : Option Stream) (P : Stream → Type 0) → ((stream : Stream) → P stream) → SomeStream known P
 any_stream None P all = (record { bytes = []; fails = false }, all (record { bytes = []; fails = false }))
 any_stream (Some stream) P all = all stream

@@ -23,7 +23,7 @@ ends_with_name name target is =
 ends_later : (first name target : List ℕ) → EndsWith (first ++ name) target → EndsWith name target
 ends_later first name target (front, is) = (front ++ first, is ∙ sym (append_assoc front first name))
 
--- What holds of both lists holds of the one that is taken.
+-- A property of both lists is a property of the one that is taken.
 either : (P : List ℕ → Type 0) (names others : List (List ℕ)) → All P names → All P others → All P (or_if_none names others)
 either P [] others first second = second
 either P (name ∷ names) others first second = first
@@ -81,7 +81,7 @@ module _ (name : List ℕ) where
     abbrev pub found_in : ℕ → List (List ℕ)
     found_in i = ending_with name (take i targets)
 
-    -- What is found up to the next target.
+    -- The targets found up to the next one.
     pub next_found : (i : ℕ) (found new : List (List ℕ)) (target : List ℕ) → i < length targets → get_or targets i [] ≡ target
         → found ≡ found_in i → new ≡ found ++ ending_with name (target ∷ []) → new ≡ found_in (i + 1)
     next_found i found new target within at is pushed =

@@ -58,20 +58,20 @@ listed (name ∷ names) = name ++ flat_map (λ next. codes ", " ++ next) names
 abbrev pub targets_remedy : List ℕ → ℕ → List ℕ
 targets_remedy dir count = codes "targets: " ++ decimal count ++ codes "; list them: cut -d ' ' -f 2- " ++ names_word dir
 
--- What may be meant by an unknown target, from the suggestions for it: these, or otherwise how many targets there are.
+-- The remedy for an unknown target: the suggestions for it, or otherwise the number of targets.
 abbrev pub unknown_remedy : List ℕ → ℕ → List (List ℕ) → List ℕ
 unknown_remedy dir count [] = targets_remedy dir count
 unknown_remedy dir count (name ∷ names) = codes "did you mean " ++ listed (name ∷ names)
 
 -- ---- memory
 
--- What to do if memory ran out.
+-- The remedy if memory ran out.
 abbrev pub memory_remedy : List ℕ
 memory_remedy = codes "no memory or no thread was left; --senders 1 needs the least, and ulimit -v shows a limit on memory"
 
 -- ---- the output
 
--- What to do if the text wasn't written, from why the last write failed that did, if any.
+-- The remedy if the text wasn't written, by the error of the last failed write, if there was one.
 abbrev pub write_remedy : Option WriteError → List ℕ
 write_remedy None = codes "the output must be a file in a directory that exists, and you must be allowed to write there"
 write_remedy (Some NoSpace) = codes "no space is left where the output is written; df -h shows how full each disk is"
@@ -85,7 +85,7 @@ write_remedy (Some Other) = []
 abbrev pub leave_line_out : List ℕ → ℕ → List ℕ
 leave_line_out dir line = codes "leave this line out: sed -i " ++ decimal line ++ codes "d " ++ names_word dir
 
--- What to do about a fault of `names`.
+-- The remedy for a fault of `names`.
 abbrev pub index_remedy : List ℕ → IndexFault → List ℕ
 index_remedy dir (index.BadLine line) = leave_line_out dir line
 index_remedy dir (index.FidTwice line) = leave_line_out dir line
@@ -99,7 +99,7 @@ index_remedy dir index.OutOfMemory = memory_remedy
 abbrev pub leave_out : List ℕ → ℕ → List ℕ
 leave_out dir number = codes "leave this log out: sed -i '/^!*" ++ decimal number ++ codes " /d' " ++ names_word dir
 
--- What to do if the log with this number can't be read.
+-- The remedy if the log with this number can't be read.
 abbrev pub unreadable_log : List ℕ → ℕ → List ℕ
 unreadable_log dir number =
     codes "not readable: " ++ file_word dir (codes "log." ++ decimal number) ++ codes "; it must be a file that you may read"
@@ -108,11 +108,12 @@ unreadable_log dir number =
 abbrev pub open_logs : ℕ → List ℕ
 open_logs count = codes "; up to " ++ decimal count ++ codes " others are open, and ulimit -n shows how many files may be"
 
--- What to do if a log can't be read. `position` is the number of the logs before it, which may be open. From 16 on, the limit on open files may be met.
+-- The remedy if a log can't be read. `position` is the number of the logs before it, which may be open. From 16 on, the limit on open files
+-- may be met.
 abbrev pub read_remedy : List ℕ → ℕ → ℕ → List ℕ
 read_remedy dir position number = if leb 16 position then unreadable_log dir number ++ open_logs position else unreadable_log dir number
 
--- What to do about the fault of a log with this number, at this position of the index.
+-- The remedy for the fault of a log with this number, at this position of the index.
 abbrev pub stream_remedy : List ℕ → ℕ → ℕ → StreamFault → List ℕ
 stream_remedy dir position number stream.Read = read_remedy dir position number
 stream_remedy dir position number stream.OutOfMemory = memory_remedy
@@ -120,7 +121,8 @@ stream_remedy dir position number other = leave_out dir number
 
 -- ---- any failure
 
--- What to do about a failure to show logs: empty if no remedy is known. `write_error` is why the last write failed that did, if any.
+-- The remedy for a failure to show logs: empty if none is known. `write_error` is the error of the last failed write, if there was
+-- one.
 abbrev pub remedy : List ℕ → Option WriteError → List IndexEntry → List (List ℕ) → Failure → List ℕ
 remedy dir write_error index arguments (Words fault) = []
 remedy dir write_error index arguments NamesMissing =

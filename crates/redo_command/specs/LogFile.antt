@@ -1,4 +1,4 @@
--- What is known of the stream of a log file.
+-- The known stream of a log file.
 use Rattle.std.specs.Prelude.{true, false, [], Option, None, Some}
 use Rattle.redo_device.specs.Feed.{Stream}
 use Rattle.redo_command.specs.declared.log_file.LogFile.{LogFile}

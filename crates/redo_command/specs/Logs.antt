@@ -13,15 +13,15 @@ use Rattle.redo_command.specs.declared.failure.Failure.{Failure}
 use Rattle.redo_command.specs.declared.failure.Failure.TheVariants.{Run}
 use Rattle.redo_command.specs.NamesFile.{byte_limit}
 
--- What is known of the log with a number, if all logs are files: nothing.
+-- The known stream of the log with a number, if all logs are files: none.
 abbrev pub opaque_logs : ℕ → Option Stream
 opaque_logs number = None
 
--- What is known of the logs that an index lists, in order. `known` is what is known of the log with each number.
+-- The known streams of the logs that an index lists, in order. `known` has the known stream of the log with each number.
 abbrev pub known_logs : (ℕ → Option Stream) → List IndexEntry → List (Option Stream)
 known_logs known index = map known (numbers_of index)
 
--- Whether a reader gives the stream of its log, if that is known. `contents` is what is known of the reader.
+-- Whether a reader gives the stream of its log, if that is known. `contents` is the known stream of the reader.
 abbrev pub Gives : Option Stream → Option Stream → Type 0
 Gives None contents = Unit {0}
 Gives (Some stream) contents = contents ≡ Some stream
@@ -42,9 +42,9 @@ logs_call known text index arguments = record {
   inputs = map (λ entry. record { must_close = entry.must_close; stream = known entry.number }) index;
 }
 
--- What a run wrote, from its result and what is known of the writer before and after: the whole text of the call, or a prefix of
--- it until a write failed or memory ran out. An unknown argument or the fault of a stream is the result of the call, and
--- nothing was written.
+-- The output of a run, by its result and the known output of the writer before and after: the whole text of the call, or a prefix
+-- of it until a write failed or memory ran out. An unknown argument or the fault of a stream is the result of the call, and nothing
+-- was written.
 abbrev pub IsRunWritten : RenderCall → Option Output → Option Output → Result (Unit {0}) RunFault → Type 0
 IsRunWritten call before after (Ok done) = SomeRenderedText call (WroteAll before after)
 IsRunWritten call before after (Err (Unknown place)) = IsSomeRenderedFault call (Unknown place) × WroteNothing before after
@@ -52,7 +52,7 @@ IsRunWritten call before after (Err (OfStream number fault)) = IsSomeRenderedFau
 IsRunWritten call before after (Err OutOfMemory) = WroteNothing before after ⊎ SomeRenderedText call (WrotePrefix before after)
 IsRunWritten call before after (Err Write) = SomeRenderedText call (WroteUntilFailed before after)
 
--- The same for a result that may also be a failure before the run. Then nothing was written.
+-- The output of a run, for a result that may also be a failure before the run. After such a failure, nothing was written.
 abbrev pub IsWriteResult : RenderCall → Option Output → Option Output → Result (Unit {0}) Failure → Type 0
 IsWriteResult call before after (Ok done) = IsRunWritten call before after (Ok done)
 IsWriteResult call before after (Err (Run fault)) = IsRunWritten call before after (Err fault)

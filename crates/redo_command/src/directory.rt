@@ -18,7 +18,7 @@ use std::random::RandomSource;
 use std::rt::Files;
 use std::{fs, io};
 
-/// What came of showing the logs of a directory.
+/// The result of showing the logs of a directory.
 #[derive(Drop)]
 pub struct Shown {
     /// The index of the directory. It is empty if the file `names` wasn't read.

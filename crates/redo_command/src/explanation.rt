@@ -27,7 +27,7 @@ use std::io::Write;
 /// The maximum number of targets that are suggested for an unknown one.
 const MAX_SUGGESTIONS: usize = 5;
 
-/// The maximum number of arguments of which the rejected one is looked for. The time is quadratic in it.
+/// The maximum number of arguments among which the rejected one is looked for. The time is quadratic in it.
 const MAX_EXPLAINED_ARGUMENTS: usize = 1_000;
 
 /// From this number of open logs on, a log may be unreadable because too many files are open.
@@ -495,7 +495,7 @@ fn file_word(alloc: Global, dir: &str, file: &[u8]) -> Result<Vec<u8>, AllocErro
     Ok(word)
 }
 
-// Appends what is between the quotes of a word of a shell.
+// Appends the text between the quotes of a word of a shell.
 fn push_quoted(text: &mut Vec<u8>, word: &[u8]) -> Result<(), AllocError>
     ensures { OnOk result (text.new.items ≡ text.old.items ++ flat_map quoted_byte word.now) }
 {

@@ -1,5 +1,5 @@
-//! What the commands share: arguments of the process, the files of a capture directory, the output, failures, error
-//! messages and exit statuses.
+//! The parts that the commands share: arguments of the process, the files of a capture directory, the output, failures,
+//! error messages and exit statuses.
 //!
 //! A command has a [`Program`], with its command line, and a [`Job`]: what it reads and writes. [`run_program`] does the rest: it reads
 //! the index of a directory by [`find_index`] and writes a text of its logs by [`write_logs`], over [`LogFiles`] and through

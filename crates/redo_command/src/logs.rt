@@ -23,8 +23,8 @@ pub trait OpenLog {
     /// A reader of a log.
     type Log: Feed;
 
-    /// What is known of the log with a number: the stream that each of its readers gives. It is `None` for a file, whose
-    /// contents are not known.
+    /// The known stream of the log with a number: each of its readers gives it. It is `None` for a file, whose contents
+    /// are not known.
     ghost known: { Self → ℕ → Option Stream };
 
     /// Opens the log with this number. The only error is that an allocation failed.

@@ -1,4 +1,4 @@
-//! What a program writes besides the text of logs: error messages and, for example, a help text.
+//! The output of a program besides the text of logs: error messages and, for example, a help text.
 ghost use Rattle.std.specs.Prelude.{◌≡◌, ◌≢◌, ◌⊎◌, ◌↔◌, Ok, IfErr, length};
 ghost use Rattle.redo_run.specs.declared.run_fault.RunFault.TheVariants as run;
 ghost use Rattle.redo_command.specs.declared.failure.Failure.TheVariants.{Memory, Run};

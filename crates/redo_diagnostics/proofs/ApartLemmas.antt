@@ -1,4 +1,4 @@
--- What two keys that are equal have in common.
+-- The parts that two equal keys have in common.
 use Rattle.std.proofs.Common.{◌≡◌, ◌⊎◌, inl, inr, ℕ, zero, suc, ◌+◌, ◌≤◌, ◌==◌, Bool, true, false, cond, not, ◌&&◌, List, [], ◌∷◌, ◌++◌, Option, None, Some, length, take, drop, get_or, refl, sym, ◌∙◌, ap, subst, arith}
 use Rattle.std.specs.Prelude.{codes}
 use Rattle.std.specs.Char.{is_ascii_alphanumeric}
@@ -82,7 +82,7 @@ temporary-long (x1 ∷ x2 ∷ x3 ∷ x4 ∷ x5 ∷ x6 ∷ x7 ∷ []) is =
 abbrev mask_step : Bool → ℕ → List ℕ → List ℕ
 mask_step is byte bytes = cond is (codes "/cc*" ++ masked_after 8 bytes) (byte ∷ masked_after 0 bytes)
 
--- What precedes a colon and what follows it are masked by themselves.
+-- The bytes before a colon and the bytes after it are masked by themselves.
 masked-colon : (n : ℕ) (a b : List ℕ) → n ≤ length a → masked_after n (a ++ colon ∷ b) ≡ masked_after n a ++ colon ∷ masked b
 unfolding masked_after
 masked-colon zero [] b few = refl
@@ -130,7 +130,7 @@ words_tell FatalError Warning a b same = absurd (eqb-false 102 119 refl (ap firs
 words_tell FatalError Error a b same = absurd (eqb-false 102 101 refl (ap first_of same))
 words_tell FatalError FatalError a b same = (refl, ap (λ (bytes : List ℕ). drop 12 bytes) same)
 
--- What a test of each byte says.
+-- A test of each byte.
 pub free_by_test : (at : ℕ) (bytes : List ℕ) → list_all (λ byte. not (byte == at)) bytes ≡ true → HasNo at bytes
 free_by_test at [] is = tt
 free_by_test at (byte ∷ bytes) is =
@@ -150,7 +150,7 @@ origin_free head = by (split_once colon head) refl
     by (Some parts) is =
         subst (HasNo colon) (sym (ap origin_from is)) (are_parts colon head parts is).free
 
--- What follows a word: nothing, or a space and a text.
+-- The bytes after a word: none, or a space and a text.
 abbrev pub Follows : List ℕ → Type 0
 Follows after = (after ≡ []) ⊎ ((text : List ℕ) × (after ≡ space ∷ text))
 

@@ -24,7 +24,7 @@ passes_inside byte [] k below passes free = omega (arith, below)
 passes_inside byte (first ∷ bytes) zero below passes free = free.0 (eqb-true first byte passes)
 passes_inside byte (first ∷ bytes) (suc k) below passes free = passes_inside byte bytes k (omega (arith, below)) passes free.1
 
--- What a search for a byte says.
+-- The result of a search for a byte.
 pub byte_found : (byte : ℕ) (bytes : List ℕ) (found : Option ℕ) → IsFirstByte (is_byte byte) bytes found → is_some found ≡ true
     → HasNo byte bytes → ⊥
 byte_found byte bytes None first is free = cc

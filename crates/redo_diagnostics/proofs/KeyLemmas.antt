@@ -31,7 +31,7 @@ pub shorter : (at : ℕ) (bytes : List ℕ) (parts : List ℕ × List ℕ) → s
 shorter at bytes parts is =
     let size = ap length (are_parts at bytes parts is).whole ∙ length-append parts.0 (at ∷ parts.1) in omega (arith, size)
 
--- What one or two appends did to bytes.
+-- Bytes after one or two appends.
 pub appended_once : (k k1 front rest m whole : List ℕ) → k1 ≡ k ++ front → m ≡ front ++ rest → k ++ m ≡ whole → k1 ++ rest ≡ whole
 appended_once k k1 front rest m whole first is so_far =
     ap (λ (bytes : List ℕ). bytes ++ rest) first ∙ append_assoc k front rest ∙ ap (λ (bytes : List ℕ). k ++ bytes) (sym is) ∙ so_far

@@ -154,7 +154,7 @@ front_is : (file row : List ℕ) (column : Option (List ℕ)) → written_place 
 front_is file row None = refl
 front_is file row (Some column) = refl
 
--- What follows the file.
+-- The bytes after the file.
 place_rest : (file row rest : List ℕ) → (file ++ colon ∷ row) ++ rest ≡ file ++ colon ∷ (row ++ rest)
 place_rest file row rest = append_assoc file (colon ∷ row) rest
 

@@ -31,7 +31,7 @@ module _ (plain : List ℕ) (severity : Severity) (place : ℕ) (is : is_word_at
           (λ (past : length plain ≤ behind). absurd (let none = get_or_past plain behind 0 past in omega (arith, none, next)))
           (cases_lt behind (length plain))
 
--- What follows the word of a diagnostic.
+-- The bytes after the word of a diagnostic.
 pub record Tail (one : PartsValue) : Type 0 where
   pub after : List ℕ
   pub whole : one.tail ≡ word_of one.severity ++ after

@@ -273,7 +273,7 @@ no_colon_no_word plain free = place_nowhere plain (λ place. by place (severity_
     by place (Some severity) is =
         absurd (no_word plain severity place free (has_word plain severity place (Warning ∷ Error ∷ FatalError ∷ []) is))
 
--- What the first word of all severities says.
+-- The first word of all severities.
 abbrev all_severities : List Severity
 all_severities = Warning ∷ Error ∷ FatalError ∷ []
 

@@ -1,4 +1,4 @@
--- What a line says as a diagnostic.
+-- The diagnostic in a line.
 use Rattle.std.specs.Prelude.{ℕ, zero, suc, ◌+◌, ◌-◌, ◌==◌, Bool, ◌&&◌, ◌||◌, List, [], ◌∷◌, ◌++◌, Option, None, Some, option_and_then, option_map, is_some, length, get_or, take, drop, codes, if◌then◌else◌}
 use Rattle.std.specs.Char.{is_ascii_alphanumeric}
 use Rattle.std.specs.List.{list_all}
@@ -122,7 +122,7 @@ abbrev pub flag_or : Option (List ℕ) → ℕ → Option (List ℕ × List ℕ)
 flag_or None byte found = option_map (λ parts. (byte ∷ parts.0, parts.1)) found
 flag_or (Some flag) byte found = Some ([], flag)
 
--- What precedes the flag at the end of a text, and the flag: `M` and `G` of `M [G]`.
+-- The bytes before the flag at the end of a text, and the flag: `M` and `G` of `M [G]`.
 unfoldable pub split_flag : List ℕ → Option (List ℕ × List ℕ)
 split_flag [] = None
 split_flag (byte ∷ bytes) = flag_or (flag_here (byte ∷ bytes)) byte (split_flag bytes)

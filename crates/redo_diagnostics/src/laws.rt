@@ -8,7 +8,7 @@ ghost use Rattle.redo_diagnostics.specs.Counts.{numbered_keys};
 ghost use Rattle.redo_diagnostics.specs.Diagnostic.{PartsValue, diagnostic_of, key_of, masked, parts_of, word_of};
 ghost use Rattle.redo_diagnostics.specs.Laws.{IsAt, IsColour, SaySame};
 
-/// The key of a line with a place has the file, the word and the message, but no row and no column. So lines that differ only in row,
+/// The key of a line with a place has the file, the word and the message, but no row and no column. Lines that differ only in row,
 /// column, colours and links have the same key.
 pub fn keys_ignore_places()
     ensures { (file message line : List ℕ) (severity : Severity) → IsAt file severity message line →

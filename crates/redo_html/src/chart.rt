@@ -17,20 +17,20 @@ pub struct Chart<'a> {
     pub height: u64,
     /// The number of lanes that its label reports to those who can't see it.
     pub lanes: u64,
-    /// What is drawn, in order: later groups are in front.
+    /// The groups, in order: later ones are in front.
     pub groups: &'a [ChartGroup<'a>],
 }
 
 /// Items of a chart that look alike.
 #[derive(Clone, Copy)]
 pub struct ChartGroup<'a> {
-    /// What the items are, and so how they look.
+    /// The kind of the items, which determines how they look.
     pub kind: GroupKind,
     /// The items, in order: later ones are in front.
     pub items: &'a [ChartItem<'a>],
 }
 
-/// What the items of a group are.
+/// The kind of the items of a group.
 #[derive(Clone, Copy)]
 pub enum GroupKind {
     /// Lines and ticks. `<g class="axis" stroke="#8886" fill="currentColor" stroke-width=".5">`
@@ -39,7 +39,7 @@ pub enum GroupKind {
     Callers,
     /// Other recipes. `<g class="k" fill="#3a6ea5">`
     Recipes,
-    /// Recipes of which the start or the end is unknown. `<g class="e" fill="#8a6d3b">`
+    /// Recipes with an unknown start or end. `<g class="e" fill="#8a6d3b">`
     Untimed,
 }
 

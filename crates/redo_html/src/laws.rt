@@ -17,7 +17,7 @@ ghost use Rattle.redo_html.specs.Parts.Part.{ChartPart};
 ghost use Rattle.redo_html.specs.Shown.{shown_text};
 ghost use Rattle.redo_html.specs.StyleSheet.{HidesNothing, LoadsNothing, style_sheet};
 
-/// Whatever the bytes and the style at their start are, they are read as the text that is shown, and as no other tags than highlights, which nest.
+/// All bytes, with any style at their start, are read as the text that is shown. The only tags among them are highlights, which nest.
 pub fn passages_are_read_as_shown()
     ensures { (kind : TextKind) (style : Style) (bytes : List ℕ) → IsReadAsShown kind style bytes }
 {}
@@ -33,7 +33,7 @@ pub fn plain_text_is_unchanged()
     ensures written { (kind : TextKind) (bytes : List ℕ) → list_all is_plain bytes ≡ true → passage_html kind plain_style bytes ≡ bytes }
 {}
 
-/// A link shows nothing and leaves the style as it is, whatever follows it.
+/// A link before any bytes shows nothing and leaves the style unchanged.
 pub fn links_show_nothing()
     ensures shown { (before link more : List ℕ) → list_all is_plain before ≡ true → IsLink link →
         shown_text Log (before ++ (link ++ more)) ≡ before ++ shown_text Log more }
@@ -43,7 +43,7 @@ pub fn links_show_nothing()
         style_after style (link ++ more) ≡ style_after style more }
 {}
 
-/// The parts of a page are read as what they are: each tag as itself, and text as characters.
+/// The parts of a page are read as themselves: each tag as this tag, and text as characters.
 pub fn parts_are_read()
     ensures { (parts : List Part) → ReadsAs (flat_map part_html parts) (flat_map part_tokens parts) }
 {}
@@ -69,7 +69,7 @@ pub fn plain_lines_are_one_text()
         lines_html plain_style lines ≡ passage_html Log plain_style (flat_map with_line_feed lines) }
 {}
 
-/// Whatever the bytes are, what is shown of them is valid UTF-8, and so is the HTML of a page.
+/// The text that is shown of any bytes is valid UTF-8, and so is the HTML of a page.
 pub fn html_is_utf8()
     ensures shown { (kind : TextKind) (bytes : List ℕ) → list_all is_byte bytes ≡ true → IsUtf8 (shown_text kind bytes) }
     ensures passages { (kind : TextKind) (style : Style) (bytes : List ℕ) → list_all is_byte bytes ≡ true →

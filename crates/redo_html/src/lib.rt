@@ -1,9 +1,9 @@
 //! Text as HTML: how bytes are shown, how a browser reads them, the tags of a page, and charts.
 //!
-//! The crates above rely on this: whatever the bytes of a log or of a name are, [`write_pieces`] writes them so that they are read as
-//! text, in the form that `specs/Shown.antt` defines, and so that no byte of them is in a tag. [`Markup`] has the tags, which have no
-//! bytes but numbers of their own. A [`Chart`] has texts, and they are read as text too. The laws say so of any pieces;
-//! `specs/Html.antt` models how a browser reads.
+//! The crates above rely on this: [`write_pieces`] writes any bytes of a log or of a name so that they are read as text, in the form
+//! that `specs/Shown.antt` defines. No byte of them is in a tag. [`Markup`] has the tags, which have no bytes but numbers of their
+//! own. A [`Chart`] has texts, and they are read as text too. The laws say so of any pieces; `specs/Html.antt` models how a browser
+//! reads.
 //!
 //! # Terms
 //!
@@ -12,8 +12,8 @@
 //!   `ESC ] 8 ;`, printable ASCII without spaces in which there is a semicolon, and BEL or `ESC \`.
 //! - *Unprintable code point*: a code point that a browser would hide, change, reject or act on: a control character, an invalid byte,
 //!   a noncharacter, an invisible or bidirectional character. Its *notation* is shown instead: `^M`, `\xff`, `[U+202E]`.
-//! - *Passage*: a text that begins with a style, and of which all highlights end at its end. A *highlight* is an element around unprintable
-//!   code points or for a style.
+//! - *Passage*: a text that begins with a style. All its highlights end at its end. A *highlight* is an element around unprintable code
+//!   points or for a style.
 //! - *Markup*: a tag of a page.
 //! - *Chart*: bars over time, drawn by one `svg` element. A *meter* is a bar in a cell of a table.
 //!
@@ -25,8 +25,8 @@
 //!
 //! **Highlights** (`Passage`, `Style`). Unprintable code points, bold text and six hues have elements. A `Look` has the style of the next
 //! code point and what is open. All elements that are begun in a passage end in it. The highlights between two code points are written
-//! before the second code point, so a sequence that changes nothing writes nothing. What is bold, and in which hue, is part of
-//! the definition of a passage. Background colours and concealed text are ignored, because they can hide what a log says.
+//! before the second code point, so a sequence that changes nothing writes nothing. The definition of a passage says which text is bold,
+//! and in which hue. Background colours and concealed text are ignored, because they can hide what a log says.
 //!
 //! **Lines** (`Lines`). Each line of a log is a passage, and begins with the style after the line before it.
 //! [`write_log_lines`] takes the style at the start of some lines and sets it to the one at their end, so several calls may write
@@ -34,29 +34,28 @@
 //! Lines without escape characters are written as one passage, which has the same HTML: no symbol, run of code points or highlight goes
 //! past a line feed.
 //!
-//! **Reading** (`Html`). The tokenizer of the HTML standard, in the states that a page needs. The laws compose: each part
-//! of a page is read from the data state to the data state (`ReadsAs`), whatever follows it. A reading that leaves the
-//! modelled states is lost, and no law allows that. The model reads tokens, not the tree that a browser builds. It knows
-//! three rules of the tree: the text of `title` and `style` is read by other states, a line feed directly after `<pre>`
-//! is dropped, and an `svg` is foreign content. There, HTML elements would end the `svg`, and an end tag that ends none of
-//! its elements could end HTML around it. So the context of the text has the elements that are open in the `svg`: only
-//! elements of SVG may begin, and only the innermost one may end. Nothing may begin in a `title` of SVG, because a browser
-//! reads start tags there as HTML. Only elements of a list are read, because others switch the tokenizer to other states.
-//! A browser drops an attribute with the name of an earlier one, and all attributes of an end tag, so tags with these are lost.
-//! The model reads bytes, and a browser decodes them first: whatever the bytes of a log are, the page is valid UTF-8
-//! (`html_is_utf8`).
+//! **Reading** (`Html`). The tokenizer of the HTML standard, in the states that a page needs. The laws compose: each part of a
+//! page is read from the data state to the data state (`ReadsAs`), before any bytes. A reading that leaves the modelled states
+//! is lost, and no law allows that. The model reads tokens, not the tree that a browser builds. It knows three rules of the
+//! tree: the text of `title` and `style` is read by other states, a line feed directly after `<pre>` is dropped, and an `svg`
+//! is foreign content. There, HTML elements would end the `svg`, and an end tag that ends none of its elements could end HTML
+//! around it. Therefore the context of the text has the elements that are open in the `svg`: only elements of SVG may begin,
+//! and only the innermost one may end. Nothing may begin in a `title` of SVG, because a browser reads start tags there as HTML.
+//! Only elements of a list are read, because others switch the tokenizer to other states. A browser drops an attribute with the
+//! name of an earlier one, and all attributes of an end tag, so tags with these are lost. The model reads bytes, and a browser
+//! decodes them first: for any bytes of a log, the page is valid UTF-8 (`html_is_utf8`).
 //!
-//! **Tags** (`Tags`). A tag is a value of an enum that has no bytes, only numbers. So it is a matter of types that no byte
-//! of a log is in a tag.
+//! **Tags** (`Tags`). A tag is a value of an enum that has no bytes, only numbers. By its type, no byte of a log is in a
+//! tag.
 //!
 //! **Style sheet** (`StyleSheet`). The model doesn't read it. A law allows only functions that load nothing, and lists the rules
 //! that hide something.
 //!
-//! **Charts** (`Chart`). A chart is typed data: groups of lines, ticks and bars, with numbers and texts. The definition
-//! makes elements of it, whose attributes have text of the program, numbers and percentages. So elements nest by type. The
-//! texts are passages without highlights, because a highlight is an HTML element. Three laws about charts depend on one lemma: it
-//! computes, from the context before an element, the context after it (`next_context`). The laws also state that the tags of a
-//! chart stay the same with other texts, and that only the markup of a page decides whether its tags nest.
+//! **Charts** (`Chart`). A chart is typed data: groups of lines, ticks and bars, with numbers and texts. The definition makes
+//! elements of it, whose attributes have text of the program, numbers and percentages. Elements nest by type. The texts are
+//! passages without highlights, because a highlight is an HTML element. Three laws about charts depend on one lemma: it computes,
+//! from the context before an element, the context after it (`next_context`). The laws also state that the tags of a chart stay
+//! the same with other texts, and that only the markup of a page decides whether its tags nest.
 //!
 //! **Speed.** A stretch of code points that are written as they are (`verbatim_len`) is one write. Sixteen bytes at once are tested
 //! for plain ones, and a table says which of the last bytes are plain. A table of states tells the letters of most scripts (`STEPS`), and

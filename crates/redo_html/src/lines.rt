@@ -1,4 +1,4 @@
-//! Lines of a log, of which each begins with the style after the line before it.
+//! Lines of a log. Each begins with the style after the line before it.
 ghost use Rattle.std.specs.Prelude.{◌≡◌, ◌≤◌, ◌<◌, [], true, length, take, OnErr, OnOk};
 ghost use Rattle.std.specs.List.{list_all};
 ghost use Rattle.redo_device.specs.Sink.{Writes};

@@ -4,8 +4,8 @@ ghost use Rattle.redo_html.specs.Passage.{start_look, after_code_point};
 
 use crate::style::Style;
 
-/// The style of the next code point, and what is open in the passage: the highlight of a style, and within it, if `unprintable` is set,
-/// the highlight for unprintable code points.
+/// The style of the next code point, and the open highlights of the passage: the highlight of a style, and within it, if `unprintable`
+/// is set, the highlight for unprintable code points.
 #[derive(Clone, Copy)]
 pub struct Look {
     pub wanted: Style,

@@ -120,7 +120,7 @@ pub enum Markup {
     EndUnordered,
     /// `<ol class="list">`
     Ordered,
-    /// A list of which the first item has this number. `<ol class="list" start="N">`
+    /// A list whose first item has this number. `<ol class="list" start="N">`
     OrderedFrom(u64),
     /// `</ol>`
     EndOrdered,
@@ -216,7 +216,8 @@ pub enum Markup {
     MeterCell,
     /// `</td>`
     EndCell,
-    /// What is wider than the page, and can be scrolled. It ends with `EndDiv`. `<div class="scroll" tabindex="0" role="region" aria-labelledby="h-timeline">`
+    /// A part that is wider than the page, and can be scrolled. It ends with `EndDiv`. `<div class="scroll" tabindex="0" role="region"
+    /// aria-labelledby="h-timeline">`
     TimelineScroll,
 }
 

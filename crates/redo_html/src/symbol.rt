@@ -359,7 +359,7 @@ fn has_semicolon(bytes: &[u8]) -> bool
     bytes.contains(&b';')
 }
 
-// Returns the number of bytes that end a link, of which these are the first two after its text.
+// Returns the number of bytes that end a link, by the first two bytes after its text.
 fn link_end_size(byte: u8, next: u8) -> usize
     ensures { result ≡ end_len byte next }
 {

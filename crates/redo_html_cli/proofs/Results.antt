@@ -13,13 +13,13 @@ some_stream : (known : Option Stream) (P : Stream → Type 0) → SomeStream kno
 some_stream None P given = given
 some_stream (Some stream) P given = (stream, given)
 
--- What holds of the stream of a reader holds of the stream of the log that it gives.
+-- A property of the stream of a reader is a property of the stream of the log that it gives.
 of_log : (known contents : Option Stream) (P Q : Stream → Type 0) → Gives known contents → ((stream : Stream) → P stream → Q stream)
     → SomeStream contents P → SomeStream known Q
 of_log None contents P Q gives weaker given = let found = some_stream contents P given in (found.0, weaker found.0 found.1)
 of_log (Some first) contents P Q gives weaker given = weaker first (subst (λ c. SomeStream c P) gives given)
 
--- What holds of the streams of readers holds of the streams of the logs that they give.
+-- A property of the streams of readers is a property of the streams of the logs that they give.
 of_logs : (logs readers : List (Option Stream)) (P : List Stream → Type 0) → AllGive logs readers → SomeStreams readers P
     → SomeStreams logs P
 of_logs [] [] P give given = given

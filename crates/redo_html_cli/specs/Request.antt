@@ -1,4 +1,4 @@
--- What the page of a job is asked.
+-- The parameters of the page of a job.
 use Rattle.std.specs.Prelude.{ℕ, List, [], Option, None, Some}
 use Rattle.redo_html_args.specs.Job.{PageParts}
 use Rattle.redo_page.specs.Page.{Request}
@@ -9,7 +9,7 @@ abbrev pub title_for : Option (List ℕ) → List ℕ
 title_for None = []
 title_for (Some title) = title
 
--- What the page of a job is asked, if these are the times of all targets.
+-- The parameters of the page of a job, if these are the times of all targets.
 abbrev pub request_for : PageParts → List Times → Request
 request_for job times = record {
   title = title_for job.title;

@@ -1,6 +1,6 @@
 //! Reads when the targets of a directory began and ended.
 //!
-//! The times are read before the run, because entries have none and the top of a page needs them. So each log is read twice.
+//! The times are read before the run, because entries have none and the top of a page needs them. Each log is read twice.
 ghost use Rattle.std.specs.Prelude.{IfOk};
 ghost use Rattle.redo_html_cli.specs.Times.{AreTimesOfLogs};
 

@@ -1,4 +1,4 @@
--- What targets that failed printed, why they failed, and their articles.
+-- The outputs of targets that failed, why they failed, and their articles.
 use Rattle.std.specs.Prelude.{ℕ, zero, suc, ◌==◌, List, [], ◌∷◌, ◌++◌, Option, None, Some, codes, if◌then◌else◌}
 use Rattle.redo_logs.specs.Logs.{Log}
 use Rattle.redo_html.specs.declared.markup.Markup.TheVariants as markup
@@ -50,7 +50,7 @@ cause_parts None = []
 cause_parts (Some line) = TextPart (codes " ") ∷ MarkupPart markup.Code ∷ LogPart plain_style (cut_to max_cause line) ∷ MarkupPart markup.EndCode ∷ []
 
 module _ (logs : List Log) where
-  -- What a target printed.
+  -- The output of a target.
   abbrev pub printed_by : Node → List (List ℕ)
   printed_by node = texts_of (entries_at node.number logs)
 

@@ -24,7 +24,7 @@ emphasized_if condition parts = if condition then MarkupPart markup.Emphasis ∷
 abbrev pub max_excerpt_line : ℕ
 max_excerpt_line = 1000
 
--- The end of a line of an excerpt. What is cut is in the log.
+-- The end of a line of an excerpt. The log has the rest of a cut line.
 unfoldable pub excerpt_line_end : List ℕ → List ℕ
 excerpt_line_end line = if nat_le (length line) max_excerpt_line then codes "\n" else codes " ...\n"
 
@@ -55,7 +55,7 @@ with_left_out [] = LeftOut 1 ∷ []
 with_left_out (Shown lines ∷ stretches) = LeftOut 1 ∷ Shown lines ∷ stretches
 with_left_out (LeftOut count ∷ stretches) = LeftOut (suc count) ∷ stretches
 
--- The stretches of lines, of which the first one is at position `at`.
+-- The stretches of lines. The first line is at position `at`.
 abbrev pub stretches_from : (ℕ → Bool) → ℕ → List (List ℕ) → List Stretch
 stretches_from kept at [] = []
 stretches_from kept at (line ∷ lines) =

@@ -1,4 +1,4 @@
-//! The articles of targets that failed: where each target is, and what it printed.
+//! The articles of targets that failed: where each target is, and its output.
 ghost use Rattle.std.specs.Prelude.{◌≡◌, false};
 ghost use Rattle.std.specs.List.{flat_map};
 ghost use Rattle.std.specs.Option.{option_copied};
@@ -203,7 +203,7 @@ fn write_article_of<W: Sink>(
     page.put(&[Piece::Markup(Markup::EndArticle)]);
 }
 
-// Writes where the target at a position is, and what it printed.
+// Writes where the target at a position is, and its output.
 #[tactic(auto, using(crate::proofs::WriterLemmas::wrote_then), unfolding(crate::specs::Article::article_parts))]
 fn write_article<W: Sink>(
     table: &LogTable,

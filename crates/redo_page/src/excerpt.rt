@@ -170,7 +170,7 @@ fn write_end<W: Sink>(position: usize, current: OpenStretch, page: &mut PageWrit
     }
 }
 
-// Writes what precedes a line.
+// Writes the parts before a line.
 fn write_change<W: Sink>(
     position: usize,
     current: OpenStretch,
