@@ -5,11 +5,11 @@ use crate::flag::split_flag;
 use crate::key::key_of;
 use crate::place::place_of;
 use crate::plain::push_plain;
-use crate::sequence::ESCAPE;
 use crate::severity::Severity;
 use crate::text::Text;
 use crate::word::{find_word, word_of};
 use memchr::memchr;
+use redo_html::ESCAPE;
 use std::alloc::{AllocError, Global};
 use std::marker::Model;
 

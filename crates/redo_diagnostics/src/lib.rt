@@ -21,7 +21,6 @@ mod key;
 mod laws;
 mod place;
 mod plain;
-mod sequence;
 mod severity;
 mod text;
 mod word;

@@ -2,7 +2,7 @@
 ghost use Rattle.std.specs.Prelude.{◌≡◌, ◌++◌, OnOk};
 ghost use Rattle.redo_diagnostics.specs.Plain.{plain_line};
 
-use crate::sequence::{ESCAPE, sequence_length};
+use redo_html::{ESCAPE, sequence_size};
 use redo_line::split_at_first;
 use std::alloc::AllocError;
 
@@ -13,7 +13,7 @@ pub fn push_plain(line: &[u8], plain: &mut Vec<u8>) -> Result<(), AllocError>
     let mut left = line;
     'escapes: while let Some((front, behind)) = split_at_first(ESCAPE, left) {
         plain.extend_from_slice(front)?;
-        let length = sequence_length(&left[front.len()..]);
+        let length = sequence_size(&left[front.len()..]);
         if length > 0 {
             left = &behind[length - 1..];
         } else {

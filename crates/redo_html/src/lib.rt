@@ -90,3 +90,4 @@ pub use markup::{Markup, write_markup, write_number};
 pub use passage::{write_log_text, write_text, write_title_text};
 pub use piece::{Piece, write_pieces};
 pub use style::{Hue, Style};
+pub use symbol::{ESCAPE, sequence_size};

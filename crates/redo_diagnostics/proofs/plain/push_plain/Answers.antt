@@ -5,27 +5,27 @@ use Rattle.redo_diagnostics.proofs.KeyLemmas.{appended, appended_once, shorter}
 use Rattle.redo_diagnostics.proofs.PlainLemmas.{escape, front_within, plain-escape, plain-rest, plain-sequence, within}
 use Rattle.redo_diagnostics.proofs.plain.push_plain.Goals as goal
 
-pub slice_bounds-sequence_length-count : goal.slice_bounds-sequence_length-count
-slice_bounds-sequence_length-count c =
+pub slice_bounds-sequence_size-count : goal.slice_bounds-sequence_size-count
+slice_bounds-sequence_size-count c =
     front_within c.escapes.left.now c.in-Some.front.now c.in-Some.behind.now c.in-Some.ensures.some
 
-pub slice_bounds-sequence_length-start : goal.slice_bounds-sequence_length-start
-slice_bounds-sequence_length-start c =
+pub slice_bounds-sequence_size-start : goal.slice_bounds-sequence_size-start
+slice_bounds-sequence_size-start c =
     let within = front_within c.escapes.left.now c.in-Some.front.now c.in-Some.behind.now c.in-Some.ensures.some in omega (arith, within)
 
 pub slice_bounds-left-count : goal.slice_bounds-left-count
 slice_bounds-left-count c =
     within c.escapes.left.now c.in-Some.front.now c.in-Some.behind.now c.in-Some.ensures.some
-    c.sequence_length-length.result c.sequence_length-length.ensures c.if-length-gt0.true
+    c.sequence_size-length.result c.sequence_size-length.ensures c.if-length-gt0.true
 
 pub slice_bounds-left-start : goal.slice_bounds-left-start
 slice_bounds-left-start c =
     let inside = within c.escapes.left.now c.in-Some.front.now c.in-Some.behind.now c.in-Some.ensures.some
-    c.sequence_length-length.result c.sequence_length-length.ensures c.if-length-gt0.true in omega (arith, inside)
+    c.sequence_size-length.result c.sequence_size-length.ensures c.if-length-gt0.true in omega (arith, inside)
 
 pub escapes-smaller-then-length-gt0 : goal.escapes-smaller-then-length-gt0
 escapes-smaller-then-length-gt0 c =
-    let count = c.sequence_length-length.result - 1 in
+    let count = c.sequence_size-length.result - 1 in
     let behind = c.in-Some.behind.now in
     let less = shorter escape c.escapes.left.now (c.in-Some.front.now, behind) c.in-Some.ensures.some in
     let kept = length-take (length behind - count) (drop count behind) in
@@ -33,14 +33,14 @@ escapes-smaller-then-length-gt0 c =
 
 pub escapes-preserved-then-length-gt0 : goal.escapes-preserved-then-length-gt0
 escapes-preserved-then-length-gt0 c =
-    let count = c.sequence_length-length.result - 1 in
+    let count = c.sequence_size-length.result - 1 in
     let behind = c.in-Some.behind.now in
     appended_once c.escapes.plain.items c.extend_from_slice.new.self.items c.in-Some.front.now
     (plain_line (take (length behind - count) (drop count behind)))
     (plain_line c.escapes.left.now) (c.args.plain.now.items ++ plain_line c.args.line.now)
     c.in_ok-extend_from_slice.ensures.items
-    (plain-sequence c.escapes.left.now c.in-Some.front.now behind c.in-Some.ensures.some c.sequence_length-length.result
-    c.sequence_length-length.ensures c.if-length-gt0.true)
+    (plain-sequence c.escapes.left.now c.in-Some.front.now behind c.in-Some.ensures.some c.sequence_size-length.result
+    c.sequence_size-length.ensures c.if-length-gt0.true)
     c.escapes.invariant
 
 pub escapes-smaller : goal.escapes-smaller
@@ -53,8 +53,8 @@ escapes-preserved c =
     c.in-Some.front.now (escape ∷ []) (plain_line c.in-Some.behind.now) (plain_line c.escapes.left.now)
     (c.args.plain.now.items ++ plain_line c.args.line.now)
     c.in_ok-extend_from_slice.ensures.items c.in_ok-push.ensures.items
-    (plain-escape c.escapes.left.now c.in-Some.front.now c.in-Some.behind.now c.in-Some.ensures.some c.sequence_length-length.result
-    c.sequence_length-length.ensures (omega (arith, none)))
+    (plain-escape c.escapes.left.now c.in-Some.front.now c.in-Some.behind.now c.in-Some.ensures.some c.sequence_size-length.result
+    c.sequence_size-length.ensures (omega (arith, none)))
     c.escapes.invariant
 
 pub returns : goal.returns
