@@ -3,7 +3,7 @@ use Rattle.std.proofs.Common.{◌≡◌, ◌∙◌, ◌<◌, ◌≤◌, ◌^◌,
 use Rattle.std.specs.Prelude.{IfSome, option_map, unwrap_or}
 use Rattle.std.specs.Borrow.{Bor}
 use Rattle.std.specs.Option.{option_map_or}
-use Rattle.std.specs.Str.Parse.{ParsesUnsigned}
+use Rattle.std.specs.Str.Parse.{ExplainsUnsignedError, HasUnsignedDigitsIfOk, ParsesUnsigned}
 use Rattle.clap.specs.Matches.{ReadsOne, first_value, matched_of, one_text, raw_values}
 use Rattle.clap.specs.Walk.{Text, all_of, first_of, one_of, rows_of}
 use Rattle.clap.specs.declared.parser.matches.Found.{Found}
@@ -28,7 +28,7 @@ flag_is found id answer is none on off = go (one_of id (rows_of found)) refl is
     go (Some text) at (inr no_is) = off (one_text-rows found id ∙ at ∙ ap Some no_is) ∙ sym (ap is_true no_is)
 
 -- The number of an option, or the default if the option is not given.
-pub number_is : (E : Type 0) (G : List ℕ → Result ℕ E → Type 0) (found : Found) (id : Text) (max default : ℕ) (answer : Option ℕ)
+number_is : (E : Type 0) (G : List ℕ → Result ℕ E → Type 0) (found : Found) (id : Text) (max default : ℕ) (answer : Option ℕ)
     → ((text : List ℕ) (read : Result ℕ E) → G text read → ParsesUnsigned 32 10 text read) → max < 2 ^ 32 → 1 ≤ default → default ≤ max
     → IsNumber max id (rows_of found)
     → (one_text found id ≡ None → answer ≡ None) → ((text : List ℕ) → one_text found id ≡ Some text → ReadsOne G text answer)
@@ -46,6 +46,19 @@ number_is E G found id max default answer only fits low high is none some = go (
         let read_ok : G text (Ok number.0) = rw number.1 at read in
         let value : number.0 ≡ number_of text = (only text (Ok number.0) read_ok).1 in
         (rw number.1 value, rw (← value) number.2, rw (← value) number.3)
+
+-- The same for a number that `get_one` reads as `u32`.
+pub u32_is : (found : Found) (id : Text) (max default : ℕ) (answer : Option ℕ) (result : ℕ) → result ≡ unwrap_or answer default
+    → max < 2 ^ 32 → 1 ≤ default → default ≤ max → IsNumber max id (rows_of found) → (one_text found id ≡ None → answer ≡ None)
+    → ((text : List ℕ) → one_text found id ≡ Some text
+    → ReadsOne (λ text read. ParsesUnsigned 32 10 text read × ExplainsUnsignedError 10 text read × HasUnsignedDigitsIfOk text read)
+    text answer)
+    → (result ≡ number_or default id (rows_of found)) × (1 ≤ number_or default id (rows_of found))
+    × (number_or default id (rows_of found) ≤ max)
+u32_is found id max default answer result result_is fits low high is none some =
+    let number = number_is _ (λ text read. ParsesUnsigned 32 10 text read × ExplainsUnsignedError 10 text read
+    × HasUnsignedDigitsIfOk text read) found id max default answer (λ text read parses. parses.0) fits low high is none some in
+    (result_is ∙ number.0, number.1, number.2)
 
 -- The text of an option, or the default if the option is not given.
 pub text_is : (found : Found) (id : Text) (answer : Option (Bor Text)) (result default : Bor Text) → result ≡ unwrap_or answer default

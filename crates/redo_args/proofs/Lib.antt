@@ -6,4 +6,5 @@ pub mod ParseLemmas
 mod RejectionLemmas
 mod RejectionRows
 mod Sound
+mod TargetsRows
 mod WordsRows

@@ -1,9 +1,9 @@
 -- Parsing the arguments of a command without subcommands: `clap` finds values that the rules of the command allow, or at most one
 -- kind of error.
 use Rattle.std.proofs.Common.{◌≡◌, ◌⊎◌, ◌∙◌, ◌<◌, ◌≤◌, ◌&&◌, ℕ, zero, suc, Bool, true, false, not, List, [], ◌∷◌, length, map, is_some, Option, Some, None, Ok, Err, Result, refl, sym, subst, ap, inl, inr, arith, codes}
-use Rattle.std.specs.Prelude.{IfErr, IfOk, IfSome, MatchResult, IsErrAnd, option_map, pos, slice_get, unwrap_or}
+use Rattle.std.specs.Prelude.{if◌then◌else◌, IfErr, IfOk, IfSome, MatchResult, IsErrAnd, option_map, pos, slice_get, unwrap_or}
 use Rattle.std.specs.Borrow.{Bor}
-use Rattle.std.specs.List.{All, AllByRecursion, slice_index_or}
+use Rattle.std.specs.List.{All, AllByRecursion, list_all, slice_index_or}
 use Rattle.std.specs.Str.{bytes_eq}
 use Rattle.std.proofs.lemmas.Bool.{eqb-true}
 use Rattle.std.proofs.lemmas.List.{length-map}
@@ -14,9 +14,9 @@ use Rattle.clap.specs.Facts.{Entry, EntryPasses, HasReading, IsParsed, PassesArg
 use Rattle.clap.specs.Kinds.{FailsBy, HasKind, IsAmong, Kinds}
 use Rattle.clap.specs.Matches.{found_of, has_subcommand, matched_of, one_text, raw_values}
 use Rattle.clap.specs.Faults.{fault_of, is_simple_and_free}
-use Rattle.clap.specs.Simple.{App, HasMatchesOf, app_of, built, is_buildable, is_simple, matches_of}
+use Rattle.clap.specs.Simple.{App, HasMatchesOf, app_of, built, has_simple_rules, is_buildable, is_simple, matches_of}
 use Rattle.clap.specs.Values.{Accepts, kind_of, read_as, reading_of}
-use Rattle.clap.specs.Walk.{Row, Rule, Text, is_empty, one_of, rows_of, rule_of}
+use Rattle.clap.specs.Walk.{Rule, Text, is_empty, one_of, rows_of, rule_of}
 use Rattle.clap.specs.declared.builder.action.ArgAction.TheVariants.{Append, Count, Set}
 use Rattle.clap.specs.declared.builder.arg.Arg.{Arg}
 use Rattle.clap.specs.declared.builder.command.Command.{Command}
@@ -30,7 +30,8 @@ use Rattle.clap.specs.declared.parser.matches.ArgMatches.{ArgMatches}
 use Rattle.clap.specs.declared.parser.matches.Found.{Found}
 use Rattle.clap.specs.declared.parser.matches.MatchedArg.{MatchedArg}
 use Rattle.clap.proofs.CallerLemmas.{entry_by_id}
-use Rattle.clap.proofs.WalkLemmas.{one_text-rows}
+use Rattle.clap.proofs.WalkLemmas.{one_text-rows, raw_values-rows}
+use Rattle.redo_args.specs.Job.{targets_or_all}
 use Rattle.redo_args.specs.Private.Matches.{IsFlag, IsFlagText, IsNumber, IsNumberTo}
 use Rattle.redo_args.specs.Words.{fault_of_first, fault_of_kind}
 use Rattle.redo_args.proofs.ErrorLemmas.{map_err_if_ok}
@@ -76,7 +77,7 @@ pub some_arg : (xs : List Arg) → 0 < length xs → Arg
 some_arg [] lt = absurd (omega arith)
 some_arg (x ∷ xs) lt = x
 
-abbrev pub IsPlainRule : Rule → Type 0
+abbrev IsPlainRule : Rule → Type 0
 IsPlainRule rule = (rule.is_simple ≡ true) × (rule.is_free ≡ true)
 
 plain_arg : (a : Arg) → IsPlainRule (rule_of a) → IsPlainArg a
@@ -107,13 +108,15 @@ plain_settings c is =
 -- ---- entries
 
 -- Whether `rule` has this parser, if it has this id.
-abbrev pub IsParsedBy : Text → ValueParser → Rule → Type 0
+abbrev IsParsedBy : Text → ValueParser → Rule → Type 0
 IsParsedBy id parser rule = bytes_eq rule.id id ≡ true → parser_of_value rule.parser ≡ parser
 
--- Whether `rule`, if it has this id, takes at least one value each time it is given, and doesn't count how often.
-abbrev pub TakesWords : Text → Rule → Type 0
-TakesWords id rule = bytes_eq rule.id id ≡ true
-    → (unwrap_or rule.action Set ≡ Append) × ((unwrap_or_range rule.range).start_inclusive ≡ 1) × (rule.is_simple ≡ true)
+-- Whether an argument takes at least one value each time it is given, and doesn't count how often.
+abbrev pub IsWordsRule : Rule → Type 0
+IsWordsRule rule = (unwrap_or rule.action Set ≡ Append) × ((unwrap_or_range rule.range).start_inclusive ≡ 1) × (rule.is_simple ≡ true)
+
+abbrev TakesWords : Text → Rule → Type 0
+TakesWords id rule = bytes_eq rule.id id ≡ true → IsWordsRule rule
 
 -- Whether `text` was read from a text that `parser` accepts.
 abbrev pub IsAccepted : ValueParser → Text → Type 0
@@ -209,19 +212,60 @@ module _ (c : Command) (id : Text) (no_groups : groups_of c ≡ []) (named : id 
 
 -- ---- the rules of a command, before and after it is built
 
--- For a rule with another id.
-pub other : {P : Type 0} → false ≡ true → P
-other is = cc
+-- The rules with an id.
+abbrev pub with_id : Text → List Rule → List Rule
+with_id id [] = []
+with_id id (rule ∷ rules) = if bytes_eq rule.id id then rule ∷ with_id id rules else with_id id rules
 
--- Whether `P` holds of the rules of a command, and of its rules after it is built.
-abbrev pub HoldsOfBoth : App → (Rule → Type 0) → Type 0
-HoldsOfBoth app P = AllByRecursion P app.top.rules × AllByRecursion P (built app).top.rules
+each_with_id : (P : Rule → Type 0) (id : Text) (rules : List Rule) → AllByRecursion P (with_id id rules)
+    → AllByRecursion (λ rule. bytes_eq rule.id id ≡ true → P rule) rules
+each_with_id P id [] all = tt
+each_with_id P id (rule ∷ rest) all = go (bytes_eq rule.id id) refl all (each_with_id P id rest)
+  where
+    go : (is : Bool) → bytes_eq rule.id id ≡ is → AllByRecursion P (if is then rule ∷ with_id id rest else with_id id rest)
+        → (AllByRecursion P (with_id id rest) → AllByRecursion (λ rule. bytes_eq rule.id id ≡ true → P rule) rest)
+        → (bytes_eq rule.id id ≡ true → P rule) × AllByRecursion (λ rule. bytes_eq rule.id id ≡ true → P rule) rest
+    go true at all more = (λ _. all.0, more all.1)
+    go false at all more = (
+      λ yes.
+          let bad : false ≡ true = sym at ∙ yes in
+          cc,
+      more all,
+    )
 
--- Whether a command has no groups and no global arguments, can be built, and has only plain rules.
-abbrev pub IsPlainApp : App → Type 0
-IsPlainApp app = (app.top.is_plain ≡ true) × (is_buildable app ≡ true) × AllByRecursion IsPlainRule app.top.rules
+-- Whether `P` holds of the rules with an id, before and after the command is built.
+abbrev pub HoldsOf : App → Text → (Rule → Type 0) → Type 0
+HoldsOf app id P = AllByRecursion P (with_id id app.top.rules) × AllByRecursion P (with_id id (built app).top.rules)
+
+-- Whether the rules with an id have this parser. Where they are computed, `((refl, tt), (refl, tt))` proves it.
+abbrev pub AreParsedBy : App → Text → ValueParser → Type 0
+AreParsedBy app id parser = HoldsOf app id (λ rule. parser_of_value rule.parser ≡ parser)
+
+-- A command without subcommands, groups and global arguments. Where it is computed, each field is `refl`.
+pub record IsLeaf (app : App) : Type 0 where
+  pub exact : is_simple_and_free app ≡ true
+  pub free : list_all (λ rule. rule.is_free) app.top.rules ≡ true
+  pub no_subcommands : built app ≡ record { top = (built app).top; subs = [] }
+  pub leaf : (built app).top.is_leaf ≡ true
+
+plain_rules : (rules : List Rule) → list_all (λ rule. rule.is_simple) rules ≡ true → list_all (λ rule. rule.is_free) rules ≡ true
+    → AllByRecursion IsPlainRule rules
+plain_rules [] simple free = tt
+plain_rules (rule ∷ rest) simple free =
+    let first = both rule.is_simple _ simple in
+    let second = both rule.is_free _ free in
+    ((first.0, second.0), plain_rules rest first.1 second.1)
+
+pub simple_of : (app : App) → is_simple_and_free app ≡ true → is_simple app ≡ true
+simple_of app exact = (both (is_simple app) _ exact).0
 
 -- ---- a parse
+
+-- Arguments that are given, or the default, are not empty.
+some_words : (matched : Option MatchedArg) → (is_some matched ≡ true → 0 < length (unwrap_or (option_map raw_values matched) []))
+    → 0 < length (unwrap_or (option_map raw_values matched) (codes "all" ∷ []))
+some_words None filled = omega arith
+some_words (Some one) filled = filled refl
 
 pub weaker : {X : Type 0} (P Q : X → Type 0) (o : Option X) → ((x : X) → P x → Q x) → IfSome o P → IfSome o Q
 weaker P Q None more is = tt
@@ -237,57 +281,87 @@ flag_text text (written, is, ignore_case, accepted) = go (bytes_eq written (code
 number_text : (max : ℕ) (text : Text) → IsAccepted (vp.Signed (pos 1) (pos max)) text → IsNumberTo max text
 number_text max text (written, is, ignore_case, accepted) = (written, is, accepted)
 
--- A parse by a command. `new` is the command after it.
-pub record IsParse (app : App) (old new : Command) (m : ArgMatches) : Type 0 where
+-- Whether a command with the rules of `app` parsed arguments. `new` is the command after it.
+abbrev pub WasParsed : App → ArgMatches → Type 0
+WasParsed app m = (old : Command) × (new : Command) × (app_of old ≡ app) × BuildsTo old new
+    × ((app_of new ≡ app_of old) ⊎ (is_buildable (app_of old) ≡ true → app_of new ≡ built (app_of old)))
+    × ((out-Command new).has_globals ≡ false → IsParsed new (found_of m) (has_subcommand m))
+
+-- The same, with a name for each part.
+pub record IsParse (app : App) (m : ArgMatches) : Type 0 where
+  pub old : Command
+  pub new : Command
   pub begins : app_of old ≡ app
   pub builds : BuildsTo old new
   pub after : (app_of new ≡ app_of old) ⊎ (is_buildable (app_of old) ≡ true → app_of new ≡ built (app_of old))
   pub parsed : (out-Command new).has_globals ≡ false → IsParsed new (found_of m) (has_subcommand m)
 
-module _ (app : App) (settings : IsPlainApp app) (old new : Command) (m : ArgMatches) (parse : IsParse app old new m) where
-  pub old_rules : map rule_of (args_of old) ≡ app.top.rules
+pub is_parse : (app : App) (m : ArgMatches) → WasParsed app m → IsParse app m
+is_parse app m (old, new, begins, builds, after, parsed) =
+    record { old = old; new = new; begins = begins; builds = builds; after = after; parsed = parsed }
+
+module _ (app : App) (leaf : IsLeaf app) (m : ArgMatches) (parse : IsParse app m) where
+  simple_rules : (is_buildable app ≡ true) × (app.top.is_plain ≡ true) × (list_all (λ rule. rule.is_simple) app.top.rules ≡ true)
+  simple_rules =
+      let buildable = (both (is_buildable app) _ (simple_of app leaf.exact)).0 in
+      let top = (both (has_simple_rules app.top) _ buildable).0 in
+      let rules = both app.top.is_plain _ top in
+      (buildable, rules.0, rules.1)
+
+  pub old_rules : map rule_of (args_of parse.old) ≡ app.top.rules
   old_rules = ap (λ (a : App). a.top.rules) parse.begins
 
-  pub holds : (P : Rule → Type 0) → HoldsOfBoth app P → AllByRecursion P (map rule_of (args_of new))
-  holds P h = elim parse.after [
-    | inl same ↦ subst (AllByRecursion P) (sym (ap (λ (a : App). a.top.rules) (same ∙ parse.begins))) h.0
-    | inr made ↦ subst (AllByRecursion P)
-        (sym (ap (λ (a : App). a.top.rules) (made (ap is_buildable parse.begins ∙ settings.1) ∙ ap built parse.begins))) h.1
-  ]
+  holds : (P : Rule → Type 0) (id : Text) → HoldsOf app id P
+      → AllByRecursion (λ rule. bytes_eq rule.id id ≡ true → P rule) (map rule_of (args_of parse.new))
+  holds P id h =
+      let All : List Rule → Type 0 = AllByRecursion (λ rule. bytes_eq rule.id id ≡ true → P rule) in
+      elim parse.after [
+        | inl same ↦ subst All (sym (ap (λ (a : App). a.top.rules) (same ∙ parse.begins))) (each_with_id P id app.top.rules h.0)
+        | inr made ↦ subst All
+            (sym (ap (λ (a : App). a.top.rules) (made (ap is_buildable parse.begins ∙ simple_rules.0) ∙ ap built parse.begins)))
+            (each_with_id P id (built app).top.rules h.1)
+      ]
 
-  pub plain_command : (groups_of old ≡ []) × ((out-Command old).has_globals ≡ false)
-  plain_command = plain_settings old (ap (λ (a : App). a.top.is_plain) parse.begins ∙ settings.0)
+  pub plain_command : (groups_of parse.old ≡ []) × ((out-Command parse.old).has_globals ≡ false)
+  plain_command = plain_settings parse.old (ap (λ (a : App). a.top.is_plain) parse.begins ∙ simple_rules.1)
 
-  pub plain : IsPlain old
+  pub plain : IsPlain parse.old
   plain = (
-    λ k d lt. plain_arg (slice_index_or (args_of old) k d)
-        (all_args IsPlainRule (args_of old) (subst (AllByRecursion IsPlainRule) (sym old_rules) settings.2) k d lt),
+    λ k d lt. plain_arg (slice_index_or (args_of parse.old) k d)
+        (all_args IsPlainRule (args_of parse.old)
+        (subst (AllByRecursion IsPlainRule) (sym old_rules) (plain_rules app.top.rules simple_rules.2 leaf.free)) k d lt),
     plain_command.0,
   )
 
-  values : ValuesPass new (found_of m)
+  values : ValuesPass parse.new (found_of m)
   values = (parse.parsed (parse.builds.globals ∙ plain_command.1)).values
 
-  groups : groups_of new ≡ []
+  groups : groups_of parse.new ≡ []
   groups = (parse.builds.plain plain).1
 
   -- The text of an option was accepted by its parser.
-  pub sound_text : (parser : ValueParser) (id : Text) → (id ≡ [] → ⊥) → HoldsOfBoth app (IsParsedBy id parser)
+  pub sound_text : (parser : ValueParser) (id : Text) → (id ≡ [] → ⊥) → AreParsedBy app id parser
       → IfSome (one_of id (rows_of (found_of m))) (IsAccepted parser)
   sound_text parser id named rules =
       subst (λ (o : Option Text). IfSome o (IsAccepted parser)) (one_text-rows (found_of m) id)
-      (text_accepted new id groups named parser (holds _ rules) (found_of m) values)
+      (text_accepted parse.new id groups named parser (holds (λ rule. parser_of_value rule.parser ≡ parser) id rules) (found_of m) values)
 
-  pub sound_flag : (id : Text) → (id ≡ [] → ⊥) → HoldsOfBoth app (IsParsedBy id vp.Bool) → IsFlag id (rows_of (found_of m))
+  pub sound_flag : (id : Text) → (id ≡ [] → ⊥) → AreParsedBy app id vp.Bool → IsFlag id (rows_of (found_of m))
   sound_flag id named rules = weaker _ _ _ flag_text (sound_text vp.Bool id named rules)
 
-  pub sound_number : (max : ℕ) (id : Text) → (id ≡ [] → ⊥) → HoldsOfBoth app (IsParsedBy id (vp.Signed (pos 1) (pos max)))
+  pub sound_number : (max : ℕ) (id : Text) → (id ≡ [] → ⊥) → AreParsedBy app id (vp.Signed (pos 1) (pos max))
       → IsNumber max id (rows_of (found_of m))
   sound_number max id named rules = weaker _ _ _ (number_text max) (sound_text _ id named rules)
 
-  pub sound_words : (id : Text) → (id ≡ [] → ⊥) → HoldsOfBoth app (TakesWords id) → is_some (matched_of (found_of m) id) ≡ true
+  pub sound_words : (id : Text) → (id ≡ [] → ⊥) → HoldsOf app id IsWordsRule → is_some (matched_of (found_of m) id) ≡ true
       → 0 < length (unwrap_or (option_map raw_values (matched_of (found_of m) id)) [])
-  sound_words id named rules has = values_filled new id groups named (holds _ rules) (found_of m) values has
+  sound_words id named rules has = values_filled parse.new id groups named (holds IsWordsRule id rules) (found_of m) values has
+
+  -- A target is requested, by default `all`.
+  pub sound_targets : HoldsOf app (codes "target") IsWordsRule → 0 < length (targets_or_all (rows_of (found_of m)))
+  sound_targets rules =
+      subst (λ (o : Option (List Text)). 0 < length (unwrap_or o (codes "all" ∷ []))) (raw_values-rows (found_of m) (codes "target"))
+      (some_words (matched_of (found_of m) (codes "target")) (sound_words (codes "target") (λ e. cc) rules))
 
 -- The command after a successful parse: unchanged or built.
 app_after : (old new : Command) → BuildsOrBreaks old new → (is_broken new ≡ true → ⊥)
@@ -307,24 +381,16 @@ fault_is kinds one e (inr among) = inr (go kinds one among)
     go (k ∷ []) one (inr none) = absurd none
     go (k ∷ l ∷ ks) one (inr more) = absurd (omega arith)
 
--- A parse returns sound rows, or an error that is reported as the fault of the arguments.
-module _ (app : App) (Sound : List Row → Type 0)
-    (sound : (old new : Command) (m : ArgMatches) → IsParse app old new m → Sound (rows_of (found_of m)))
-    (answer : Result ArgMatches Error) where
-  pub sound_if_ok : (old new : Command) (More : ArgMatches → Type 0) → app_of old ≡ app → BuildsOrBreaks old new
-      → (is_broken new ≡ true → IsErrAnd answer (λ e. kind_of e ≡ kind.OutOfMemory))
-      → IfOk answer (λ m. BuildsTo old new × ((out-Command new).has_globals ≡ false → IsParsed new (found_of m) (has_subcommand m))
-      × More m)
-      → IfOk answer (λ m. Sound (rows_of (found_of m)))
-  sound_if_ok old new More is after fails ok = go answer fails ok
-    where
-      go : (r : Result ArgMatches Error) → (is_broken new ≡ true → IsErrAnd r (λ e. kind_of e ≡ kind.OutOfMemory))
-          → IfOk r (λ m. BuildsTo old new × ((out-Command new).has_globals ≡ false → IsParsed new (found_of m) (has_subcommand m)) × More m)
-          → IfOk r (λ m. Sound (rows_of (found_of m)))
-      go (Ok m) whole parsed = sound old new m
-          (record { begins = is; builds = parsed.0; after = app_after old new after whole; parsed = parsed.1 })
-      go (Err e) whole parsed = tt
+-- What a successful parse returns was parsed by the command.
+pub parsed_if_ok : (app : App) (answer : Result ArgMatches Error) (old new : Command) (More : ArgMatches → Type 0) → app_of old ≡ app
+    → BuildsOrBreaks old new
+    → (is_broken new ≡ true → IsErrAnd answer (λ e. kind_of e ≡ kind.OutOfMemory))
+    → IfOk answer (λ m. BuildsTo old new × ((out-Command new).has_globals ≡ false → IsParsed new (found_of m) (has_subcommand m)) × More m)
+    → IfOk answer (WasParsed app)
+parsed_if_ok app (Ok m) old new More is after whole parsed = (old, new, is, parsed.0, app_after old new after whole, parsed.1)
+parsed_if_ok app (Err e) old new More is after whole parsed = tt
 
+-- An error of a parse is reported as the fault of the arguments.
 module _ (kinds : Kinds) (answer : Result ArgMatches Error) where
   pub no_fault_if_ok : FailsBy kinds answer → IfOk answer (λ _. fault_of_first kinds ≡ None)
   no_fault_if_ok fails = go answer fails
@@ -348,7 +414,7 @@ module _ (kinds : Kinds) (answer : Result ArgMatches Error) where
             (fault_is kinds one e among)
 
 -- The result of a parse, once its error is converted, by a command with the rules of `app`.
-module _ (app : App) (exact : (is_simple app ≡ true) × (is_simple_and_free app ≡ true)) (old : Command) (begins : app_of old ≡ app)
+module _ (app : App) (exact : is_simple_and_free app ≡ true) (old : Command) (begins : app_of old ≡ app)
     (words : List Text)
     (answer : Result ArgMatches Error) (Maps : Error → WordsFault → Type 0) (result : Result ArgMatches WordsFault)
     (mapped : MatchResult answer (λ m. result ≡ Ok m) (λ e. IsErrAnd result (Maps e))) where
@@ -356,11 +422,11 @@ module _ (app : App) (exact : (is_simple app ≡ true) × (is_simple_and_free ap
       → IfOk result (λ m. rows_of (found_of m) ≡ matches_of app words)
   converted_entries A B found =
       map_err_if_ok answer Maps result mapped _ (IfOk-weaker answer _ (λ m. rows_of (found_of m) ≡ matches_of app words)
-      (λ m has. (has.2 (ap is_simple begins ∙ exact.0)).0 ∙ ap (λ (a : App). matches_of a words) begins) found)
+      (λ m has. (has.2 (ap is_simple begins ∙ simple_of app exact)).0 ∙ ap (λ (a : App). matches_of a words) begins) found)
 
   module _ (kinds : is_simple_and_free (app_of old) ≡ true → FailsBy (fault_of (app_of old) words) answer) where
     fails : FailsBy (fault_of app words) answer
-    fails = subst (λ (a : App). FailsBy (fault_of a words) answer) begins (kinds (ap is_simple_and_free begins ∙ exact.1))
+    fails = subst (λ (a : App). FailsBy (fault_of a words) answer) begins (kinds (ap is_simple_and_free begins ∙ exact))
 
     pub converted_no_fault : IfOk result (λ _. fault_of_first (fault_of app words) ≡ None)
     converted_no_fault = map_err_if_ok answer Maps result mapped _ (no_fault_if_ok (fault_of app words) answer fails)

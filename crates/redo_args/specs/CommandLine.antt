@@ -43,6 +43,10 @@ number_rule id max = checked_rule id (parser.Signed (pos 1) (pos max))
 abbrev pub words_rule : Text → Rule
 words_rule id = record (new_rule id) { value_names = 1; action = Some Append; required = true }
 
+-- The arguments that are not options: any number of them.
+abbrev pub optional_words_rule : Text → Rule
+optional_words_rule id = record (new_rule id) { value_names = 1; action = Some Append }
+
 -- ---- the arguments
 
 -- `-r` and `--recursive`, `-u` and `--unchanged`, `--no-details`, `--debug-locks`, `--debug-pids`

@@ -2,7 +2,7 @@
 --
 -- The values are a list of rows, one for each argument of the command line that has a value, given or by default. A row is
 -- looked up by the id of its argument.
-use Rattle.std.specs.Prelude.{ℕ, Bool, false, List, [], codes, unwrap_or}
+use Rattle.std.specs.Prelude.{ℕ, Bool, false, List, [], ◌∷◌, codes, unwrap_or}
 use Rattle.std.specs.Option.{option_map_or}
 use Rattle.std.specs.Str.{bytes_eq}
 use Rattle.std.specs.Str.Parse.{digits_value, without_leading_plus}
@@ -51,6 +51,10 @@ dir_of rows = unwrap_or (first_of (codes "dir") rows) (codes ".")
 
 abbrev pub targets_of : List Row → List Text
 targets_of rows = unwrap_or (all_of (codes "target") rows) []
+
+-- The arguments that are not options, or `all` if there are none.
+abbrev pub targets_or_all : List Row → List Text
+targets_or_all rows = unwrap_or (all_of (codes "target") rows) (codes "all" ∷ [])
 
 -- ---- all of it
 

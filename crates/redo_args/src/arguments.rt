@@ -1,14 +1,15 @@
 //! Options of a command line for `clap`, which programs share.
 //!
-//! This module and the proofs `ParseLemmas`, `OneKind` and `Getters` are for any command without subcommands: `redo_html_args`
-//! uses them, too. `clap` checks the range of numbers, so a number out of range is rejected like any bad argument.
-ghost use Rattle.std.specs.Prelude.{◌≡◌, codes, false, IfOk, map};
+//! This module, `parse`, and the proofs `ParseLemmas`, `OneKind` and `Getters` are for any command without subcommands: `redo_html_args`
+//! and `redo_json_args` use them, too. `clap` checks the range of numbers, so a number out of range is rejected like any bad argument.
+ghost use Rattle.std.specs.Prelude.{◌≡◌, codes, false, IfOk, map, option_map};
 ghost use Rattle.std.specs.List.{AllByRecursion};
+ghost use Rattle.std.specs.String.{string_bytes};
 ghost use Rattle.clap.specs.Simple.{app_of};
 ghost use Rattle.clap.specs.Walk.{rule_of};
 ghost use Rattle.clap.specs.declared.builder.action.ArgAction.TheVariants.{SetTrue};
 ghost use Rattle.redo_options.specs.Arguments.{argument_bytes};
-ghost use Rattle.redo_args.specs.CommandLine.{flag_rule, letter_rule, number_rule, plain, text_rule, with_rules};
+ghost use Rattle.redo_args.specs.CommandLine.{flag_rule, letter_rule, number_rule, optional_words_rule, plain, text_rule, with_rules};
 
 use clap::{Arg, ArgAction, Command, value_parser};
 use std::alloc::{AllocError, Global};
@@ -112,6 +113,17 @@ pub fn senders<'a>(alloc: Global) -> Arg<'a>
     )
 }
 
+/// `[TARGET..]`: the requested targets; `all`, if none is named.
+pub fn optional_targets<'a>(alloc: Global) -> Arg<'a>
+    ensures rule { rule_of result ≡ optional_words_rule (codes "target") }
+    ensures local { result.global ≡ false }
+{
+    Arg::new(alloc, "target")
+        .value_name("TARGET")
+        .action(ArgAction::Append)
+        .help("A target to show: its name in `names`, in any spelling [default: all]")
+}
+
 /// A command line with these arguments. The name of the program is not part of what it parses.
 pub fn command_line<'a>(
     alloc: Global,
@@ -147,4 +159,14 @@ pub fn bytes_of(alloc: Global, words: &[&str]) -> Result<Vec<Vec<u8>>, AllocErro
         copies.push(word.as_bytes().to_vec(alloc)?)?;
     }
     Ok(copies)
+}
+
+/// Copies the text of an option, if it is given.
+pub fn copy_of(alloc: Global, text: Option<&str>) -> Result<Option<String>, AllocError>
+    ensures { IfOk result (λ copy. option_map string_bytes copy ≡ option_map (λ text. text.now) text.entry) }
+{
+    match text {
+        Some(text) => Ok(Some(String::from_str(alloc, text)?)),
+        None => Ok(None),
+    }
 }

@@ -2,11 +2,12 @@
 //!
 //! `clap` states only the kind of an error, and nothing about its text, which is therefore not shown. To find the rejected one, the
 //! arguments are parsed again, without the last one, the last two, and so on, until the kind changes.
-ghost use Rattle.std.specs.Prelude.{◌≡◌, ◌≤◌, ◌<◌, ◌-◌, ◌++◌, ◌∷◌, [], true, flat_map, get_or, length, map, IfOk};
+ghost use Rattle.std.specs.Prelude.{◌≡◌, ◌≤◌, ◌<◌, ◌-◌, ◌++◌, ◌∷◌, [], true, flat_map, get_or, length, map, IfOk, List};
 ghost use Rattle.std.specs.Str.{bytes_eq};
 ghost use Rattle.std.specs.String.{string_bytes};
 ghost use Rattle.clap.specs.Faults.{fault_of, is_simple_and_free};
 ghost use Rattle.clap.specs.Simple.{App, app_of};
+ghost use Rattle.clap.specs.Walk.{Text};
 ghost use Rattle.redo_args.specs.Rejection.{argument_at, is_option, kind_name, kinds_of, mistake, out_of_range, reason, rejected_count, rejection};
 
 use clap::Command;
@@ -18,10 +19,15 @@ pub trait CommandLine {
     /// Its definition for `clap`.
     ghost app: { Self → App };
 
-    /// Returns the kind of the fault that arguments have; `None` if they describe a job. The only error is that an
-    /// allocation failed.
-    fn fault(&self, alloc: Global, words: &[String]) -> Result<Option<ErrorKind>, AllocError>
-        ensures { IfOk result (λ kind. kinds_of kind ≡ fault_of (app self.now) (map string_bytes words.now)) };
+    /// Returns the command for `clap`. The only error is that an allocation failed.
+    fn command<'a>(&self, alloc: Global) -> Result<Command<'a>, AllocError>
+        ensures { IfOk result (λ command. app_of command ≡ app self.now) };
+
+    /// The contract of `clap` states exactly what this command line finds, and why it rejects arguments: for at most one reason.
+    /// The body is empty.
+    fn is_exact(&self)
+        ensures exact { is_simple_and_free (app self.now) ≡ true }
+        ensures one_kind { (words : List Text) → length (fault_of (app self.now) words) ≤ 1 };
 }
 
 /// Returns why arguments are rejected: which one, and the reason. The rejected argument is the last one that changes the kind of
@@ -34,18 +40,27 @@ pub fn explain_rejection<C: CommandLine>(
 ) -> Result<Vec<u8>, AllocError>
     ensures { IfOk result (λ text. text.items ≡ rejection (C.app command_line.now) (map string_bytes words.now)) }
 {
-    let kind = command_line.fault(alloc, words)?;
+    let kind = fault_in(alloc, command_line, words)?;
     let count = rejected_count(alloc, command_line, words, kind)?;
     let argument = argument_at(alloc, words, count)?;
     reason(alloc, kind, &argument)
 }
 
-/// Returns the kind of the fault that arguments have for a command; `None` if they have none. The only error is that an
-/// allocation failed.
-pub fn fault_by<'a>(
-    command: Command<'a>,
-    words: &'a [String],
+/// Returns the kind of the fault that arguments have; `None` if they describe a job. The only error is that an allocation
+/// failed.
+pub fn fault_in<C: CommandLine>(
+    alloc: Global,
+    command_line: &C,
+    words: &[String],
 ) -> Result<Option<ErrorKind>, AllocError>
+    ensures { IfOk result (λ kind. kinds_of kind ≡ fault_of (C.app command_line.now) (map string_bytes words.now)) }
+{
+    command_line.is_exact();
+    fault_by(command_line.command(alloc)?, words)
+}
+
+// Returns the same for a command.
+fn fault_by<'a>(command: Command<'a>, words: &'a [String]) -> Result<Option<ErrorKind>, AllocError>
     requires exact { is_simple_and_free (app_of command) ≡ true }
     requires one_kind { length (fault_of (app_of command) (map string_bytes words.now)) ≤ 1 }
     ensures { IfOk result (λ kind. kinds_of kind ≡ fault_of (app_of command.entry) (map string_bytes words.entry.now)) }
@@ -76,7 +91,7 @@ fn rejected_count<C: CommandLine>(
     let mut count = words.len();
     while count > 0 {
         let earlier = &words[..count - 1];
-        let before = command_line.fault(alloc, earlier)?;
+        let before = fault_in(alloc, command_line, earlier)?;
         if !is_same_kind(before, kind) {
             return Ok(count);
         }

@@ -1,22 +1,19 @@
 ghost use Rattle.std.specs.Prelude.{◌≡◌, ◌⊎◌, ◌++◌, None, Some, codes, false, IfOk, IfErr, map};
 ghost use Rattle.std.specs.String.{string_bytes};
-ghost use Rattle.clap.specs.Matches.{found_of};
-ghost use Rattle.clap.specs.Simple.{app_of, matches_of};
-ghost use Rattle.clap.specs.Walk.{rows_of, rule_of};
+ghost use Rattle.clap.specs.Walk.{rule_of};
 ghost use Rattle.redo_args.specs.declared.words_fault.WordsFault.TheVariants.{OutOfMemory};
 ghost use Rattle.redo_args.specs.CommandLine.{flags, redo_log, values, words_rule};
 ghost use Rattle.redo_args.specs.Private.Arguments.{AreArguments};
-ghost use Rattle.redo_args.specs.Private.Matches.{AreSound};
 ghost use Rattle.redo_args.specs.Words.{fault_of_words, parse_parts};
 
 use crate::arguments::{
     command_line, debug_locks, dir, flag, help_of, letter_flag, number, senders, unchanged,
 };
 use crate::job::{Job, job_from_matches};
-use crate::rejection::{CommandLine, fault_by};
+use crate::parsing::parse;
+use crate::rejection::CommandLine;
 use crate::words_fault::WordsFault;
-use clap::error::ErrorKind;
-use clap::{Arg, ArgAction, ArgMatches, Command};
+use clap::{Arg, ArgAction, Command};
 use std::alloc::{AllocError, Global};
 
 const ABOUT: &str =
@@ -63,7 +60,7 @@ pub fn read_arguments(alloc: Global, words: &[String]) -> Result<Job, WordsFault
     ensures job { IfOk result (λ job. job ≡ parse_parts (map string_bytes words.now)) }
     ensures fault { IfErr result (λ fault. (fault ≡ OutOfMemory) ⊎ (fault_of_words (map string_bytes words.now) ≡ Some fault)) }
 {
-    let matches = parse_arguments(alloc, words)?;
+    let matches = parse(alloc, &RedoLog, words)?;
     job_from_matches(alloc, &matches).map_err(WordsFault::from)
 }
 
@@ -73,22 +70,18 @@ pub struct RedoLog;
 impl CommandLine for RedoLog {
     ghost app = { λ _. redo_log };
 
-    fn fault(&self, alloc: Global, words: &[String]) -> Result<Option<ErrorKind>, AllocError> {
-        fault_by(command(alloc)?, words)
+    fn command<'a>(&self, alloc: Global) -> Result<Command<'a>, AllocError> {
+        command_line(alloc, "redo-log", ABOUT, AFTER_HELP, arguments(alloc)?)
     }
+
+    fn is_exact(&self) {}
 }
 
 /// Returns the help text: the arguments and options, an example, and the exit statuses. It ends with a
 /// line feed. It also lists `--version`, which `read_words` rejects: the program handles it if it is the
 /// only argument.
 pub fn help_text(alloc: Global) -> Result<String, AllocError> {
-    help_of(command(alloc)?)
-}
-
-fn command<'a>(alloc: Global) -> Result<Command<'a>, AllocError>
-    ensures { IfOk result (λ command. app_of command ≡ redo_log) }
-{
-    command_line(alloc, "redo-log", ABOUT, AFTER_HELP, arguments(alloc)?)
+    help_of(RedoLog.command(alloc)?)
 }
 
 // All arguments and options, in the order of the help text.
@@ -141,17 +134,4 @@ fn targets<'a>(alloc: Global) -> Arg<'a>
         .action(ArgAction::Append)
         .required(true)
         .help("A target to show: its name in `names`, in any spelling")
-}
-
-// The values that the arguments give to each option.
-fn parse_arguments<'a>(alloc: Global, words: &'a [String]) -> Result<ArgMatches<'a>, WordsFault>
-    ensures sound { IfOk result (λ matches. AreSound (rows_of (found_of matches))) }
-    ensures entries { IfOk result (λ matches. rows_of (found_of matches) ≡ matches_of redo_log (map string_bytes words.entry.now)) }
-    ensures no_fault { IfOk result (λ _. fault_of_words (map string_bytes words.entry.now) ≡ None) }
-    ensures fault { IfErr result (λ fault. (fault ≡ OutOfMemory) ⊎ (fault_of_words (map string_bytes words.entry.now) ≡ Some fault)) }
-{
-    let mut command = command(alloc)?;
-    let found = command.try_get_matches_from_mut(words);
-    drop(command);
-    found.map_err(WordsFault::from)
 }

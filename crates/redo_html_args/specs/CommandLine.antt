@@ -1,16 +1,12 @@
 -- The definition of the command line of `redo-log-html` for `clap`: eight arguments, each with a rule.
 --
 -- `redo_args` defines the kinds of rules and says what their fields mean.
-use Rattle.std.specs.Prelude.{List, [], ◌∷◌, Some, codes}
-use Rattle.clap.specs.Simple.{App, new_rule}
+use Rattle.std.specs.Prelude.{List, [], ◌∷◌, codes}
+use Rattle.clap.specs.Simple.{App}
 use Rattle.clap.specs.Walk.{Rule, Text}
-use Rattle.clap.specs.declared.builder.action.ArgAction.TheVariants.{Append, SetTrue}
+use Rattle.clap.specs.declared.builder.action.ArgAction.TheVariants.{SetTrue}
 use Rattle.clap.specs.declared.builder.value_parser.ValueParser.TheVariants as parser
-use Rattle.redo_args.specs.CommandLine.{checked_rule, flag_rule, letter_rule, number_rule, plain, text_rule, with_rules}
-
--- The arguments that are not options: any number of them.
-abbrev pub optional_words_rule : Text → Rule
-optional_words_rule id = record (new_rule id) { value_names = 1; action = Some Append }
+use Rattle.redo_args.specs.CommandLine.{checked_rule, flag_rule, letter_rule, number_rule, optional_words_rule, plain, text_rule, with_rules}
 
 -- An option with a number that `u64` can hold.
 abbrev pub unsigned_rule : Text → Rule

@@ -2,9 +2,9 @@
 --
 -- The values are a list of rows, one for each argument of the command line that has a value, given or by default. A row is
 -- looked up by the id of its argument.
-use Rattle.std.specs.Prelude.{ℕ, Bool, List, [], ◌∷◌, Option, codes, unwrap_or}
-use Rattle.clap.specs.Walk.{Row, Text, all_of, first_of}
-use Rattle.redo_args.specs.Job.{dir_of, is_on, number_or}
+use Rattle.std.specs.Prelude.{ℕ, Bool, List, Option, codes}
+use Rattle.clap.specs.Walk.{Row, first_of}
+use Rattle.redo_args.specs.Job.{dir_of, is_on, number_or, targets_or_all}
 
 -- The capture directory, the output file and the title of the page, the options, the number of bytes of text lines that may be
 -- shown, the number of senders, and the arguments that name the requested targets.
@@ -17,10 +17,6 @@ pub record PageParts : Type 0 where
   pub max_bytes : ℕ
   pub senders : ℕ
   pub targets : List (List ℕ)
-
--- The arguments that are not options, or `all` if there are none.
-abbrev pub targets_or_all : List Row → List Text
-targets_or_all rows = unwrap_or (all_of (codes "target") rows) (codes "all" ∷ [])
 
 abbrev pub parts_of : List Row → PageParts
 parts_of rows = record {

@@ -8,7 +8,7 @@ ghost use Rattle.redo_html_args.specs.Job.{parts_of};
 ghost use Rattle.redo_html_args.specs.Private.Matches.{AreSound};
 
 use clap::ArgMatches;
-use redo_args::arguments::bytes_of;
+use redo_args::arguments::{bytes_of, copy_of};
 use std::alloc::{AllocError, Global};
 use std::marker::Model;
 
@@ -138,13 +138,4 @@ pub(crate) fn job_from_matches(
         senders,
         targets: bytes_of(alloc, targets)?,
     })
-}
-
-fn copy_of(alloc: Global, text: Option<&str>) -> Result<Option<String>, AllocError>
-    ensures { IfOk result (λ copy. option_map string_bytes copy ≡ option_map (λ text. text.now) text.entry) }
-{
-    match text {
-        Some(text) => Ok(Some(String::from_str(alloc, text)?)),
-        None => Ok(None),
-    }
 }

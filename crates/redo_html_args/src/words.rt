@@ -1,21 +1,17 @@
-ghost use Rattle.std.specs.Prelude.{◌≡◌, ◌⊎◌, None, Some, codes, false, IfOk, IfErr, map};
+ghost use Rattle.std.specs.Prelude.{◌≡◌, ◌⊎◌, None, Some, false, IfOk, IfErr, map};
 ghost use Rattle.std.specs.String.{string_bytes};
-ghost use Rattle.clap.specs.Matches.{found_of};
-ghost use Rattle.clap.specs.Simple.{app_of, matches_of};
-ghost use Rattle.clap.specs.Walk.{rows_of, rule_of};
+ghost use Rattle.clap.specs.Walk.{rule_of};
 ghost use Rattle.redo_args.specs.declared.words_fault.WordsFault.TheVariants.{OutOfMemory};
 ghost use Rattle.redo_args.specs.Private.Arguments.{AreArguments};
-ghost use Rattle.redo_html_args.specs.CommandLine.{optional_words_rule, redo_log_html, rules, unsigned_rule};
-ghost use Rattle.redo_html_args.specs.Private.Matches.{AreSound};
+ghost use Rattle.redo_html_args.specs.CommandLine.{redo_log_html, rules, unsigned_rule};
 ghost use Rattle.redo_html_args.specs.Words.{fault_of_words, parse_parts};
 
 use crate::job::{PageJob, job_from_matches};
-use clap::error::ErrorKind;
-use clap::{Arg, ArgAction, ArgMatches, Command, value_parser};
+use clap::{Arg, Command, value_parser};
 use redo_args::arguments::{
-    command_line, debug_locks, dir, help_of, senders, text_option, unchanged,
+    command_line, debug_locks, dir, help_of, optional_targets, senders, text_option, unchanged,
 };
-use redo_args::{CommandLine, WordsFault, fault_by};
+use redo_args::{CommandLine, WordsFault, parse};
 use std::alloc::{AllocError, Global};
 
 const ABOUT: &str =
@@ -58,7 +54,7 @@ pub fn read_arguments(alloc: Global, words: &[String]) -> Result<PageJob, WordsF
     ensures job { IfOk result (λ job. job ≡ parse_parts (map string_bytes words.now)) }
     ensures fault { IfErr result (λ fault. (fault ≡ OutOfMemory) ⊎ (fault_of_words (map string_bytes words.now) ≡ Some fault)) }
 {
-    let matches = parse_arguments(alloc, words)?;
+    let matches = parse(alloc, &RedoLogHtml, words)?;
     job_from_matches(alloc, &matches).map_err(WordsFault::from)
 }
 
@@ -68,22 +64,18 @@ pub struct RedoLogHtml;
 impl CommandLine for RedoLogHtml {
     ghost app = { λ _. redo_log_html };
 
-    fn fault(&self, alloc: Global, words: &[String]) -> Result<Option<ErrorKind>, AllocError> {
-        fault_by(command(alloc)?, words)
+    fn command<'a>(&self, alloc: Global) -> Result<Command<'a>, AllocError> {
+        command_line(alloc, "redo-log-html", ABOUT, AFTER_HELP, arguments(alloc)?)
     }
+
+    fn is_exact(&self) {}
 }
 
 /// Returns the help text: the arguments and options, an example, and the exit statuses. It ends with a
 /// line feed. It also lists `--version`, which `read_words` rejects: the program handles it if it is the
 /// only argument.
 pub fn help_text(alloc: Global) -> Result<String, AllocError> {
-    help_of(command(alloc)?)
-}
-
-fn command<'a>(alloc: Global) -> Result<Command<'a>, AllocError>
-    ensures { IfOk result (λ command. app_of command ≡ redo_log_html) }
-{
-    command_line(alloc, "redo-log-html", ABOUT, AFTER_HELP, arguments(alloc)?)
+    help_of(RedoLogHtml.command(alloc)?)
 }
 
 // All arguments and options, in the order of the help text.
@@ -107,7 +99,7 @@ fn arguments<'a>(alloc: Global) -> Result<Vec<Arg<'a>>, AllocError>
             "Shorten the longest logs if all together have more than N bytes of text; 0 shows everything [default: 16000000]",
         ),
         senders(alloc),
-        targets(alloc),
+        optional_targets(alloc),
     ]
     .map_err(AllocError::from)
 }
@@ -118,28 +110,4 @@ fn unsigned<'a>(alloc: Global, id: &'a str, help: &'a str) -> Arg<'a>
     ensures local { result.global ≡ false }
 {
     text_option(alloc, id, "N", help).value_parser(value_parser!(u64))
-}
-
-// The arguments that are not options.
-fn targets<'a>(alloc: Global) -> Arg<'a>
-    ensures rule { rule_of result ≡ optional_words_rule (codes "target") }
-    ensures local { result.global ≡ false }
-{
-    Arg::new(alloc, "target")
-        .value_name("TARGET")
-        .action(ArgAction::Append)
-        .help("A target to show: its name in `names`, in any spelling [default: all]")
-}
-
-// The values that the arguments give to each option.
-fn parse_arguments<'a>(alloc: Global, words: &'a [String]) -> Result<ArgMatches<'a>, WordsFault>
-    ensures sound { IfOk result (λ matches. AreSound (rows_of (found_of matches))) }
-    ensures entries { IfOk result (λ matches. rows_of (found_of matches) ≡ matches_of redo_log_html (map string_bytes words.entry.now)) }
-    ensures no_fault { IfOk result (λ _. fault_of_words (map string_bytes words.entry.now) ≡ None) }
-    ensures fault { IfErr result (λ fault. (fault ≡ OutOfMemory) ⊎ (fault_of_words (map string_bytes words.entry.now) ≡ Some fault)) }
-{
-    let mut command = command(alloc)?;
-    let found = command.try_get_matches_from_mut(words);
-    drop(command);
-    found.map_err(WordsFault::from)
 }

@@ -5,8 +5,9 @@ use Rattle.clap.specs.Values.{IsUnsignedIn}
 use Rattle.clap.specs.Walk.{Row, Text, one_of}
 use Rattle.redo_options.specs.Limits.{IsSenderCount}
 use Rattle.redo_options.specs.Arguments.{argument_bytes}
+use Rattle.redo_args.specs.Job.{targets_or_all}
 use Rattle.redo_args.specs.Private.Matches.{IsFlag, IsNumber}
-use Rattle.redo_html_args.specs.Job.{PageParts, targets_or_all}
+use Rattle.redo_html_args.specs.Job.{PageParts}
 
 -- Whether the text of an option is a number that `u64` can hold.
 abbrev pub IsUnsigned : Text → List Row → Type 0

@@ -1,29 +1,23 @@
 use Rattle.std.proofs.Common.{◌≡◌, ◌∙◌, ◌≤◌, arith, refl, codes, sym, subst}
-use Rattle.std.specs.Str.Parse.{ParsesUnsigned, ExplainsUnsignedError, HasUnsignedDigitsIfOk}
 use Rattle.clap.specs.Matches.{found_of}
 use Rattle.clap.specs.Walk.{rows_of}
 use Rattle.redo_args.specs.Job.{number_or}
 use Rattle.redo_args.specs.Private.Matches.{IsJob}
-use Rattle.redo_args.proofs.Getters.{number_is, targets_are, text_is}
+use Rattle.redo_args.proofs.Getters.{targets_are, text_is, u32_is}
 use Rattle.redo_args.proofs.job.job_from_matches.Goals as goal
 
 senders : (c : goal.In_ok-bytes_of) → let n = number_or 4 (codes "senders") (rows_of (found_of c.args.matches.now)) in
     (c.unwrap_or-senders.result ≡ n) × (1 ≤ n) × (n ≤ 64)
 senders c =
-    let read = number_is _ (λ text read. ParsesUnsigned 32 10 text read × ExplainsUnsignedError 10 text read
-    × HasUnsignedDigitsIfOk text read) (found_of c.args.matches.now)
-    (codes "senders") 64 4 c.get_one.result (λ text read g. g.0) (omega arith) (omega arith)
-    (omega arith) c.requires.senders_are c.get_one.ensures.none c.get_one.ensures.value in
-    (c.unwrap_or-senders.ensures ∙ read.0, read.1, read.2)
+    u32_is (found_of c.args.matches.now) (codes "senders") 64 4 c.get_one.result c.unwrap_or-senders.result c.unwrap_or-senders.ensures
+    (omega arith) (omega arith) (omega arith) c.requires.senders_are c.get_one.ensures.none c.get_one.ensures.value
 
 capacity : (c : goal.In_ok-bytes_of) → let n = number_or 64 (codes "capacity") (rows_of (found_of c.args.matches.now)) in
     (c.unwrap_or-capacity.result ≡ n) × (1 ≤ n) × (n ≤ 65536)
 capacity c =
-    let read = number_is _ (λ text read. ParsesUnsigned 32 10 text read × ExplainsUnsignedError 10 text read
-    × HasUnsignedDigitsIfOk text read) (found_of c.args.matches.now)
-    (codes "capacity") 65536 64 c.get_one-2.result (λ text read g. g.0) (omega arith) (omega arith)
-    (omega arith) c.requires.capacity_is c.get_one-2.ensures.none c.get_one-2.ensures.value in
-    (c.unwrap_or-capacity.ensures ∙ read.0, read.1, read.2)
+    u32_is (found_of c.args.matches.now) (codes "capacity") 65536 64 c.get_one-2.result c.unwrap_or-capacity.result
+    c.unwrap_or-capacity.ensures (omega arith) (omega arith) (omega arith)
+    c.requires.capacity_is c.get_one-2.ensures.none c.get_one-2.ensures.value
 
 pub returns : goal.returns
 returns c =

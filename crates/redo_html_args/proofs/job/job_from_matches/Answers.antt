@@ -3,7 +3,7 @@ use Rattle.std.specs.Str.Parse.{ParsesUnsigned, ExplainsUnsignedError, HasUnsign
 use Rattle.clap.specs.Matches.{found_of}
 use Rattle.clap.specs.Walk.{rows_of}
 use Rattle.redo_args.specs.Job.{number_or}
-use Rattle.redo_args.proofs.Getters.{flag_is, given_text_is, number_is, text_is, words_are}
+use Rattle.redo_args.proofs.Getters.{flag_is, given_text_is, text_is, u32_is, words_are}
 use Rattle.redo_html_args.specs.Private.Matches.{IsPageJob}
 use Rattle.redo_html_args.proofs.Getters.{unsigned_is}
 use Rattle.redo_html_args.proofs.job.job_from_matches.Goals as goal
@@ -11,11 +11,8 @@ use Rattle.redo_html_args.proofs.job.job_from_matches.Goals as goal
 senders : (c : goal.In_ok-bytes_of) → let n = number_or 4 (codes "senders") (rows_of (found_of c.args.matches.now)) in
     (c.unwrap_or-senders.result ≡ n) × (1 ≤ n) × (n ≤ 64)
 senders c =
-    let read = number_is _ (λ text read. ParsesUnsigned 32 10 text read × ExplainsUnsignedError 10 text read
-    × HasUnsignedDigitsIfOk text read) (found_of c.args.matches.now)
-    (codes "senders") 64 4 c.get_one-2.result (λ text read g. g.0) (omega arith) (omega arith)
-    (omega arith) c.requires.senders_are c.get_one-2.ensures.none c.get_one-2.ensures.value in
-    (c.unwrap_or-senders.ensures ∙ read.0, read.1, read.2)
+    u32_is (found_of c.args.matches.now) (codes "senders") 64 4 c.get_one-2.result c.unwrap_or-senders.result c.unwrap_or-senders.ensures
+    (omega arith) (omega arith) (omega arith) c.requires.senders_are c.get_one-2.ensures.none c.get_one-2.ensures.value
 
 max_bytes : (c : goal.In_ok-bytes_of)
     → c.unwrap_or-max_bytes.result ≡ number_or 16000000 (codes "max-bytes") (rows_of (found_of c.args.matches.now))

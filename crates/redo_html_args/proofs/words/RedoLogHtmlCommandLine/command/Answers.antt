@@ -2,7 +2,7 @@ use Rattle.std.proofs.Common.{◌≡◌, ◌∙◌, ap, codes, refl}
 use Rattle.std.proofs.lemmas.Result.{IfOk-weaker}
 use Rattle.redo_args.specs.CommandLine.{plain, with_rules}
 use Rattle.redo_html_args.specs.CommandLine.{redo_log_html, rules}
-use Rattle.redo_html_args.proofs.words.command.Goals as goal
+use Rattle.redo_html_args.proofs.words.RedoLogHtmlCommandLine.command.Goals as goal
 
 redo_log_html_is : with_rules rules (plain (codes "redo-log-html")) ≡ redo_log_html
 unfolding redo_log_html

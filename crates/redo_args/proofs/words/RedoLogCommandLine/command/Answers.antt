@@ -1,7 +1,7 @@
 use Rattle.std.proofs.Common.{◌≡◌, ◌∙◌, ◌++◌, ap, codes, refl}
 use Rattle.std.proofs.lemmas.Result.{IfOk-weaker}
 use Rattle.redo_args.specs.CommandLine.{flags, plain, redo_log, values, with_rules}
-use Rattle.redo_args.proofs.words.command.Goals as goal
+use Rattle.redo_args.proofs.words.RedoLogCommandLine.command.Goals as goal
 
 redo_log_is : with_rules (flags ++ values) (plain (codes "redo-log")) ≡ redo_log
 unfolding redo_log
