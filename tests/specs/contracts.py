@@ -48,7 +48,7 @@ def libraries_of(program):
 
 def libraries():
     """Returns the libraries of both programs, and those that no program uses yet, each after its own dependencies."""
-    unused = [crate for unused in ("redo_facts", "redo_diagnostics", "redo_json") for crate in [*libraries_of(unused), unused]]
+    unused = [crate for unused in ("redo_facts", "redo_diagnostics", "redo_json", "redo_json_args") for crate in [*libraries_of(unused), unused]]
     return list(dict.fromkeys(libraries_of("redo_log") + libraries_of("redo_log_html") + unused))
 
 

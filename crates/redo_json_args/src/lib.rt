@@ -1,0 +1,10 @@
+//! The command line of `redo-log-json`: the job that its arguments describe, or why they describe none; and the help
+//! text.
+#![tactic(auto)]
+
+mod job;
+mod words;
+
+pub use job::JsonJob;
+pub use redo_args::WordsFault;
+pub use words::{RedoLogJson, help_text, read_arguments};
