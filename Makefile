@@ -24,7 +24,7 @@ HOOK_FLAGS = -std=gnu11 -Wall -Wextra -O2 -fPIC -shared -nostdlib -ffreestanding
 # GCC's option against replacing loops by calls of the C library.
 NO_LIBRARY_LOOPS = $(shell $(CC) -fno-tree-loop-distribute-patterns -E -x c /dev/null >/dev/null 2>&1 && \
   echo -fno-tree-loop-distribute-patterns)
-VERSION = $(shell sed -n 's/^const VERSION.*redo-log \([0-9.]*\).*/\1/p' crates/redo_log/src/main.rt)
+VERSION = $(shell sed -n 's/^const VERSION.*redo-log \([0-9.]*\).*/\1/p' crates/redo_log_cli/src/program.rt)
 
 .PHONY: try run check build install install-capture deb dist version
 

@@ -34,7 +34,7 @@ def require(*programs):
 
 def version():
     """The version of the program, from its source."""
-    return re.search(r'^const VERSION: &str = "redo-log (\d+\.\d+\.\d+)\\n";$', contents("crates/redo_log/src/main.rt"), re.M)[1]
+    return re.search(r'^const VERSION: &str = "redo-log (\d+\.\d+\.\d+)\\n";$', contents("crates/redo_log_cli/src/program.rt"), re.M)[1]
 
 
 def environment(more=None):

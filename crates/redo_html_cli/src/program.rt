@@ -3,6 +3,9 @@ use redo_command::Program;
 use redo_html_args::{RedoLogHtml, WordsFault, help_text, read_arguments};
 use std::alloc::{AllocError, Global};
 
+/// The line that `--version` writes.
+const VERSION: &str = "redo-log-html 0.2.0\n";
+
 /// The program `redo-log-html`. It writes a page to the output file of its arguments, or else to standard output.
 pub struct HtmlProgram;
 
@@ -16,7 +19,7 @@ impl Program for HtmlProgram {
     }
 
     fn version(&self) -> &'static str {
-        "redo-log-html 0.2.0\n"
+        VERSION
     }
 
     fn always_explains(&self) -> bool {

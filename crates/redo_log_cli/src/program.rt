@@ -10,6 +10,9 @@ use std::rt::Files;
 use std::sync::Wait;
 use std::thread::Threads;
 
+/// The line that `--version` writes.
+const VERSION: &str = "redo-log 0.2.0\n";
+
 /// The program `redo-log`. It says what to do about a failure only with `--explain` as the first argument.
 pub struct TextProgram;
 
@@ -23,7 +26,7 @@ impl Program for TextProgram {
     }
 
     fn version(&self) -> &'static str {
-        "redo-log 0.2.0\n"
+        VERSION
     }
 
     fn always_explains(&self) -> bool {
