@@ -39,7 +39,7 @@ mutual
       last-append false (json_tokens json) (members_tokens others) ∙ members_end others (last false (json_tokens json))
 
 -- A value, and what is printed after it.
-value_then : (json : Json) (tokens : List Token)
+pub value_then : (json : Json) (tokens : List Token)
     → print_from false (json_tokens json ++ tokens) ≡ print (json_tokens json) ++ print_from true tokens
 value_then json tokens =
     print_from-append false (json_tokens json) tokens

@@ -1,5 +1,5 @@
 -- Objects are valid UTF-8.
-use Rattle.std.proofs.Common.{◌≡◌, ℕ, ℤ, pos, negsuc, zero, suc, ◌+◌, ◌<◌, ◌%◌, ◌/◌, Bool, true, false, List, [], ◌∷◌, ◌++◌, Option, None, Some, IsUtf8, inl, inr, refl, ap, ◌∙◌, arith}
+use Rattle.std.proofs.Common.{◌≡◌, ℕ, ℤ, pos, negsuc, zero, suc, ◌+◌, ◌<◌, ◌%◌, ◌/◌, Bool, true, false, List, [], ◌∷◌, ◌++◌, Option, None, Some, IsUtf8, inl, inr, option_and_then, option_map, refl, ap, ◌∙◌, arith}
 use Rattle.std.specs.Prelude.{◌==◌, codes, nat_lt, decimal, if◌then◌else◌}
 use Rattle.std.specs.Fmt.{digit_glyph, digits, digits_onto, signed_decimal}
 use Rattle.std.specs.Str.{is_utf8}
@@ -8,11 +8,15 @@ use Rattle.std.proofs.lemmas.Str.{IsUtf8-append, IsUtf8-from_ascii, IsUtf8-nil}
 use Rattle.base64.specs.Engines.{standard}
 use Rattle.base64.proofs.EngineFacts.{IsAscii-encode_of}
 use Rattle.json.specs.Token.{Token}
-use Rattle.json.specs.Json.{null}
+use Rattle.json.specs.Json.{null, number}
 use Rattle.json.specs.Print.{ends, print, print_from, token_text}
 use Rattle.json.specs.Tree.{items_tokens, json_tokens, members_tokens}
 use Rattle.json.proofs.Printed.Utf8.{IsUtf8-are_ascii, IsUtf8-key, IsUtf8-quoted, IsUtf8-separator, are_ascii}
-use Rattle.redo_json.specs.Fields.{Field, bytes_fields, exact_fields, exact_items, exact_list, exact_name, list_fields, members_of, number_value, object_with, optional_bytes_fields, signed_value, strings}
+use Rattle.redo_diagnostics.specs.declared.severity.Severity.{Severity}
+use Rattle.redo_diagnostics.specs.declared.severity.Severity.TheVariants.{Warning, Error, FatalError}
+use Rattle.redo_diagnostics.specs.Diagnostic.{PlaceValue}
+use Rattle.redo_json.specs.Diagnostics.{LogDiagnostic, diagnostic_fields, diagnostic_objects, diagnostics_field, diagnostics_of, severity_name}
+use Rattle.redo_json.specs.Fields.{Field, bytes_fields, field, exact_fields, exact_items, exact_list, exact_name, list_fields, members_of, number_value, object_with, optional_bytes_fields, signed_value, strings}
 use Rattle.redo_json.specs.Object.{LogValues, number_fields, object_fields, object_of}
 use Rattle.redo_json.specs.Text.{base64_of, exact_of, text_of}
 use Rattle.redo_json.proofs.TextLemmas.{text_utf8}
@@ -150,23 +154,74 @@ of_numbers values = (
   ),
 )
 
+-- ---- diagnostics
+
+severity_utf8 : (severity : Severity) → IsUtf8 (severity_name severity)
+severity_utf8 Warning = IsUtf8-are_ascii (codes "warning") refl
+severity_utf8 Error = IsUtf8-are_ascii (codes "error") refl
+severity_utf8 FatalError = IsUtf8-are_ascii (codes "fatal error") refl
+
+of_diagnostic : (one : LogDiagnostic) → AreText (diagnostic_fields one)
+of_diagnostic one =
+    let file : List Field = optional_bytes_fields (codes "file") (option_map (λ (place : PlaceValue). place.file) one.value.place) in
+    let message : List Field = bytes_fields (codes "message") one.value.message in
+    let flag : List Field = optional_bytes_fields (codes "flag") one.value.flag in
+    let key : List Field = bytes_fields (codes "key") one.value.key in
+    let nth : List Field = field (codes "nth") (number (decimal one.nth)) ∷ [] in (
+      (IsUtf8-are_ascii (codes "line") refl, of_number (Some one.line)),
+      (
+        (
+          IsUtf8-are_ascii (codes "severity") refl,
+          (IsUtf8-quoted (severity_name one.value.severity) (severity_utf8 one.value.severity), tt),
+        ),
+        are-append file _ (of_optional_bytes (codes "file") _ (IsUtf8-are_ascii (codes "file") refl)) (
+          (IsUtf8-are_ascii (codes "row") refl, of_number (option_map (λ (place : PlaceValue). place.row) one.value.place)),
+          (
+            (IsUtf8-are_ascii (codes "column") refl, of_number (option_and_then (λ (place : PlaceValue). place.column) one.value.place)),
+            are-append message (flag ++ (key
+                ++ nth)) (of_bytes (codes "message") one.value.message (IsUtf8-are_ascii (codes "message") refl))
+                (are-append flag (key ++ nth) (of_optional_bytes (codes "flag") one.value.flag (IsUtf8-are_ascii (codes "flag") refl))
+                (are-append key nth (of_bytes (codes "key") one.value.key (IsUtf8-are_ascii (codes "key") refl))
+                ((IsUtf8-are_ascii (codes "nth") refl, of_number (Some one.nth)), tt))),
+          ),
+        ),
+      ),
+    )
+
+of_objects : (found : List LogDiagnostic) → HaveText (items_tokens (diagnostic_objects found))
+of_objects [] = (IsUtf8-are_ascii (93 ∷ []) refl, tt)
+of_objects (one ∷ others) =
+    have-append (json_tokens (object_with (diagnostic_fields one))) (items_tokens (diagnostic_objects others))
+    (of_object (diagnostic_fields one) (of_diagnostic one)) (of_objects others)
+
+of_diagnostics : (lines : List (List ℕ)) → AreText (diagnostics_field lines ∷ [])
+of_diagnostics lines = (
+  (IsUtf8-are_ascii (codes "diagnostics") refl, (IsUtf8-are_ascii (91 ∷ []) refl, of_objects (diagnostics_of lines))),
+  tt,
+)
+
+-- ---- the object of a log
+
 of_fields : (values : LogValues) → AreText (object_fields values)
 of_fields values =
+    let found : List Field = diagnostics_field values.lines ∷ [] in
     let lines : List Field = list_fields (codes "lines") values.lines in
     let needs : List Field = list_fields (codes "needs") values.needs in
     let commands : List Field = list_fields (codes "commands") values.commands in
     let directory : List Field = optional_bytes_fields (codes "directory") values.directory in
     let numbers : List Field = number_fields values in
     let parent : List Field = optional_bytes_fields (codes "parent") values.parent in
-    are-append (bytes_fields (codes "target") values.target) (parent ++ (numbers ++ (directory ++ (commands ++ (needs ++ lines)))))
+    are-append (bytes_fields (codes "target") values.target)
+    (parent ++ (numbers ++ (directory ++ (commands ++ (needs ++ (lines ++ found))))))
     (of_bytes (codes "target") values.target (IsUtf8-are_ascii _ refl))
-    (are-append parent (numbers ++ (directory ++ (commands ++ (needs ++ lines))))
+    (are-append parent (numbers ++ (directory ++ (commands ++ (needs ++ (lines ++ found)))))
     (of_optional_bytes (codes "parent") values.parent (IsUtf8-are_ascii _ refl))
-    (are-append numbers (directory ++ (commands ++ (needs ++ lines))) (of_numbers values)
-    (are-append directory (commands ++ (needs ++ lines)) (of_optional_bytes (codes "directory") values.directory (IsUtf8-are_ascii _ refl))
-    (are-append commands (needs ++ lines) (of_list (codes "commands") values.commands (IsUtf8-are_ascii _ refl))
-    (are-append needs lines (of_list (codes "needs") values.needs (IsUtf8-are_ascii _ refl))
-    (of_list (codes "lines") values.lines (IsUtf8-are_ascii _ refl)))))))
+    (are-append numbers (directory ++ (commands ++ (needs ++ (lines ++ found)))) (of_numbers values)
+    (are-append directory (commands ++ (needs ++ (lines ++ found)))
+    (of_optional_bytes (codes "directory") values.directory (IsUtf8-are_ascii _ refl))
+    (are-append commands (needs ++ (lines ++ found)) (of_list (codes "commands") values.commands (IsUtf8-are_ascii _ refl))
+    (are-append needs (lines ++ found) (of_list (codes "needs") values.needs (IsUtf8-are_ascii _ refl))
+    (are-append lines found (of_list (codes "lines") values.lines (IsUtf8-are_ascii _ refl)) (of_diagnostics values.lines)))))))
 
 pub object_utf8 : (values : LogValues) → IsUtf8 (print (json_tokens (object_of values)))
 object_utf8 values = print_utf8 false (json_tokens (object_of values)) (of_object (object_fields values) (of_fields values))

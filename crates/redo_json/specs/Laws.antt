@@ -1,10 +1,23 @@
--- Definitions that state the laws about objects.
-use Rattle.std.specs.Prelude.{◌≡◌, ⊤, ℕ, ℤ, ◌<◌, ◌^◌, Option, None, Some}
+-- Definitions that state the laws about objects and builds.
+use Rattle.std.specs.Prelude.{◌≡◌, ⊤, ℕ, ℤ, ◌<◌, ◌≤◌, ◌^◌, List, [], Option, None, Some, IfSome, length, map, option_and_then, slice_get, slice_index_or}
+use Rattle.std.specs.List.{AllByRecursion}
 use lib.Signed.{mag}
 use Rattle.json.specs.Json.{Json, document}
 use Rattle.json.specs.Print.{print}
 use Rattle.json.specs.Tree.{json_tokens}
-use Rattle.redo_json.specs.Object.{LogValues}
+use Rattle.redo_line.specs.Lines.{ended, rest}
+use Rattle.redo_diagnostics.specs.Diagnostic.{DiagnosticValue, diagnostic_of}
+use Rattle.redo_facts.specs.Facts.{RecipeFacts, nothing}
+use Rattle.redo_facts.specs.declared.statement.Usage.{Usage}
+use Rattle.redo_line.specs.declared.entry.Entry.{Entry}
+use Rattle.redo_line.specs.declared.entry.Entry.TheVariants.{Closing, Done}
+use Rattle.redo_times.specs.Times.{AreInRange}
+use Rattle.redo_logs.specs.Logs.{Log}
+use Rattle.redo_view.specs.Event.{Event}
+use Rattle.redo_outline.specs.Facts.{target_status, texts_of}
+use Rattle.redo_json.specs.Build.{Request, needs_of, object_text, unknown_times}
+use Rattle.redo_json.specs.Diagnostics.{LogDiagnostic}
+use Rattle.redo_json.specs.Object.{LogValues, object_of}
 
 -- Whether programs that read numbers as doubles read this one exactly.
 abbrev pub IsExact : Option ℕ → Type 0
@@ -15,9 +28,72 @@ abbrev pub IsExactSigned : Option ℤ → Type 0
 IsExactSigned None = ⊤
 IsExactSigned (Some number) = mag number < 2 ^ 53
 
+-- The same of all numbers of a log. The numbers of its diagnostics are exact if it has no more lines than this.
 abbrev pub HasExactNumbers : LogValues → Type 0
-HasExactNumbers values = IsExactSigned values.status × IsExact values.start_ms × IsExact values.end_ms × IsExact values.cpu_ms × IsExact values.peak_kb
+HasExactNumbers values =
+    IsExactSigned values.status × IsExact values.start_ms × IsExact values.end_ms × IsExact values.cpu_ms × IsExact values.peak_kb
+    × (length values.lines ≤ 2 ^ 53)
+
+-- Whether an entry has a status that is exact, or none. The statuses of records have at most nine digits.
+abbrev pub IsExactEntry : Entry → Type 0
+IsExactEntry (Done pid status name) = mag status < 2 ^ 53
+IsExactEntry (Closing pid status) = mag status < 2 ^ 53
+IsExactEntry entry = ⊤
+
+pub record HasExactEntries (log : Log) : Type 0 where
+  pub statuses : AllByRecursion IsExactEntry log.entries
+  pub few : length log.entries ≤ 2 ^ 53
+
+-- Whether the numbers have at most 15 digits, as in a file of facts.
+pub record HasExactUsage (usage : Usage) : Type 0 where
+  pub user : usage.user_ms < 10 ^ 15
+  pub system : usage.system_ms < 10 ^ 15
+  pub peak : usage.peak_kb < 10 ^ 15
+
+-- The numbers from which a build is written are as logs and files of facts have them.
+pub record HasExactInputs (request : Request) (logs : List Log) : Type 0 where
+  pub times : AllByRecursion AreInRange request.times
+  pub usage : AllByRecursion (λ (facts : RecipeFacts). IfSome facts.usage HasExactUsage) request.facts
+  pub entries : AllByRecursion HasExactEntries logs
 
 -- Whether a reader of JSON reads the printed value as this value.
 abbrev pub IsReadBack : Json → Type 0
 IsReadBack json = document (print (json_tokens json)) ≡ Some json
+
+-- Some JSON, split at line feeds, is the objects of these values, one in each line. A reader of JSON reads each line as its object.
+pub record AreReadBack (json : List ℕ) (all : List LogValues) : Type 0 where
+  pub lines : ended json ≡ map object_text all
+  pub whole : rest json ≡ []
+  pub each : AllByRecursion (λ values. IsReadBack (object_of values)) all
+
+-- The targets of some objects, in order.
+abbrev pub targets_in : List LogValues → List (List ℕ)
+targets_in all = map (λ (values : LogValues). values.target) all
+
+-- These are the values of one of the logs: what this log itself says of its target, and what is known of this target. `events` are what
+-- is shown.
+pub record IsOfLog (request : Request) (logs : List Log) (events : List Event) (values : LogValues) : Type 0 where
+  pub number : ℕ
+  pub log : Log
+  pub is_log : slice_get logs number ≡ Some log
+  pub target : values.target ≡ log.target
+  pub status : values.status ≡ target_status logs events number
+  pub start_ms : values.start_ms ≡ (slice_index_or request.times number unknown_times).began
+  pub end_ms : values.end_ms ≡ (slice_index_or request.times number unknown_times).ended
+  pub directory : values.directory ≡ (slice_index_or request.facts number nothing).directory
+  pub needs : values.needs ≡ needs_of log.entries
+  pub lines : values.lines ≡ texts_of log.entries
+
+-- The line at the position of a diagnostic says what the diagnostic says.
+abbrev pub IsOfLine : List (List ℕ) → LogDiagnostic → Type 0
+IsOfLine lines one = option_and_then (λ (line : List ℕ). diagnostic_of line) (slice_get lines one.line) ≡ Some one.value
+
+abbrev pub found_values : List LogDiagnostic → List DiagnosticValue
+found_values all = map (λ (one : LogDiagnostic). one.value) all
+
+abbrev pub keys_in : List LogDiagnostic → List (List ℕ)
+keys_in all = map (λ (one : LogDiagnostic). one.value.key) all
+
+-- The key and the number of each diagnostic.
+abbrev pub ids_in : List LogDiagnostic → List (List ℕ × ℕ)
+ids_in all = map (λ (one : LogDiagnostic). (one.value.key, one.nth)) all

@@ -1,3 +1,5 @@
+pub mod Build
+pub mod Diagnostics
 pub mod Fields
 pub mod Laws
 pub mod Object

@@ -1,8 +1,7 @@
 -- The object of a log.
-use Rattle.std.specs.Prelude.{ℕ, ℤ, List, [], ◌∷◌, ◌++◌, Option, codes, map}
-use Rattle.std.specs.Option.{option_copied}
+use Rattle.std.specs.Prelude.{ℕ, ℤ, List, [], ◌∷◌, ◌++◌, Option, codes}
 use Rattle.json.specs.Json.{Json}
-use Rattle.redo_json.specs.declared.object.LogObject.{LogObject}
+use Rattle.redo_json.specs.Diagnostics.{diagnostics_field}
 use Rattle.redo_json.specs.Fields.{Field, bytes_fields, field, list_fields, number_value, object_with, optional_bytes_fields, signed_value}
 
 -- The values of a log. An unknown value is `None`, or an empty list.
@@ -37,23 +36,8 @@ object_fields values =
     ++ (optional_bytes_fields (codes "directory") values.directory
     ++ (list_fields (codes "commands") values.commands
     ++ (list_fields (codes "needs") values.needs
-    ++ list_fields (codes "lines") values.lines)))))
+    ++ (list_fields (codes "lines") values.lines
+    ++ diagnostics_field values.lines ∷ []))))))
 
 abbrev pub object_of : LogValues → Json
 object_of values = object_with (object_fields values)
-
--- What a `LogObject` says.
-abbrev pub values_of : LogObject → LogValues
-values_of log = record {
-  target = log.target.now;
-  parent = option_copied log.parent;
-  status = log.status;
-  start_ms = log.start_ms;
-  end_ms = log.end_ms;
-  cpu_ms = log.cpu_ms;
-  peak_kb = log.peak_kb;
-  directory = option_copied log.directory;
-  commands = map (λ bytes. bytes.now) log.commands.now;
-  needs = map (λ bytes. bytes.now) log.needs.now;
-  lines = map (λ bytes. bytes.now) log.lines.now;
-}

@@ -1,11 +1,23 @@
 //! Laws, which are theorems about the definitions alone: each contract is a theorem, and the bodies are empty.
-ghost use Rattle.std.specs.Prelude.{◌≡◌, ℕ, List, Some, IsUtf8};
+ghost use Rattle.std.specs.Prelude.{◌≡◌, ℕ, List, None, Some, IsUtf8, filter_map, min, nat_eq};
+ghost use Rattle.std.specs.Cmp.Lexicographic.{pointwise};
+ghost use Rattle.std.specs.List.{AllByRecursion, IsDistinct};
 ghost use Rattle.base64.specs.GeneralPurpose.{IsBytes};
 ghost use Rattle.json.specs.Print.{print, quoted};
 ghost use Rattle.json.specs.Tree.{json_tokens};
-ghost use Rattle.redo_json.specs.Laws.{HasExactNumbers, IsReadBack};
+ghost use Rattle.redo_diagnostics.specs.Counts.{numbered_keys, times_of};
+ghost use Rattle.redo_diagnostics.specs.Diagnostic.{diagnostic_of};
+ghost use Rattle.redo_line.specs.declared.entry.Entry.{Entry};
+ghost use Rattle.redo_logs.specs.Logs.{Log};
+ghost use Rattle.redo_view.specs.Laws.{opened_for};
+ghost use Rattle.redo_view.specs.View.{find_unknown};
+ghost use Rattle.redo_json.specs.Build.{Request, build_events, build_json, build_values, mentions_in, needs_of, options_of};
+ghost use Rattle.redo_json.specs.Diagnostics.{diagnostics_of};
+ghost use Rattle.redo_json.specs.Laws.{AreReadBack, HasExactInputs, HasExactNumbers, IsOfLine, IsOfLog, IsReadBack, found_values, ids_in, keys_in, targets_in};
 ghost use Rattle.redo_json.specs.Object.{LogValues, object_of};
 ghost use Rattle.redo_json.specs.Text.{base64_of, bytes_from, exact_of, text_of};
+
+use redo_outline::events_are_in_contents;
 
 /// Whatever bytes are written, their text and their exact bytes in Base64, if these are written, say together what the bytes are.
 pub fn bytes_are_recovered()
@@ -18,12 +30,55 @@ pub fn strings_are_utf8()
     ensures base64 { (bytes : List ℕ) → IsUtf8 (quoted (base64_of bytes)) }
 {}
 
-/// The object of a log is valid UTF-8, for all values.
+/// The object of a log is valid UTF-8, for all values, and so is the JSON of a build.
 pub fn json_is_utf8()
-    ensures { (values : LogValues) → IsUtf8 (print (json_tokens (object_of values))) }
+    ensures object { (values : LogValues) → IsUtf8 (print (json_tokens (object_of values))) }
+    ensures build { (request : Request) (logs : List Log) (requested : List (List ℕ)) → IsUtf8 (build_json request logs requested) }
 {}
 
-/// A reader of JSON reads the object of a log as what it is, if its numbers are below 2^53.
+/// A reader of JSON reads the object of a log as what it is, if its numbers are below 2^53. The JSON of a build, split at line feeds, is
+/// the objects of the logs that are opened. So no object has a line feed.
 pub fn objects_are_read()
-    ensures { (values : LogValues) → HasExactNumbers values → IsReadBack (object_of values) }
+    ensures object { (values : LogValues) → HasExactNumbers values → IsReadBack (object_of values) }
+    ensures build { (request : Request) (logs : List Log) (requested : List (List ℕ)) →
+        AllByRecursion HasExactNumbers (build_values request logs requested) →
+        AreReadBack (build_json request logs requested) (build_values request logs requested) }
+{}
+
+/// The numbers of a build's objects are below 2^53 if its times are in their range, its facts and the statuses in its logs have as many digits
+/// as lines and records may have, and no log has more than 2^53 entries.
+pub fn numbers_are_exact()
+    ensures { (request : Request) (logs : List Log) (requested : List (List ℕ)) → HasExactInputs request logs →
+        AllByRecursion HasExactNumbers (build_values request logs requested) }
+{}
+
+/// There is an object for each log that is opened for the requested targets, in this order, if each of these targets has a log. No two
+/// objects have the same target.
+pub fn each_log_has_one_object()
+    ensures opened { (request : Request) (logs : List Log) (requested : List (List ℕ)) → find_unknown logs requested ≡ None →
+        targets_in (build_values request logs requested) ≡ opened_for logs (options_of request) requested }
+    ensures once { (request : Request) (logs : List Log) (requested : List (List ℕ)) → find_unknown logs requested ≡ None →
+        IsDistinct (pointwise nat_eq) (targets_in (build_values request logs requested)) }
+{
+    events_are_in_contents();
+    redo_view::each_log_once();
+}
+
+/// Each object has the values of one log: what this log says of its target, and what is known of this target.
+pub fn objects_are_of_logs()
+    ensures { (request : Request) (logs : List Log) (requested : List (List ℕ)) →
+        AllByRecursion (IsOfLog request logs (build_events request logs requested)) (build_values request logs requested) }
+{}
+
+/// A log needs a target once if its entries mention the target, and otherwise not.
+pub fn needs_are_mentioned()
+    ensures { (entries : List Entry) (name : List ℕ) → times_of name (needs_of entries) ≡ min (times_of name (mentions_in entries)) 1 }
+{}
+
+/// An object has the diagnostics of all lines, in order, each with the position of its line. Its key and its number are the id that the law
+/// `ids_are_distinct` of `redo_diagnostics` is about.
+pub fn diagnostics_are_of_lines()
+    ensures all { (lines : List (List ℕ)) → found_values (diagnostics_of lines) ≡ filter_map diagnostic_of lines }
+    ensures positions { (lines : List (List ℕ)) → AllByRecursion (IsOfLine lines) (diagnostics_of lines) }
+    ensures ids { (lines : List (List ℕ)) → ids_in (diagnostics_of lines) ≡ numbered_keys (keys_in (diagnostics_of lines)) }
 {}

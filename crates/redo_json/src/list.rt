@@ -31,14 +31,15 @@ fn write_items<W: Sink>(list: &[&[u8]], out: &mut W) -> Result<(), Broken>
     Ok(())
 }
 
-fn write_item<W: Sink>(is_first: bool, bytes: &[u8], out: &mut W) -> Result<(), Broken>
+/// Writes the text of an item, after a comma unless it is the first item.
+pub fn write_item<W: Sink>(is_first: bool, bytes: &[u8], out: &mut W) -> Result<(), Broken>
     ensures { Writes (W.written out.old) (W.written out.new) (item_text is_first bytes.now) result }
 {
     write_parts(&[Part::Json(comma_after(is_first)), Part::Text(bytes)], out)
 }
 
-// Returns the comma before an item that isn't the first one.
-fn comma_after(is_first: bool) -> &'static [u8]
+/// Returns the comma before an item that isn't the first one.
+pub fn comma_after(is_first: bool) -> &'static [u8]
     ensures { result.now ≡ (if is_first then [] else 44 ∷ []) }
 {
     if is_first { b"" } else { b"," }
@@ -94,8 +95,8 @@ fn next_exact(list: &[&[u8]], from: usize) -> Option<usize>
     None
 }
 
-// Writes the exact bytes of an item.
-fn write_exact_item<W: Sink>(position: usize, bytes: &[u8], out: &mut W) -> Result<(), Broken>
+/// Writes the exact bytes of the item at this position.
+pub fn write_exact_item<W: Sink>(position: usize, bytes: &[u8], out: &mut W) -> Result<(), Broken>
     ensures { Writes (W.written out.old) (W.written out.new) (exact_item position bytes.now) result }
 {
     write_parts(

@@ -1,15 +1,23 @@
 //! The object of a log.
 ghost use Rattle.std.specs.Prelude.{◌∷◌, ◌++◌, []};
-ghost use Rattle.json.specs.Print.{print};
-ghost use Rattle.json.specs.Tree.{json_tokens};
 ghost use Rattle.redo_device.specs.Sink.{Writes};
-ghost use Rattle.redo_json.specs.Object.{number_fields, object_of, values_of};
-ghost use Rattle.redo_json.specs.Private.Parts.{comma_fields};
+ghost use Rattle.redo_line.specs.Lines.{with_line_feed};
+ghost use Rattle.redo_view.specs.Form.{FormWrites};
+ghost use Rattle.redo_json.specs.Build.{object_text};
+ghost use Rattle.redo_json.specs.Object.{number_fields};
+ghost use Rattle.redo_json.specs.Private.Parts.{comma_fields, front_text};
+ghost use Rattle.redo_json.specs.Private.Values.{values_of};
 
+use crate::diagnostics::write_diagnostics;
 use crate::field::{write_exact, write_number, write_optional_bytes, write_signed};
+use crate::lines::write_lines;
 use crate::list::write_list;
 use crate::part::{Part, write_parts};
 use redo_device::{Broken, Sink, push_all};
+use redo_line::HashKeys;
+use redo_logs::LogTable;
+use redo_view::FormFault;
+use std::alloc::Global;
 
 /// The values of a log. An unknown value is `None`, or an empty list.
 #[derive(Clone, Copy)]
@@ -34,13 +42,30 @@ pub struct LogObject<'a> {
     pub commands: &'a [&'a [u8]],
     /// The targets that the log mentions.
     pub needs: &'a [&'a [u8]],
-    /// The text lines of the log.
-    pub lines: &'a [&'a [u8]],
+    /// The table that has the text lines of the log.
+    pub table: &'a LogTable,
+    /// The number of the log in this table.
+    pub number: u32,
 }
 
-/// Writes the object of a log, and a line feed. If a write fails, a prefix of it was written, and no write followed.
-pub fn write_object<W: Sink>(log: &LogObject<'_>, out: &mut W) -> Result<(), Broken>
-    ensures { Writes (W.written out.old) (W.written out.new) (print (json_tokens (object_of (values_of log.now))) ++ 10 ∷ []) result }
+/// Writes the object of a log, and a line feed. The keys of diagnostics are hashed with `keys`.
+pub fn write_object<W: Sink>(
+    alloc: Global,
+    keys: HashKeys,
+    log: &LogObject<'_>,
+    out: &mut W,
+) -> Result<(), FormFault>
+    ensures { FormWrites (W.written out.old) (W.written out.new) (with_line_feed (object_text (values_of log.now))) result }
+{
+    write_front(log, out)?;
+    write_diagnostics(alloc, keys, log.table, log.number, out)?;
+    push_all(out, b"}\n")?;
+    Ok(())
+}
+
+// Writes an object up to the text lines of the log.
+fn write_front<W: Sink>(log: &LogObject<'_>, out: &mut W) -> Result<(), Broken>
+    ensures { Writes (W.written out.old) (W.written out.new) (front_text (values_of log.now)) result }
 {
     write_parts(&[Part::Json(b"{\"target\":"), Part::Text(log.target)], out)?;
     write_exact(b"target", log.target, out)?;
@@ -49,8 +74,7 @@ pub fn write_object<W: Sink>(log: &LogObject<'_>, out: &mut W) -> Result<(), Bro
     write_optional_bytes(b"directory", log.directory, out)?;
     write_list(b"commands", log.commands, out)?;
     write_list(b"needs", log.needs, out)?;
-    write_list(b"lines", log.lines, out)?;
-    push_all(out, b"}\n")
+    write_lines(b"lines", log.table, log.number, out)
 }
 
 fn write_numbers<W: Sink>(log: &LogObject<'_>, out: &mut W) -> Result<(), Broken>

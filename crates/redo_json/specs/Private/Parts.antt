@@ -1,5 +1,5 @@
 -- What the writers of objects ensure.
-use Rattle.std.specs.Prelude.{◌≡◌, ℕ, ◌+◌, ◌<◌, ◌≤◌, Bool, false, List, [], ◌∷◌, ◌++◌, length, drop, get_or, decimal, if◌then◌else◌}
+use Rattle.std.specs.Prelude.{◌≡◌, ℕ, ◌+◌, ◌<◌, ◌≤◌, Bool, false, List, [], ◌∷◌, ◌++◌, length, drop, get_or, codes, decimal, if◌then◌else◌}
 use Rattle.std.specs.Fmt.{signed_decimal}
 use Rattle.std.specs.List.{flat_map}
 use Rattle.json.specs.Json.{string}
@@ -7,8 +7,10 @@ use Rattle.json.specs.Print.{escape, print, quoted}
 use Rattle.json.specs.Tree.{json_tokens}
 use Rattle.redo_json.specs.declared.part.Part.{Part}
 use Rattle.redo_json.specs.declared.part.Part.TheVariants.{Base64, Escaped, Json, Number, Position, Signed, Text}
-use Rattle.redo_json.specs.Fields.{Field, exact_items, field}
-use Rattle.redo_json.specs.Text.{base64_of, text_of}
+use Rattle.redo_json.specs.Diagnostics.{LogDiagnostic, diagnostic_fields}
+use Rattle.redo_json.specs.Fields.{Field, exact_fields, exact_items, exact_name, field, list_fields, object_with, optional_bytes_fields}
+use Rattle.redo_json.specs.Object.{LogValues, number_fields}
+use Rattle.redo_json.specs.Text.{base64_of, exact_of, text_of}
 
 abbrev pub part_text : Part → List ℕ
 part_text (Json json) = json.now
@@ -48,3 +50,65 @@ pub record IsNextExact (list : List (List ℕ)) (from at : ℕ) : Type 0 where
   pub not_before : from ≤ at
   pub fields : exact_items from (drop from list)
       ≡ field (decimal at) (string (base64_of (get_or list at []))) ∷ exact_items (at + 1) (drop (at + 1) list)
+
+-- A comma, unless it would be before the first item.
+abbrev pub comma_if : Bool → List ℕ
+comma_if is_first = if is_first then [] else 44 ∷ []
+
+-- The object of a diagnostic, with the comma before it.
+abbrev pub diagnostic_text : Bool → LogDiagnostic → List ℕ
+diagnostic_text is_first one = comma_if is_first ++ print (json_tokens (object_with (diagnostic_fields one)))
+
+abbrev pub diagnostics_text : Bool → List LogDiagnostic → List ℕ
+diagnostics_text is_first [] = []
+diagnostics_text is_first (one ∷ others) = diagnostic_text is_first one ++ diagnostics_text false others
+
+-- ---- the object of a log
+
+module _ (values : LogValues) where
+  -- The members of an object up to the text lines: the first one, and then those after it.
+  abbrev pub first_part : List ℕ
+  first_part = codes "{\"target\":" ++ (quoted (text_of values.target) ++ [])
+
+  abbrev pub exact_target : List ℕ
+  exact_target = comma_fields (exact_fields (exact_name (codes "target")) (exact_of values.target))
+
+  abbrev pub parent_part : List ℕ
+  parent_part = comma_fields (optional_bytes_fields (codes "parent") values.parent)
+
+  abbrev pub numbers_part : List ℕ
+  numbers_part = comma_fields (number_fields values)
+
+  abbrev pub directory_part : List ℕ
+  directory_part = comma_fields (optional_bytes_fields (codes "directory") values.directory)
+
+  abbrev pub commands_part : List ℕ
+  commands_part = comma_fields (list_fields (codes "commands") values.commands)
+
+  abbrev pub needs_part : List ℕ
+  needs_part = comma_fields (list_fields (codes "needs") values.needs)
+
+  abbrev pub lines_part : List ℕ
+  lines_part = comma_fields (list_fields (codes "lines") values.lines)
+
+  -- These parts of an object from one on.
+  abbrev pub from_needs : List ℕ
+  from_needs = needs_part ++ lines_part
+
+  abbrev pub from_commands : List ℕ
+  from_commands = commands_part ++ from_needs
+
+  abbrev pub from_directory : List ℕ
+  from_directory = directory_part ++ from_commands
+
+  abbrev pub from_numbers : List ℕ
+  from_numbers = numbers_part ++ from_directory
+
+  abbrev pub from_parent : List ℕ
+  from_parent = parent_part ++ from_numbers
+
+  abbrev pub from_exact : List ℕ
+  from_exact = exact_target ++ from_parent
+
+  abbrev pub front_text : List ℕ
+  front_text = first_part ++ from_exact

@@ -1,0 +1,144 @@
+-- The nodes of an outline have the values of the logs that are opened.
+use Rattle.std.proofs.Common.{◌≡◌, ℕ, zero, suc, ◌+◌, ◌<◌, List, [], ◌∷◌, ◌++◌, Option, None, Some, Result, Ok, Err, ℤ, length, map, option_copied, option_map, slice_get, slice_index_or, refl, sym, ap, ap₂, ◌∙◌, arith, append_assoc}
+use Rattle.std.proofs.lemmas.List.{append-nil, length-append, map-append}
+use Rattle.std.specs.List.{flat_map}
+use Rattle.std.specs.Result.{IsErrAnd}
+use Rattle.redo_device.specs.Sink.{Output}
+use Rattle.redo_device.proofs.WritesLemmas.{append_nothing}
+use Rattle.redo_line.specs.Lines.{with_line_feed}
+use Rattle.redo_logs.specs.Logs.{Log}
+use Rattle.redo_options.specs.declared.options.Options.{Options}
+use Rattle.redo_view.specs.Expansion.{shown_events}
+use Rattle.redo_view.specs.Form.{FormWrites}
+use Rattle.redo_view.specs.declared.form.FormFault.{FormFault}
+use Rattle.redo_view.specs.declared.form.FormFault.TheVariants.{Write, OutOfMemory}
+use Rattle.redo_view.specs.Event.{Event}
+use Rattle.redo_outline.specs.declared.node.Node.{Node}
+use Rattle.redo_outline.specs.Contents.{Contents, contents_of}
+use Rattle.redo_outline.specs.Contents.Contents.{Nothing, Shown, Opened}
+use Rattle.redo_outline.specs.Facts.{entries_at, target_at, target_status, texts_of}
+use Rattle.redo_outline.specs.Outline.{log_count, node_of, nodes_of, outline_of}
+use Rattle.redo_facts.specs.Facts.{RecipeCommand, nothing}
+use Rattle.redo_times.specs.declared.times.Times.{Times}
+use Rattle.redo_json.specs.declared.build.Recipe.{Recipe}
+use Rattle.redo_json.specs.Build.{Request, build_json, log_values, needs_of, object_text, options_of, unknown_times, values_in}
+use Rattle.redo_json.specs.Object.{LogValues}
+use Rattle.redo_json.specs.Private.Values.{IsRecipeOf, node_values, parent_name}
+
+-- The item after some others.
+item_after : {A : Type 0} (before : List A) (one : A) (after : List A) → slice_get (before ++ one ∷ after) (length before) ≡ Some one
+item_after [] one after = refl
+item_after (first ∷ before) one after = item_after before one after
+
+module _ (request : Request) (logs : List Log) (status : ℕ → Option ℤ) where
+  abbrev nodes_in : Option ℕ → ℕ → Contents → List Node
+  nodes_in parent position contents = nodes_of logs status parent position contents
+
+  count_is : (parent : Option ℕ) (position : ℕ) (contents : Contents) → length (nodes_in parent position contents) ≡ log_count contents
+  count_is parent position Nothing = refl
+  count_is parent position (Shown event rest) = count_is parent position rest
+  count_is parent position (Opened event number inside rest) =
+      let inner = count_is (Some position) (suc position) inside in
+      let outer = count_is parent (suc position + log_count inside) rest in
+      let both = length-append (nodes_in (Some position) (suc position) inside) (nodes_in parent (suc position + log_count inside) rest) in
+      omega (arith, inner, outer, both)
+
+  -- The nodes of some contents are within all nodes: `before` are the nodes before them, and `after` those after them.
+  values_are : (all before after : List Node) (parent : Option ℕ) (position : ℕ) (contents : Contents)
+      → all ≡ before ++ (nodes_in parent position contents ++ after) → length before ≡ position
+      → map (node_values request logs all) (nodes_in parent position contents)
+      ≡ values_in request logs status (parent_name logs all parent) contents
+  values_are all before after parent position Nothing whole counted = refl
+  values_are all before after parent position (Shown event rest) whole counted =
+      values_are all before after parent position rest whole counted
+  values_are all before after parent position (Opened event number inside rest) whole counted =
+      let one = node_of logs status parent number inside rest in
+      let inner = nodes_in (Some position) (suc position) inside in
+      let outer = nodes_in parent (suc position + log_count inside) rest in
+      let first : List Node = before ++ one ∷ [] in
+      let both : List Node = first ++ inner in
+      let first_count : length first ≡ suc position = omega (arith, length-append before (one ∷ []), counted) in
+      let both_count : length both ≡ suc position + log_count inside =
+      omega (arith, length-append first inner, first_count, count_is (Some position) (suc position) inside) in
+      let split : all ≡ first ++ (inner ++ (outer ++ after)) =
+      whole ∙ ap (λ (l : List Node). before ++ one ∷ l) (append_assoc inner outer after)
+      ∙ sym (append_assoc before (one ∷ []) (inner ++ (outer ++ after))) in
+      let split_more : all ≡ both ++ (outer ++ after) = split ∙ sym (append_assoc first inner (outer ++ after)) in
+      let here : slice_get all position ≡ Some one =
+      ap (λ (n : ℕ). slice_get all n) (sym counted) ∙ ap (λ (l : List Node). slice_get l (length before)) whole
+      ∙ item_after before one ((inner ++ outer) ++ after) in
+      ap (λ (l : List LogValues). node_values request logs all one ∷ l)
+      (map-append (node_values request logs all) inner outer
+      ∙ ap₂ (λ (a b : List LogValues). a ++ b)
+      (values_are all first (outer ++ after) (Some position) (suc position) inside split first_count
+      ∙ ap (λ (p : Option (List ℕ)). values_in request logs status p inside)
+      (ap (λ (n : Option Node). option_map (λ (node : Node). target_at logs node.number) n) here))
+      (values_are all both after parent (suc position + log_count inside) rest split_more both_count))
+
+-- The values of all nodes.
+pub outline_values : (request : Request) (logs : List Log) (events : List Event)
+    → map (node_values request logs (outline_of logs events)) (outline_of logs events)
+    ≡ values_in request logs (target_status logs events) None (contents_of events)
+outline_values request logs events =
+    let all = outline_of logs events in
+    values_are request logs (target_status logs events) all [] [] None 0 (contents_of events) (sym (append-nil all)) refl
+
+-- The objects of all nodes.
+pub build_text : (request : Request) (logs : List Log) (requested : List (List ℕ)) (options : Options) (nodes : List Node)
+    → options ≡ options_of request → nodes ≡ outline_of logs (shown_events logs options requested)
+    → flat_map (λ (node : Node). with_line_feed (object_text (node_values request logs nodes node))) nodes
+    ≡ build_json request logs requested
+build_text request logs requested options nodes same is =
+    let events = shown_events logs (options_of request) requested in
+    let all = outline_of logs events in
+    ap (λ (ns : List Node). flat_map (λ (node : Node). with_line_feed (object_text (node_values request logs ns node))) ns)
+    (is ∙ ap (λ (o : Options). outline_of logs (shown_events logs o requested)) same)
+    ∙ sym (flat_map-map (λ (values : LogValues). with_line_feed (object_text values)) (node_values request logs all) all)
+    ∙ ap (λ (l : List LogValues). flat_map (λ (values : LogValues). with_line_feed (object_text values)) l)
+    (outline_values request logs events)
+  where
+    flat_map-map : (f : LogValues → List ℕ) (v : Node → LogValues) (ns : List Node)
+        → flat_map f (map v ns) ≡ flat_map (λ (node : Node). f (v node)) ns
+    flat_map-map f v [] = refl
+    flat_map-map f v (node ∷ ns) = ap (λ (l : List ℕ). f (v node) ++ l) (flat_map-map f v ns)
+
+pub no_memory : (output : Option Output) (text : List ℕ) (result : Result (Unit {0}) FormFault)
+    → IsErrAnd result (λ fault. fault ≡ OutOfMemory) → FormWrites output output text result
+no_memory output text (Ok done) is = absurd is
+no_memory output text (Err Write) is = absurd (cc)
+no_memory output text (Err OutOfMemory) is = (0, append_nothing output)
+
+-- The values that are written for a node.
+pub values_path : (request : Request) (logs : List Log) (nodes : List Node) (node : Node) (target : List ℕ) (parent : Option (List ℕ))
+    (times : Times) (recipe : Recipe) (commands needs : List (List ℕ)) → target ≡ target_at logs node.number
+    → parent ≡ parent_name logs nodes node.parent → times ≡ slice_index_or request.times node.number unknown_times
+    → IsRecipeOf (slice_index_or request.facts node.number nothing) recipe
+    → commands ≡ map (λ (command : RecipeCommand). command.text) recipe.commands.now → needs ≡ needs_of (entries_at node.number logs)
+    → ◌≡◌ {A = LogValues} (record {
+      target = target;
+      parent = parent;
+      status = node.status;
+      start_ms = times.began;
+      end_ms = times.ended;
+      cpu_ms = recipe.cpu_ms;
+      peak_kb = recipe.peak_kb;
+      directory = option_copied recipe.directory;
+      commands = commands;
+      needs = needs;
+      lines = texts_of (entries_at node.number logs);
+    }) (node_values request logs nodes node)
+values_path request logs nodes node target parent times recipe commands needs target_is parent_is times_is recipe_is commands_are
+    needs_are =
+    λ i. record {
+      target = target_is i;
+      parent = parent_is i;
+      status = node.status;
+      start_ms = (times_is i).began;
+      end_ms = (times_is i).ended;
+      cpu_ms = recipe_is.cpu_ms i;
+      peak_kb = recipe_is.peak_kb i;
+      directory = recipe_is.directory i;
+      commands = (commands_are ∙ ap (λ (cs : List RecipeCommand). map (λ (command : RecipeCommand). command.text) cs) recipe_is.commands) i;
+      needs = needs_are i;
+      lines = texts_of (entries_at node.number logs);
+    }

@@ -1,0 +1,174 @@
+-- Rows of builds: logs, and the values of the objects that they have, or the JSON.
+use Rattle.std.proofs.Common.{◌≡◌, ℕ, ℤ, pos, negsuc, Bool, true, false, List, [], ◌∷◌, ◌++◌, Option, None, Some, Bor, refl}
+use Rattle.std.specs.Char.{encode_utf8}
+use Rattle.std.specs.Fmt.{digits}
+use Rattle.std.specs.Prelude.{codes}
+use Rattle.std.specs.List.{AllByRecursion}
+use Rattle.std.specs.Str.{chars, is_utf8}
+use Rattle.base64.specs.Rfc4648.{encode_symbols}
+use Rattle.bstr.specs.Utf8.{pieces_from}
+use Rattle.json.specs.Print.{escape_byte, print_from}
+use Rattle.redo_line.specs.Decimal as decimal
+use Rattle.redo_line.specs.Parts.{after_prefix, split_once}
+use Rattle.redo_line.specs.declared.entry.Entry.{Entry}
+use Rattle.redo_line.specs.declared.entry.Entry.TheVariants.{Text, Mention, Done, Closing, Note}
+use Rattle.redo_line.specs.declared.entry.How.TheVariants.{Made, Waiting, Locked, Unlocked, Unchanged}
+use Rattle.redo_logs.specs.Logs.{Log}
+use Rattle.redo_logs.specs.declared.log_state.LogState.TheVariants.{Ended}
+use Rattle.redo_view.specs.Expansion.{show_log, show_log_within}
+use Rattle.redo_diagnostics.specs.Diagnostic.{before_bracket, diagnostic_of, first_place, masked_after, place_of, split_flag}
+use Rattle.redo_diagnostics.specs.Plain.{length_to, plain_after}
+use Rattle.redo_facts.specs.Facts.{RecipeFacts, nothing}
+use Rattle.redo_times.specs.declared.times.Times.{Times}
+use Rattle.redo_name.specs.declared.hash_keys.HashKeys.{HashKeys}
+use Rattle.redo_json.specs.Build.{Request, build_json, build_values, request_of}
+use Rattle.redo_json.specs.Object.{LogValues}
+
+record Row : Type 0 where
+  request : Request
+  logs : List Log
+  requested : List (List ℕ)
+  values : List LogValues
+
+abbrev row : Request → List Log → List (List ℕ) → List LogValues → Row
+row request logs requested values = record { request = request; logs = logs; requested = requested; values = values }
+
+abbrev log : List ℕ → List Entry → Log
+log target entries = record { target = target; entries = entries; state = Ended }
+
+abbrev asks : Bool → List Times → List RecipeFacts → Request
+asks unchanged times facts = record { unchanged = unchanged; times = times; facts = facts }
+
+abbrev time : Option ℕ → Option ℕ → Times
+time began ended = record { began = began; ended = ended }
+
+-- The values of a log of which nothing is known but these.
+abbrev values : List ℕ → Option (List ℕ) → Option ℤ → List (List ℕ) → List (List ℕ) → LogValues
+values target parent status needs lines = record {
+  target = target;
+  parent = parent;
+  status = status;
+  start_ms = None;
+  end_ms = None;
+  cpu_ms = None;
+  peak_kb = None;
+  directory = None;
+  commands = [];
+  needs = needs;
+  lines = lines;
+}
+
+abbrev a : List ℕ
+a = codes "a"
+
+abbrev b : List ℕ
+b = codes "b"
+
+abbrev c : List ℕ
+c = codes "c"
+
+abbrev d : List ℕ
+d = codes "d"
+
+-- Logs in logs: `b` mentions `d`, which was opened before, and `a`, in which it is.
+abbrev nested : List Log
+nested =
+    log c (Text (codes "z") ∷ Closing 3 (negsuc 1) ∷ [])
+    ∷ log a (Mention 7 Made b ∷ Text (codes "one") ∷ Done 7 (pos 3) (codes "x") ∷ Text [] ∷ Mention 7 Made c ∷ Mention 7 Made b ∷ [])
+    ∷ log b (Mention 7 Waiting d ∷ Done 7 (pos 3) d ∷ Mention 7 Made a ∷ Text (codes "two") ∷ Closing 7 (pos 0) ∷ [])
+    ∷ log d (Note 7 (codes "check") a ∷ [])
+    ∷ log (codes "e") (Text (codes "never") ∷ [])
+    ∷ []
+
+-- Each kind of mention, and names without logs.
+abbrev mentions : List Log
+mentions =
+    log a (Mention 1 Unchanged b ∷ Mention 2 Locked c ∷ Mention 3 Unlocked c ∷ Mention 4 Made d ∷ Mention 5 Waiting b ∷ Mention 6 Made (codes "bb") ∷ [])
+    ∷ log b (Mention 1 Made b ∷ [])
+    ∷ []
+
+abbrev some_facts : RecipeFacts
+some_facts = record {
+  has_log = true;
+  directory = Some (codes "d e");
+  commands = record { text = codes "cc x"; is_whole = true } ∷ record { text = codes "cut"; is_whole = false } ∷ [];
+  usage = Some (record { user_ms = 30; system_ms = 50; peak_kb = 7 });
+}
+
+abbrev large_facts : RecipeFacts
+large_facts = record {
+  has_log = true;
+  directory = None;
+  commands = [];
+  usage = Some (record { user_ms = 0xFFFFFFFFFFFFFFFE; system_ms = 2; peak_kb = 0 });
+}
+
+abbrev rows : List Row
+rows =
+    row (asks false [] []) nested (d ∷ a ∷ b ∷ []) (
+    values d None (Some (pos 3)) [] []
+    ∷ values a None None (b ∷ c ∷ []) (codes "one" ∷ [] ∷ [])
+    ∷ values b (Some a) (Some (pos 0)) (d ∷ a ∷ []) (codes "two" ∷ [])
+    ∷ values c (Some a) (Some (negsuc 1)) [] (codes "z" ∷ [])
+    ∷ []) ∷
+    row (asks false [] []) nested (b ∷ []) (
+    values b None (Some (pos 0)) (d ∷ a ∷ []) (codes "two" ∷ [])
+    ∷ values d (Some b) (Some (pos 3)) [] []
+    ∷ values a (Some b) None (b ∷ c ∷ []) (codes "one" ∷ [] ∷ [])
+    ∷ values c (Some a) (Some (negsuc 1)) [] (codes "z" ∷ [])
+    ∷ []) ∷
+    row (asks false [] []) nested [] [] ∷
+    row (asks false (time (Some 5) None ∷ time None (Some 9) ∷ time (Some 1) (Some 2) ∷ []) (nothing ∷ some_facts ∷ large_facts ∷ []))
+    nested (a ∷ []) (
+    record (values a None None (b ∷ c ∷ []) (codes "one" ∷ [] ∷ [])) {
+      end_ms = Some 9;
+      cpu_ms = Some 80;
+      peak_kb = Some 7;
+      directory = Some (codes "d e");
+      commands = codes "cc x" ∷ codes "cut" ∷ [];
+    }
+    ∷ record (values b (Some a) (Some (pos 0)) (d ∷ a ∷ []) (codes "two" ∷ [])) {
+      start_ms = Some 1;
+      end_ms = Some 2;
+      cpu_ms = Some 0xFFFFFFFFFFFFFFFF;
+      peak_kb = Some 0;
+    }
+    ∷ values d (Some b) (Some (pos 3)) [] []
+    ∷ record (values c (Some a) (Some (negsuc 1)) [] (codes "z" ∷ [])) { start_ms = Some 5 }
+    ∷ []) ∷
+    row (asks false [] []) mentions (a ∷ []) (
+    values a None None (b ∷ c ∷ d ∷ codes "bb" ∷ []) []
+    ∷ values b (Some a) None (b ∷ []) []
+    ∷ []) ∷
+    row (asks false [] []) (log a (Mention 1 Unchanged b ∷ []) ∷ log b [] ∷ []) (a ∷ []) (values a None None (b ∷ []) [] ∷ []) ∷
+    row (asks true [] []) (log a (Mention 1 Unchanged b ∷ []) ∷ log b [] ∷ []) (a ∷ []) (
+    values a None None (b ∷ []) []
+    ∷ values b (Some a) None [] []
+    ∷ []) ∷
+    []
+
+these_values : AllByRecursion (λ r. build_values r.request r.logs r.requested ≡ r.values) rows
+unfolding show_log show_log_within
+these_values = (refl, (refl, (refl, (refl, (refl, (refl, (refl, tt)))))))
+
+-- Each object is a line.
+record JsonRow : Type 0 where
+  logs : List Log
+  json : List ℕ
+
+these_lines : AllByRecursion (λ (r : JsonRow). build_json (asks false [] []) r.logs (a ∷ []) ≡ r.json) (
+    record { logs = log a [] ∷ []; json = codes "{\"target\":\"a\",\"parent\":null,\"status\":null,\"start_ms\":null,\"end_ms\":null,\"cpu_ms\":null,\"peak_kb\":null,\"directory\":null,\"commands\":[],\"needs\":[],\"lines\":[],\"diagnostics\":[]}" ++ (10 ∷ []) } ∷
+    [])
+unfolding chars digits encode_symbols encode_utf8 escape_byte is_utf8 pieces_from print_from after_prefix split_once decimal.number length_to plain_after first_place place_of before_bracket split_flag masked_after diagnostic_of show_log show_log_within
+these_lines = (refl, tt)
+
+-- Borrowed values.
+abbrev at : {A : Type 0} → A → Bor A
+at value = record { ref_ptr = (0, 0); now = value }
+
+these_requests : (keys : HashKeys)
+    → (request_of (record { unchanged = true; times = at (time (Some 1) None ∷ []); facts = at (nothing ∷ []); keys = keys })
+    ≡ asks true (time (Some 1) None ∷ []) (nothing ∷ []))
+    × (request_of (record { unchanged = false; times = at []; facts = at (some_facts ∷ []); keys = keys })
+    ≡ asks false [] (some_facts ∷ []))
+these_requests keys = (refl, refl)

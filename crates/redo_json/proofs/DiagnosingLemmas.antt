@@ -1,0 +1,70 @@
+-- The diagnostics of lines that are iterated over.
+use Rattle.std.proofs.Common.{◌≡◌, ℕ, suc, ◌+◌, ◌<◌, ◌≤◌, ◌^◌, Bool, true, false, not, List, [], ◌∷◌, ◌++◌, Option, None, Some, filter, length, refl, sym, ap, ◌∙◌, arith}
+use Rattle.std.specs.Str.{bytes_eq}
+use Rattle.std.proofs.lemmas.List.Filters.{length-filter_both}
+use Rattle.std.proofs.lemmas.List.{length-append}
+use Rattle.redo_device.specs.Sink.{Output}
+use Rattle.redo_diagnostics.specs.Counts.{AreCounts, max_count, stored, times_of}
+use Rattle.redo_diagnostics.specs.Diagnostic.{DiagnosticValue, diagnostic_of}
+use Rattle.redo_json.specs.Diagnostics.{LogDiagnostic, diagnostics_of, numbered_from, placed_from, placed_if}
+use Rattle.redo_json.specs.Private.Diagnosing.{WroteDiagnostics}
+use Rattle.redo_json.specs.Private.LogLines.{Remaining}
+use Rattle.redo_json.specs.Private.Parts.{diagnostic_text, diagnostics_text}
+use Rattle.redo_json.proofs.WritingLemmas.{begin, left_is}
+
+pub begins : (output : Option Output) (lines : List (List ℕ)) (left : Remaining) (counts : List (List ℕ × ℕ)) → left.left ≡ lines
+    → left.done ≡ 0 → AreCounts counts []
+    → WroteDiagnostics output output (diagnostics_text true (diagnostics_of lines)) true left counts
+begins output lines left counts is first none = record {
+  keys = [];
+  counted = none;
+  few = omega arith;
+  wrote = begin output (diagnostics_text true (diagnostics_of lines)) _
+      (ap (λ (n : ℕ). diagnostics_text true (numbered_from [] (placed_from n left.left))) first
+      ∙ ap (λ (l : List (List ℕ)). diagnostics_text true (numbered_from [] (placed_from 0 l))) is);
+}
+
+pub times_low : (key : List ℕ) (keys : List (List ℕ)) → times_of key keys ≤ length keys
+times_low key keys =
+    let both = length-filter_both (λ (other : List ℕ). bytes_eq other key) (λ (other : List ℕ). not (bytes_eq other key)) (λ other. refl)
+    keys in
+    omega (arith, both)
+
+-- A count of some keys is what a map has, if they are not too many.
+pub nth_is : (key : List ℕ) (keys : List (List ℕ)) (lines nth : ℕ) → length keys ≤ lines → lines + 1 < 2 ^ 64
+    → nth ≡ stored (times_of key keys) → nth ≡ times_of key keys
+nth_is key keys lines nth few low is =
+    let times = times_low key keys in
+    is ∙ omega (arith, times, few, low)
+
+module _ (is_first : Bool) (left next : Remaining) (line : List ℕ)
+    (is : left.left ≡ line ∷ next.left) (counted : next.done ≡ left.done + 1) where
+  placed : placed_from left.done left.left ≡ placed_if left.done (diagnostic_of line) (placed_from next.done next.left)
+  placed =
+      let more : suc left.done ≡ next.done = omega (arith, counted) in
+      ap (placed_from left.done) is ∙ ap (λ (n : ℕ). placed_if left.done (diagnostic_of line) (placed_from n next.left)) more
+
+  -- A line without a diagnostic.
+  pub skips : (before after : Option Output) (text : List ℕ) (counts : List (List ℕ × ℕ)) → diagnostic_of line ≡ None
+      → WroteDiagnostics before after text is_first left counts
+      → WroteDiagnostics before after text is_first next counts
+  skips before after text counts none so_far = record {
+    keys = so_far.keys;
+    counted = so_far.counted;
+    few = let few = so_far.few in omega (arith, few, counted);
+    wrote = left_is before after text _ _
+        (ap (λ (ps : List (ℕ × DiagnosticValue)). diagnostics_text is_first (numbered_from so_far.keys ps))
+        (placed ∙ ap (λ (d : Option DiagnosticValue). placed_if left.done d (placed_from next.done next.left)) none)) so_far.wrote;
+  }
+
+  -- A line with one.
+  pub finds : (keys : List (List ℕ)) (value : DiagnosticValue) (position nth : ℕ) → diagnostic_of line ≡ Some value
+      → position ≡ left.done → nth ≡ times_of value.key keys
+      → diagnostics_text is_first (numbered_from keys (placed_from left.done left.left))
+      ≡ diagnostic_text is_first (record { line = position; value = value; nth = nth })
+      ++ diagnostics_text false (numbered_from (keys ++ value.key ∷ []) (placed_from next.done next.left))
+  finds keys value position nth some here number =
+      let others = diagnostics_text false (numbered_from (keys ++ value.key ∷ []) (placed_from next.done next.left)) in
+      ap (λ (ps : List (ℕ × DiagnosticValue)). diagnostics_text is_first (numbered_from keys ps))
+      (placed ∙ ap (λ (d : Option DiagnosticValue). placed_if left.done d (placed_from next.done next.left)) some)
+      ∙ (λ i. diagnostic_text is_first (record { line = sym here i; value = value; nth = sym number i }) ++ others)

@@ -1,0 +1,143 @@
+-- The diagnostics of a log in parts.
+use Rattle.std.proofs.Common.{◌≡◌, ℕ, suc, ◌+◌, ◌<◌, ◌≤◌, min, Bool, true, false, List, [], ◌∷◌, ◌++◌, Option, None, Some, IfNone, IfSome, Bor, length, option_and_then, option_map, refl, sym, ap, ◌∙◌, append_assoc, arith}
+use Rattle.std.specs.Option.{option_copied}
+use Rattle.std.specs.Prelude.{codes, decimal}
+use Rattle.std.specs.Str.{bytes_eq}
+use Rattle.std.proofs.lemmas.List.{append-nil}
+use Rattle.json.specs.Json.{array, number, string}
+use Rattle.json.specs.Print.{escape_byte, print, print_from}
+use Rattle.json.specs.Tree.{items_tokens, json_tokens}
+use Rattle.redo_diagnostics.specs.declared.severity.Severity.{Severity}
+use Rattle.redo_diagnostics.specs.declared.severity.Severity.TheVariants.{Warning, Error, FatalError}
+use Rattle.redo_diagnostics.specs.Counts.{stored, times_of}
+use Rattle.redo_diagnostics.specs.Diagnostic.{DiagnosticValue, PlaceValue, diagnostic_of}
+use Rattle.redo_json.specs.Diagnostics.{LogDiagnostic, diagnostic_fields, diagnostic_objects, diagnostics_field, diagnostics_of, numbered_from, placed_from, placed_if, severity_name}
+use Rattle.redo_json.specs.Fields.{Field, bytes_fields, field, number_value, object_with, optional_bytes_fields}
+use Rattle.redo_json.specs.Private.Parts.{comma_field, comma_fields, comma_if, diagnostic_text, diagnostics_text, field_text}
+use Rattle.redo_json.proofs.ObjectLemmas.{then, then_one}
+use Rattle.redo_json.proofs.PrintLemmas.{print_number, print_object, value_then}
+
+abbrev pub file_of : Option PlaceValue → Option (List ℕ)
+file_of place = option_map (λ (place : PlaceValue). place.file) place
+
+abbrev pub row_of : Option PlaceValue → Option ℕ
+row_of place = option_map (λ (place : PlaceValue). place.row) place
+
+abbrev pub column_of : Option PlaceValue → Option ℕ
+column_of place = option_and_then (λ (place : PlaceValue). place.column) place
+
+-- A borrowed value that may not be known.
+pub known_is : (value : Option (List ℕ)) (result : Option (Bor (List ℕ))) → IfSome result (λ bytes. value ≡ Some bytes.now)
+    → IfNone result (value ≡ None) → option_copied result ≡ value
+known_is value None some none = sym none
+known_is value (Some bytes) some none = sym some
+
+-- ---- a diagnostic
+
+abbrev severity_field : Severity → List ℕ
+severity_field severity = comma_field (field (codes "severity") (string (severity_name severity)))
+
+pub warning_text : (severity : Severity) → severity ≡ Warning → codes ",\"severity\":\"warning\"" ≡ severity_field severity
+unfolding escape_byte print_from
+warning_text severity is = ap severity_field (sym is)
+
+pub error_text : (severity : Severity) → severity ≡ Error → codes ",\"severity\":\"error\"" ≡ severity_field severity
+unfolding escape_byte print_from
+error_text severity is = ap severity_field (sym is)
+
+pub fatal_text : (severity : Severity) → severity ≡ FatalError → codes ",\"severity\":\"fatal error\"" ≡ severity_field severity
+unfolding escape_byte print_from
+fatal_text severity is = ap severity_field (sym is)
+
+abbrev pub first_text : Bool → ℕ → List ℕ
+first_text is_first position = comma_if is_first ++ (codes "{\"line\":" ++ (decimal position ++ []))
+
+module _ (one : LogDiagnostic) where
+  abbrev line_field : Field
+  line_field = field (codes "line") (number (decimal one.line))
+
+  abbrev nth_on : List Field
+  nth_on = field (codes "nth") (number (decimal one.nth)) ∷ []
+
+  abbrev key_on : List Field
+  key_on = bytes_fields (codes "key") one.value.key ++ nth_on
+
+  abbrev flag_on : List Field
+  flag_on = optional_bytes_fields (codes "flag") one.value.flag ++ key_on
+
+  abbrev message_on : List Field
+  message_on = bytes_fields (codes "message") one.value.message ++ flag_on
+
+  abbrev column_on : List Field
+  column_on = field (codes "column") (number_value (column_of one.value.place)) ∷ message_on
+
+  abbrev row_on : List Field
+  row_on = field (codes "row") (number_value (row_of one.value.place)) ∷ column_on
+
+  abbrev file_on : List Field
+  file_on = optional_bytes_fields (codes "file") (file_of one.value.place) ++ row_on
+
+  abbrev severity_on : List Field
+  severity_on = field (codes "severity") (string (severity_name one.value.severity)) ∷ file_on
+
+  abbrev others_text : List ℕ
+  others_text =
+      comma_field (field (codes "severity") (string (severity_name one.value.severity)))
+      ++ (comma_fields (optional_bytes_fields (codes "file") (file_of one.value.place))
+      ++ (comma_field (field (codes "row") (number_value (row_of one.value.place)))
+      ++ (comma_field (field (codes "column") (number_value (column_of one.value.place)))
+      ++ (comma_fields (bytes_fields (codes "message") one.value.message)
+      ++ (comma_fields (optional_bytes_fields (codes "flag") one.value.flag)
+      ++ (comma_fields (bytes_fields (codes "key") one.value.key)
+      ++ (comma_field (field (codes "nth") (number (decimal one.nth))) ++ 125 ∷ [])))))))
+
+  others_are : comma_fields severity_on ++ 125 ∷ [] ≡ others_text
+  others_are =
+      then_one (field (codes "severity") (string (severity_name one.value.severity))) file_on (125 ∷ []) _
+      (then (optional_bytes_fields (codes "file") (file_of one.value.place)) row_on (125 ∷ []) _
+      (then_one (field (codes "row") (number_value (row_of one.value.place))) column_on (125 ∷ []) _
+      (then_one (field (codes "column") (number_value (column_of one.value.place))) message_on (125 ∷ []) _
+      (then (bytes_fields (codes "message") one.value.message) flag_on (125 ∷ []) _
+      (then (optional_bytes_fields (codes "flag") one.value.flag) key_on (125 ∷ []) _
+      (then (bytes_fields (codes "key") one.value.key) nth_on (125 ∷ []) _
+      (then_one (field (codes "nth") (number (decimal one.nth))) [] (125 ∷ []) _ refl)))))))
+
+  line_is : codes "{\"line\":" ++ (decimal one.line ++ []) ≡ 123 ∷ field_text line_field
+  unfolding escape_byte
+  line_is =
+      ap (λ (l : List ℕ). codes "{\"line\":" ++ l) (append-nil (decimal one.line) ∙ sym (print_number (decimal one.line)))
+
+  pub diagnostic_parts : (is_first : Bool) → first_text is_first one.line ++ others_text ≡ diagnostic_text is_first one
+  diagnostic_parts is_first =
+      append_assoc (comma_if is_first) (codes "{\"line\":" ++ (decimal one.line ++ [])) others_text
+      ∙ ap (λ (l : List ℕ). comma_if is_first ++ l)
+      (ap (λ (l : List ℕ). l ++ others_text) line_is
+      ∙ ap (λ (l : List ℕ). 123 ∷ (field_text line_field ++ l)) (sym others_are)
+      ∙ sym (print_object line_field severity_on))
+
+-- ---- all diagnostics
+
+other_diagnostics : (found : List LogDiagnostic)
+    → print_from true (items_tokens (diagnostic_objects found)) ≡ diagnostics_text false found ++ 93 ∷ []
+unfolding print_from
+other_diagnostics [] = refl
+other_diagnostics (one ∷ others) =
+    ap (λ (l : List ℕ). 44 ∷ l) (value_then (object_with (diagnostic_fields one)) (items_tokens (diagnostic_objects others)))
+    ∙ ap (λ (l : List ℕ). 44 ∷ (print (json_tokens (object_with (diagnostic_fields one))) ++ l)) (other_diagnostics others)
+    ∙ ap (λ (l : List ℕ). 44 ∷ l)
+    (sym (append_assoc (print (json_tokens (object_with (diagnostic_fields one)))) (diagnostics_text false others) (93 ∷ [])))
+
+print_diagnostics : (found : List LogDiagnostic)
+    → print (json_tokens (array (diagnostic_objects found))) ≡ 91 ∷ (diagnostics_text true found ++ 93 ∷ [])
+unfolding print_from
+print_diagnostics [] = refl
+print_diagnostics (one ∷ others) =
+    ap (λ (l : List ℕ). 91 ∷ l)
+    (value_then (object_with (diagnostic_fields one)) (items_tokens (diagnostic_objects others))
+    ∙ ap (λ (l : List ℕ). print (json_tokens (object_with (diagnostic_fields one))) ++ l) (other_diagnostics others)
+    ∙ sym (append_assoc (print (json_tokens (object_with (diagnostic_fields one)))) (diagnostics_text false others) (93 ∷ [])))
+
+pub list_of_diagnostics : (lines : List (List ℕ))
+    → codes ",\"diagnostics\":[" ++ (diagnostics_text true (diagnostics_of lines) ++ 93 ∷ []) ≡ comma_field (diagnostics_field lines)
+unfolding escape_byte
+list_of_diagnostics lines = ap (λ (l : List ℕ). codes ",\"diagnostics\":" ++ l) (sym (print_diagnostics (diagnostics_of lines)))

@@ -1,0 +1,110 @@
+-- The names that entries mention, entry by entry.
+use Rattle.std.proofs.Common.{◌≡◌, ℕ, zero, suc, ◌+◌, ◌<◌, min, Bool, true, false, List, [], ◌∷◌, ◌++◌, Option, None, Some, Bor, drop, length, map, slice_get, refl, sym, ap, ◌∙◌, arith, append_assoc, append-nil}
+use Rattle.std.specs.Prelude.{◌==◌, option_to_list, if◌then◌else◌}
+use Rattle.std.specs.List.{cons_option}
+use Rattle.std.proofs.lemmas.Bool.{eqb-false, eqb-true, ne_eqb}
+use Rattle.std.proofs.lemmas.List.{map-append}
+use Rattle.redo_diagnostics.specs.Counts.{AreCounts, stored, times_of}
+use Rattle.redo_line.specs.declared.entry.Entry.{Entry}
+use Rattle.redo_line.specs.declared.entry.Entry.TheVariants.{Text}
+use Rattle.redo_logs.specs.Logs.{Log, entry_at}
+use Rattle.redo_logs.specs.Numbering.{AreLinesAt, AreTexts}
+use Rattle.redo_outline.specs.Facts.{entries_at}
+use Rattle.redo_json.specs.Build.{mentioned_name, mentions_in, name_if_new, needs_of, new_names}
+use Rattle.redo_json.specs.Private.Needing.{FoundNeeds, names_if_new}
+use Rattle.redo_json.proofs.LogLineLemmas.{drop_here, drop_none, entry_is, within}
+
+pub begin_needs : (entries : List Entry) (counts : List (List ℕ × ℕ)) → AreCounts counts [] → FoundNeeds entries 0 [] counts
+begin_needs entries counts none = record { before = []; counted = none; are = refl }
+
+module _ (logs : List Log) (number : ℕ) where
+  abbrev all : List Entry
+  all = entries_at number logs
+
+  mention_here : (k : ℕ) (entry : Entry) → entry_at number k logs ≡ Some entry
+      → mentions_in (drop k all) ≡ cons_option (mentioned_name entry) (mentions_in (drop (k + 1) all))
+  mention_here k entry is = ap mentions_in (drop_here all k entry (sym (entry_is logs number k) ∙ is))
+
+  skip_texts : (k : ℕ) (texts : List (List ℕ)) → AreTexts logs number k texts
+      → mentions_in (drop k all) ≡ mentions_in (drop (k + length texts) all)
+  skip_texts k [] are = let same : k ≡ k + 0 = omega arith in ap (λ (n : ℕ). mentions_in (drop n all)) same
+  skip_texts k (text ∷ texts) are =
+      let same : k + 1 + length texts ≡ k + suc (length texts) = omega arith in
+      mention_here k (Text text) are.0 ∙ skip_texts (k + 1) texts are.1 ∙ ap (λ (n : ℕ). mentions_in (drop n all)) same
+
+  pub lines_within : (k : ℕ) (bytes : List ℕ) (count : ℕ) → AreLinesAt logs number k bytes count → 0 < count → k < length all
+  lines_within k bytes count lines some = by lines.texts lines.are lines.count_is
+    where
+      by : (texts : List (List ℕ)) → AreTexts logs number k texts → length texts ≡ count → k < length all
+      by [] are none = absurd (omega (arith, none, some))
+      by (text ∷ texts) are is = within logs number (Text text) k are.0
+
+  -- Text lines mention nothing.
+  pub after_texts : (k : ℕ) (bytes : List ℕ) (count : ℕ) (names : List (List ℕ)) (counts : List (List ℕ × ℕ))
+      → AreLinesAt logs number k bytes count → FoundNeeds all k names counts → FoundNeeds all (k + count) names counts
+  after_texts k bytes count names counts lines so_far = record {
+    before = so_far.before;
+    counted = so_far.counted;
+    are = ap (λ (ms : List (List ℕ)). names ++ new_names so_far.before ms)
+        (ap (λ (n : ℕ). mentions_in (drop (k + n) all)) (sym lines.count_is) ∙ sym (skip_texts k lines.texts lines.are))
+        ∙ so_far.are;
+  }
+
+  -- No entry is left.
+  pub all_needs : (k : ℕ) (names : List (List ℕ)) (counts : List (List ℕ × ℕ)) → entry_at number k logs ≡ None
+      → FoundNeeds all k names counts
+      → names ≡ needs_of all
+  all_needs k names counts none so_far =
+      sym (append-nil names)
+      ∙ ap (λ (es : List Entry). names ++ new_names so_far.before (mentions_in es))
+      (sym (drop_none all k (sym (entry_is logs number k) ∙ none)))
+      ∙ so_far.are
+
+  more_needs : (k : ℕ) (entry : Entry) (mentioned : Option (List ℕ)) → mentioned_name entry ≡ mentioned → entry_at number k logs
+      ≡ Some entry
+      → (names before : List (List ℕ))
+      → names ++ new_names before (mentions_in (drop k all))
+      ≡ (names ++ names_if_new mentioned before) ++ new_names (before ++ option_to_list mentioned) (mentions_in (drop (k + 1) all))
+  more_needs k entry None same is names before =
+      ap (λ (ms : List (List ℕ)). names ++ new_names before ms) (mention_here k entry is
+      ∙ ap (λ (m : Option (List ℕ)). cons_option m (mentions_in (drop (k + 1) all))) same)
+      ∙ (λ i. sym (append-nil names) i ++ new_names (sym (append-nil before) i) (mentions_in (drop (k + 1) all)))
+  more_needs k entry (Some name) same is names before =
+      ap (λ (ms : List (List ℕ)). names ++ new_names before ms) (mention_here k entry is
+      ∙ ap (λ (m : Option (List ℕ)). cons_option m (mentions_in (drop (k + 1) all))) same)
+      ∙ sym (append_assoc names (name_if_new name before) (new_names (before ++ name ∷ []) (mentions_in (drop (k + 1) all))))
+
+  -- One more entry.
+  pub after_entry : (k : ℕ) (entry : Entry) (names later : List (List ℕ)) (counts after : List (List ℕ × ℕ))
+      → entry_at number k logs ≡ Some entry → (so_far : FoundNeeds all k names counts)
+      → AreCounts after (so_far.before ++ option_to_list (mentioned_name entry))
+      → later ≡ names ++ names_if_new (mentioned_name entry) so_far.before → FoundNeeds all (k + 1) later after
+  after_entry k entry names later counts after is so_far counted added = record {
+    before = so_far.before ++ option_to_list (mentioned_name entry);
+    counted = counted;
+    are = ap (λ (ns : List (List ℕ)). ns ++ new_names (so_far.before
+        ++ option_to_list (mentioned_name entry)) (mentions_in (drop (k + 1) all)))
+        added ∙ sym (more_needs k entry (mentioned_name entry) refl is names so_far.before) ∙ so_far.are;
+  }
+
+-- ---- a name
+
+-- A name that is counted is new exactly if its count is 0.
+stored_zero : (n : ℕ) → stored n ≡ 0 → n ≡ 0
+stored_zero zero is = refl
+stored_zero (suc n) is = absurd (omega (arith, is))
+
+pub new_name : (name : List ℕ) (before : List (List ℕ)) (count : ℕ) → count ≡ stored (times_of name before) → (count == 0) ≡ true
+    → name_if_new name before ≡ name ∷ []
+new_name name before count is none =
+    let zero_is = stored_zero (times_of name before) (sym is ∙ eqb-true count 0 none) in
+    ap (λ (n : ℕ). if n == 0 then name ∷ [] else []) zero_is
+
+pub old_name : (name : List ℕ) (before : List (List ℕ)) (count : ℕ) → count ≡ stored (times_of name before) → (count == 0) ≡ false
+    → name_if_new name before ≡ []
+old_name name before count is some =
+    by (times_of name before == 0) refl
+  where
+    by : (test : Bool) → (times_of name before == 0) ≡ test → (if test then name ∷ [] else []) ≡ []
+    by false is_not = refl
+    by true is_zero = absurd (eqb-false count 0 some (is ∙ ap stored (eqb-true (times_of name before) 0 is_zero)))

@@ -1,0 +1,63 @@
+use Rattle.std.proofs.Common.{ℕ, true, List, [], ◌∷◌, ◌++◌, ap, sym, ◌∙◌, subst, arith}
+use Rattle.std.proofs.lemmas.List.{length-append}
+use Rattle.std.proofs.lemmas.Result.{err_from_is_err_and}
+use Rattle.redo_diagnostics.specs.Counts.{AreCounts, stored, times_of}
+use Rattle.redo_outline.specs.Facts.{entries_at, texts_of}
+use Rattle.redo_json.specs.Diagnostics.{diagnostics_of}
+use Rattle.redo_json.specs.Private.Parts.{diagnostics_text}
+use Rattle.redo_json.proofs.DiagnosingLemmas.{begins, finds, nth_is}
+use Rattle.redo_json.proofs.FormLemmas.{ran_out, write_failed}
+use Rattle.redo_json.proofs.WritingLemmas.{left_is, wrote_more}
+use Rattle.redo_json.proofs.diagnostics.write_each.Goals as goal
+
+pub each-init : goal.each-init
+each-init g c =
+    begins _ (texts_of (entries_at c.args.number c.args.table.now)) _ _ c.new-lines.ensures.left c.new-lines.ensures.done
+    c.new-counts.ensures
+
+pub returns-in_err-diagnostic : goal.returns-in_err-diagnostic
+returns-in_err-diagnostic g c =
+    let given = err_from_is_err_and c.from_residual.result c.from_residual.ensures.1 in
+    rw (given.1, given.2) (ran_out _ _ _ _ c.each.invariant.wrote)
+
+pub returns-in_err-nth : goal.returns-in_err-nth
+returns-in_err-nth g c =
+    let given = err_from_is_err_and c.from_residual-in_err-nth.result c.from_residual-in_err-nth.ensures.1 in
+    rw (given.1, given.2) (ran_out _ _ _ _ c.each.invariant.wrote)
+
+pub returns-in_err-write_diagnostic : goal.returns-in_err-write_diagnostic
+returns-in_err-write_diagnostic g c =
+    let whole = diagnostics_text true (diagnostics_of (texts_of (entries_at c.args.number c.args.table.now))) in
+    let so_far = c.each.invariant in
+    let done = c.in-Some.ensures.done in
+    let room = c.in-Some.ensures.no_overflow in
+    let nth = nth_is c.in-Some-2.diagnostic.key so_far.keys c.each.lines.done c.in_ok-nth.nth so_far.few (omega (arith, done, room))
+    (c.in_ok-nth.ensures.before so_far.keys so_far.counted ∙ ap (λ (k : List ℕ). stored (times_of k so_far.keys)) c.key.ensures) in
+    let given = err_from_is_err_and c.from_residual-in_err-write_diagnostic.result c.from_residual-in_err-write_diagnostic.ensures.1 in
+    rw (given.1, given.2) (write_failed _ _ _ whole _ _ _
+    (left_is _ _ _ _ _ (finds c.each.is_first c.each.lines c.next_line.new.self c.in-Some.line.now c.in-Some.ensures.line done so_far.keys
+    c.in-Some-2.diagnostic c.in-Some.position c.in_ok-nth.nth (sym c.in_ok-diagnostic.ensures
+    ∙ c.in-Some-2.is) c.in-Some.ensures.position nth) so_far.wrote)
+    c.in_err-write_diagnostic.ensures)
+
+pub each-preserved-in-Some-2 : goal.each-preserved-in-Some-2
+each-preserved-in-Some-2 g c =
+    let so_far = c.each.invariant in
+    let done = c.in-Some.ensures.done in
+    let room = c.in-Some.ensures.no_overflow in
+    let few = so_far.few in
+    let key = c.in-Some-2.diagnostic.key in
+    let nth = nth_is key so_far.keys c.each.lines.done c.in_ok-nth.nth so_far.few (omega (arith, done, room))
+    (c.in_ok-nth.ensures.before so_far.keys so_far.counted ∙ ap (λ (k : List ℕ). stored (times_of k so_far.keys)) c.key.ensures) in
+    record {
+      keys = so_far.keys ++ key ∷ [];
+      counted = subst (λ (k : List ℕ). AreCounts c.add.new.self (so_far.keys
+          ++ k ∷ [])) c.key.ensures (c.in_ok-nth.ensures.counted so_far.keys so_far.counted);
+      few = omega (arith, few, done, length-append so_far.keys (key ∷ []));
+      wrote = wrote_more _ _ _ _ _ _
+          (left_is _ _ _ _ _
+          (finds c.each.is_first c.each.lines c.next_line.new.self c.in-Some.line.now c.in-Some.ensures.line done so_far.keys
+          c.in-Some-2.diagnostic c.in-Some.position c.in_ok-nth.nth (sym c.in_ok-diagnostic.ensures
+          ∙ c.in-Some-2.is) c.in-Some.ensures.position nth) so_far.wrote)
+          c.in_ok-write_diagnostic.ensures;
+    }

@@ -1,0 +1,15 @@
+-- What the search for needs ensures.
+use Rattle.std.specs.Prelude.{◌≡◌, ℕ, List, [], ◌++◌, Option, None, Some, drop}
+use Rattle.redo_diagnostics.specs.Counts.{AreCounts}
+use Rattle.redo_line.specs.declared.entry.Entry.{Entry}
+use Rattle.redo_json.specs.Build.{mentions_in, name_if_new, needs_of, new_names}
+
+abbrev pub names_if_new : Option (List ℕ) → List (List ℕ) → List (List ℕ)
+names_if_new None before = []
+names_if_new (Some name) before = name_if_new name before
+
+-- These are the needs that the entries before entry `at` have. `before` are the names that they mention.
+pub record FoundNeeds (entries : List Entry) (at : ℕ) (names : List (List ℕ)) (counts : List (List ℕ × ℕ)) : Type 0 where
+  pub before : List (List ℕ)
+  pub counted : AreCounts counts before
+  pub are : names ++ new_names before (mentions_in (drop at entries)) ≡ needs_of entries

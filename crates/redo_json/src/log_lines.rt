@@ -1,0 +1,101 @@
+//! The text lines of a log.
+ghost use Rattle.std.specs.Prelude.{◌≡◌, ◌+◌, ◌≤◌, ◌<◌, ◌^◌, ◌∷◌, ◌++◌, [], length, IfSome, MatchOption};
+ghost use Rattle.redo_line.specs.Lines.{ended, rest};
+ghost use Rattle.redo_outline.specs.Facts.{entries_at, texts_of};
+ghost use Rattle.redo_json.specs.Private.LogLines.{AreNextLines, IsRefilled};
+
+use memchr::memchr;
+use redo_logs::{LogTable, Numbered};
+use std::marker::Model;
+
+/// The text lines of a log, from some line on.
+#[derive(Drop)]
+pub struct LogLines<'a> {
+    logs: Numbered<'a>,
+    number: u32,
+    // The entry after the stretch.
+    next: usize,
+    // Lines that are stored together, with their line feeds.
+    stretch: &'a [u8],
+    // The number of lines before the stretch.
+    done: usize,
+}
+
+impl<'a> Model for LogLines<'a> {
+    ghost use Rattle.std.specs.Prelude.{◌≡◌, ◌+◌, ◌≤◌, ◌++◌, [], length};
+    ghost use Rattle.redo_line.specs.Lines.{ended, rest};
+    ghost use Rattle.redo_json.specs.Private.LogLines.{Remaining, texts_from};
+
+    ghost Value = { Remaining };
+
+    ghost view = { λ lines. record {
+      left = ended lines.stretch.now ++ texts_from lines.logs.logs lines.number lines.next;
+      done = lines.done;
+    } };
+
+    ghost invariant = { λ lines. (rest lines.stretch.now ≡ []) × (lines.done + length (ended lines.stretch.now) ≤ lines.next) };
+}
+
+impl<'a> LogLines<'a> {
+    /// Returns the lines of log `number`. A log that doesn't exist has no lines.
+    pub fn new(table: &'a LogTable, number: u32) -> LogLines<'a>
+        ensures left { result.left ≡ texts_of (entries_at number table.now) }
+        ensures done { result.done ≡ 0 }
+    {
+        LogLines {
+            logs: table.numbered(),
+            number,
+            next: 0,
+            stretch: &[],
+            done: 0,
+        }
+    }
+
+    /// Returns the position of the next line, and this line without its line feed.
+    pub fn next_line(&mut self) -> Option<(usize, &'a [u8])>
+        ensures line { MatchOption result (self.old.left ≡ []) (λ found. self.old.left ≡ found.1.now ∷ self.new.left) }
+        ensures position { IfSome result (λ found. found.0 ≡ self.old.done) }
+        ensures done { MatchOption result (self.new.done ≡ self.old.done) (λ found. self.new.done ≡ self.old.done + 1) }
+        ensures no_overflow { self.new.done < 2 ^ 64 }
+    {
+        let (stretch, next) = refill(&self.logs, self.number, self.stretch, self.next);
+        let Some(end) = memchr(b'\n', stretch) else {
+            return None;
+        };
+        let position = self.done;
+        self.stretch = &stretch[end + 1..];
+        self.next = next;
+        self.done = position + 1;
+        Some((position, &stretch[..end]))
+    }
+}
+
+// Returns the stretch, or the next one if it is used up, and the number of the entry after it.
+fn refill<'a>(logs: &Numbered<'a>, number: u32, stretch: &'a [u8], next: usize) -> (&'a [u8], usize)
+    requires complete { rest stretch.now ≡ [] }
+    ensures { IsRefilled logs.now.logs number stretch.now next result.0.now result.1 }
+{
+    if stretch.is_empty() {
+        next_lines(logs, number, next)
+    } else {
+        (stretch, next)
+    }
+}
+
+// Returns the next text lines of log `number` that are stored together, from entry `next` on, with their line feeds, and the number of the
+// entry after them. They are none if no text line is left.
+fn next_lines<'a>(logs: &Numbered<'a>, number: u32, next: usize) -> (&'a [u8], usize)
+    ensures { AreNextLines logs.now.logs number next result.0.now result.1 }
+{
+    let mut at = next;
+    'entries: loop {
+        let (lines, count) = logs.lines(number, at);
+        if count > 0 {
+            return (lines, at + count);
+        }
+        match logs.entry(number, at) {
+            None => return (&[], at),
+            Some(_) => at += 1,
+        }
+    }
+}
