@@ -1,6 +1,7 @@
-//! Bytes, the strings with their text, and the strings with the bytes in Base64. Python's `json` and `base64` computed them.
-use redo_json::LogObject;
+//! Bytes and builds, and what is written for them.
+use redo_times::Times;
 
+/// Bytes, the strings with their text, and the strings with the bytes in Base64. Python's `json` and `base64` computed them.
 pub static STRINGS: [(&[u8], &[u8], &[u8]); 15] = [
     (b"", b"\"\"", b"\"\""),
     (
@@ -47,58 +48,116 @@ pub static STRINGS: [(&[u8], &[u8], &[u8]); 15] = [
     (b"ab\xff", b"\"ab\xef\xbf\xbd\"", b"\"YWL/\""),
 ];
 
-/// Objects of logs, and their lines. Python's `json` and `base64` computed them.
-pub static OBJECTS: [(LogObject, &[u8]); 3] = [
+/// The targets and their streams, whether unchanged targets are shown, times, an index and a file of facts, the requested targets, and the
+/// JSON. The JSON is written by hand; Python's `json` reads it.
+pub type Build = (
+    &'static [(&'static [u8], &'static [u8])],
+    bool,
+    &'static [Times],
+    &'static str,
+    &'static str,
+    &'static [&'static [u8]],
+    &'static [u8],
+);
+
+pub const BUILDS: [Build; 6] = [
     (
-        LogObject {
-            target: b"all",
-            parent: None,
-            status: None,
-            start_ms: None,
-            end_ms: None,
-            cpu_ms: None,
-            peak_kb: None,
-            directory: None,
-            commands: &[],
-            needs: &[],
-            lines: &[],
-        },
-        b"{\"target\":\"all\",\"parent\":null,\"status\":null,\"start_ms\":null,\"end_ms\":null,\"cpu_ms\":null,\"peak_kb\":null,\"directory\":null,\"commands\":[],\"needs\":[],\"lines\":[]}\n",
+        &[
+            (
+                b"all",
+                b"@@REDO:do:7:1@@ file.o\n@@REDO:done:7:1@@ 1 file.o\n@@REDO:done:7:1@@ 1 all\n",
+            ),
+            (
+                b"file.o",
+                b"file.c: In function \xe2\x80\x98f\xe2\x80\x99:\nfile.c:870:38: error: expected \xe2\x80\x98;\xe2\x80\x99 before \xe2\x80\x98}\xe2\x80\x99 token\n@@REDO:done:7:1@@ 1 file.o\n",
+            ),
+        ],
+        false,
+        &[
+            Times {
+                began: None,
+                ended: None,
+            },
+            Times {
+                began: Some(1795869824764),
+                ended: Some(1795869826162),
+            },
+        ],
+        "1 all\n2 file.o\n",
+        "2 log file.o\n2 directory .\n2 command gcc .. -c -o file.o file.c\n2 usage 60 20 28228\n",
+        &[b"all"],
+        b"{\"target\":\"all\",\"parent\":null,\"status\":1,\"start_ms\":null,\"end_ms\":null,\"cpu_ms\":null,\"peak_kb\":null,\"directory\":null,\"commands\":[],\"needs\":[\"file.o\"],\"lines\":[],\"diagnostics\":[]}\n{\"target\":\"file.o\",\"parent\":\"all\",\"status\":1,\"start_ms\":1795869824764,\"end_ms\":1795869826162,\"cpu_ms\":80,\"peak_kb\":28228,\"directory\":\".\",\"commands\":[\"gcc .. -c -o file.o file.c\"],\"needs\":[],\"lines\":[\"file.c: In function \xe2\x80\x98f\xe2\x80\x99:\",\"file.c:870:38: error: expected \xe2\x80\x98;\xe2\x80\x99 before \xe2\x80\x98}\xe2\x80\x99 token\"],\"diagnostics\":[{\"line\":1,\"severity\":\"error\",\"file\":\"file.c\",\"row\":870,\"column\":38,\"message\":\"expected \xe2\x80\x98;\xe2\x80\x99 before \xe2\x80\x98}\xe2\x80\x99 token\",\"flag\":null,\"key\":\"file.c: error: expected \xe2\x80\x98;\xe2\x80\x99 before \xe2\x80\x98}\xe2\x80\x99 token\",\"nth\":0}]}\n",
     ),
     (
-        LogObject {
-            target: b"file.o",
-            parent: Some(b"all"),
-            status: Some(1),
-            start_ms: Some(1795869824764),
-            end_ms: Some(1795869826162),
-            cpu_ms: Some(80),
-            peak_kb: Some(28228),
-            directory: Some(b"."),
-            commands: &[b"gcc -c -o file.o file.c"],
-            needs: &[],
-            lines: &[
-                b"file.c: In function \xe2\x80\x98f\xe2\x80\x99:",
-                b"file.c:870:38: error: x",
-                b"",
-            ],
-        },
-        b"{\"target\":\"file.o\",\"parent\":\"all\",\"status\":1,\"start_ms\":1795869824764,\"end_ms\":1795869826162,\"cpu_ms\":80,\"peak_kb\":28228,\"directory\":\".\",\"commands\":[\"gcc -c -o file.o file.c\"],\"needs\":[],\"lines\":[\"file.c: In function \xe2\x80\x98f\xe2\x80\x99:\",\"file.c:870:38: error: x\",\"\"]}\n",
+        &[(
+            b"all",
+            b"caf\xe9\n@@REDO:do:7:1@@ x\xff\n@@REDO:unchanged:8:1@@ y\n@@REDO:waiting:7:1@@ x\xff\n@@REDO:locked:7:1@@ y\n@@REDO:done:7:1@@ 0 z\n",
+        )],
+        false,
+        &[Times {
+            began: Some(1000000000000),
+            ended: None,
+        }],
+        "1 all\n",
+        "1 log other\n1 directory /d\n",
+        &[b"all"],
+        b"{\"target\":\"all\",\"parent\":null,\"status\":null,\"start_ms\":1000000000000,\"end_ms\":null,\"cpu_ms\":null,\"peak_kb\":null,\"directory\":null,\"commands\":[],\"needs\":[\"x\xef\xbf\xbd\",\"y\"],\"needs_base64\":{\"0\":\"eP8=\"},\"lines\":[\"caf\xef\xbf\xbd\"],\"lines_base64\":{\"0\":\"Y2Fm6Q==\"},\"diagnostics\":[]}\n",
     ),
     (
-        LogObject {
-            target: b"x\xff",
-            parent: Some(b"\xe9"),
-            status: Some(0),
-            start_ms: Some(0),
-            end_ms: Some(9007199254740991),
-            cpu_ms: Some(0),
-            peak_kb: Some(1),
-            directory: Some(b"a\\b\xc0"),
-            commands: &[b"a\n\"b\"", b"\xff", b"c"],
-            needs: &[b"x", b"y\xfe"],
-            lines: &[b"\x1b[1m\t", b"\x80\x80", b"ok", b"\xed\xa0\x80"],
-        },
-        b"{\"target\":\"x\xef\xbf\xbd\",\"target_base64\":\"eP8=\",\"parent\":\"\xef\xbf\xbd\",\"parent_base64\":\"6Q==\",\"status\":0,\"start_ms\":0,\"end_ms\":9007199254740991,\"cpu_ms\":0,\"peak_kb\":1,\"directory\":\"a\\\\b\xef\xbf\xbd\",\"directory_base64\":\"YVxiwA==\",\"commands\":[\"a\\n\\\"b\\\"\",\"\xef\xbf\xbd\",\"c\"],\"commands_base64\":{\"1\":\"/w==\"},\"needs\":[\"x\",\"y\xef\xbf\xbd\"],\"needs_base64\":{\"1\":\"ef4=\"},\"lines\":[\"\\u001b[1m\\t\",\"\xef\xbf\xbd\xef\xbf\xbd\",\"ok\",\"\xef\xbf\xbd\xef\xbf\xbd\xef\xbf\xbd\"],\"lines_base64\":{\"1\":\"gIA=\",\"3\":\"7aCA\"}}\n",
+        &[
+            (b"c", b"@@REDO:done:3:1@@ -2 c\n"),
+            (
+                b"a",
+                b"one\n@@REDO:do:7:1@@ b\na.c:1:2: warning: x [-Wx]\na.c:9:9: warning: x [-Wx]\nb.c:9: warning: y\na.c:3: warning: x [-Wx]\n@@REDO:do:7:1@@ c\n@@REDO:do:7:1@@ b\n",
+            ),
+            (
+                b"b",
+                b"@@REDO:do:7:1@@ d\n@@REDO:done:7:1@@ 3 d\n@@REDO:do:7:1@@ a\n@@REDO:done:7:1@@ 0 b\n",
+            ),
+            (b"d", b"\xffa: warning: \xfe [\xfd]\nwarning: b\n\n"),
+            (b"e", b"fatal error: all is lost\n"),
+        ],
+        false,
+        &[],
+        "1 c\n2 a\n",
+        "2 log a\n2 directory x\n2 usage 1 2 3\n2 command cc\n2 more x\n2 command \n2 truncated cut\n2 usage 999999999999998 1 7\n2 directory d e\n",
+        &[b"d", b"a", b"b", b"e"],
+        b"{\"target\":\"d\",\"parent\":null,\"status\":3,\"start_ms\":null,\"end_ms\":null,\"cpu_ms\":null,\"peak_kb\":null,\"directory\":null,\"commands\":[],\"needs\":[],\"lines\":[\"\xef\xbf\xbda: warning: \xef\xbf\xbd [\xef\xbf\xbd]\",\"warning: b\",\"\"],\"lines_base64\":{\"0\":\"/2E6IHdhcm5pbmc6IP4gW/1d\"},\"diagnostics\":[{\"line\":0,\"severity\":\"warning\",\"file\":null,\"row\":null,\"column\":null,\"message\":\"\xef\xbf\xbd\",\"message_base64\":\"/g==\",\"flag\":\"\xef\xbf\xbd\",\"flag_base64\":\"/Q==\",\"key\":\"\xef\xbf\xbda: warning: \xef\xbf\xbd [\xef\xbf\xbd]\",\"key_base64\":\"/2E6IHdhcm5pbmc6IP4gW/1d\",\"nth\":0},{\"line\":1,\"severity\":\"warning\",\"file\":null,\"row\":null,\"column\":null,\"message\":\"b\",\"flag\":null,\"key\":\": warning: b\",\"nth\":0}]}\n{\"target\":\"a\",\"parent\":null,\"status\":null,\"start_ms\":null,\"end_ms\":null,\"cpu_ms\":999999999999999,\"peak_kb\":7,\"directory\":\"d e\",\"commands\":[\"cc\\nx\",\"\",\"cut\"],\"needs\":[\"b\",\"c\"],\"lines\":[\"one\",\"a.c:1:2: warning: x [-Wx]\",\"a.c:9:9: warning: x [-Wx]\",\"b.c:9: warning: y\",\"a.c:3: warning: x [-Wx]\"],\"diagnostics\":[{\"line\":1,\"severity\":\"warning\",\"file\":\"a.c\",\"row\":1,\"column\":2,\"message\":\"x\",\"flag\":\"-Wx\",\"key\":\"a.c: warning: x [-Wx]\",\"nth\":0},{\"line\":2,\"severity\":\"warning\",\"file\":\"a.c\",\"row\":9,\"column\":9,\"message\":\"x\",\"flag\":\"-Wx\",\"key\":\"a.c: warning: x [-Wx]\",\"nth\":1},{\"line\":3,\"severity\":\"warning\",\"file\":\"b.c\",\"row\":9,\"column\":null,\"message\":\"y\",\"flag\":null,\"key\":\"b.c: warning: y\",\"nth\":0},{\"line\":4,\"severity\":\"warning\",\"file\":\"a.c\",\"row\":3,\"column\":null,\"message\":\"x\",\"flag\":\"-Wx\",\"key\":\"a.c: warning: x [-Wx]\",\"nth\":2}]}\n{\"target\":\"b\",\"parent\":\"a\",\"status\":0,\"start_ms\":null,\"end_ms\":null,\"cpu_ms\":null,\"peak_kb\":null,\"directory\":null,\"commands\":[],\"needs\":[\"d\",\"a\"],\"lines\":[],\"diagnostics\":[]}\n{\"target\":\"c\",\"parent\":\"a\",\"status\":-2,\"start_ms\":null,\"end_ms\":null,\"cpu_ms\":null,\"peak_kb\":null,\"directory\":null,\"commands\":[],\"needs\":[],\"lines\":[],\"diagnostics\":[]}\n{\"target\":\"e\",\"parent\":null,\"status\":null,\"start_ms\":null,\"end_ms\":null,\"cpu_ms\":null,\"peak_kb\":null,\"directory\":null,\"commands\":[],\"needs\":[],\"lines\":[\"fatal error: all is lost\"],\"diagnostics\":[{\"line\":0,\"severity\":\"fatal error\",\"file\":null,\"row\":null,\"column\":null,\"message\":\"all is lost\",\"flag\":null,\"key\":\": fatal error: all is lost\",\"nth\":0}]}\n",
+    ),
+    (
+        &[
+            (b"a", b"@@REDO:unchanged:7:1@@ b\n"),
+            (b"b", b"x\x0d\n\x09y\n"),
+        ],
+        false,
+        &[],
+        "",
+        "",
+        &[b"a"],
+        b"{\"target\":\"a\",\"parent\":null,\"status\":null,\"start_ms\":null,\"end_ms\":null,\"cpu_ms\":null,\"peak_kb\":null,\"directory\":null,\"commands\":[],\"needs\":[\"b\"],\"lines\":[],\"diagnostics\":[]}\n",
+    ),
+    (
+        &[
+            (b"a", b"@@REDO:unchanged:7:1@@ b\n"),
+            (b"b", b"x\x0d\n\x09y\n"),
+        ],
+        true,
+        &[],
+        "",
+        "",
+        &[b"a"],
+        b"{\"target\":\"a\",\"parent\":null,\"status\":null,\"start_ms\":null,\"end_ms\":null,\"cpu_ms\":null,\"peak_kb\":null,\"directory\":null,\"commands\":[],\"needs\":[\"b\"],\"lines\":[],\"diagnostics\":[]}\n{\"target\":\"b\",\"parent\":\"a\",\"status\":null,\"start_ms\":null,\"end_ms\":null,\"cpu_ms\":null,\"peak_kb\":null,\"directory\":null,\"commands\":[],\"needs\":[],\"lines\":[\"x\\r\",\"\\ty\"],\"diagnostics\":[]}\n",
+    ),
+    (
+        &[
+            (b"a", b"@@REDO:unchanged:7:1@@ b\n"),
+            (b"b", b"x\x0d\n\x09y\n"),
+        ],
+        true,
+        &[],
+        "",
+        "",
+        &[],
+        b"",
     ),
 ];

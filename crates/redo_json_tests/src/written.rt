@@ -1,7 +1,7 @@
-//! The JSON of bytes and of logs.
-use crate::cases::{OBJECTS, STRINGS};
+//! The JSON of bytes.
+use crate::cases::STRINGS;
 use redo_device::{Broken, Taker};
-use redo_json::{write_base64, write_object, write_string};
+use redo_json::{write_base64, write_string};
 use std::process::Abort;
 use std::test::Fail;
 
@@ -25,30 +25,7 @@ fn base64_is_written(rt: HostRuntime) -> Result<(), Fail> {
     Ok(())
 }
 
-#[test]
-fn object_is_written(rt: HostRuntime) -> Result<(), Fail> {
-    for (log, want) in &OBJECTS {
-        let mut out = Taker::new(rt.alloc(), 4096, 4096)?;
-        let written = write_object(log, &mut out);
-        expect_written(&rt, written, out.bytes(), want);
-    }
-    Ok(())
-}
-
 fn expect_written(rt: &impl Abort, written: Result<(), Broken>, bytes: &[u8], want: &[u8]) {
     assert_eq!(rt; written, Ok(()));
     assert_eq!(rt; bytes, want);
-}
-
-/// Wherever a write fails, the prefix before it was written.
-#[test]
-fn failed_write_leaves_prefix(rt: HostRuntime) -> Result<(), Fail> {
-    for (log, want) in &OBJECTS {
-        for room in 0..want.len() {
-            let mut out = Taker::new(rt.alloc(), room, 5)?;
-            assert_eq!(&rt; write_object(log, &mut out), Err(Broken));
-            assert_eq!(&rt; out.bytes(), &want[..room]);
-        }
-    }
-    Ok(())
 }
