@@ -1,5 +1,5 @@
 -- The nodes of an outline have the values of the logs that are opened.
-use Rattle.std.proofs.Common.{◌≡◌, ℕ, zero, suc, ◌+◌, ◌<◌, List, [], ◌∷◌, ◌++◌, Option, None, Some, Result, Ok, Err, ℤ, length, map, option_copied, option_map, slice_get, slice_index_or, refl, sym, ap, ap₂, ◌∙◌, arith, append_assoc}
+use Rattle.std.proofs.Common.{◌≡◌, ℕ, suc, ◌+◌, List, [], ◌∷◌, ◌++◌, Option, None, Some, Result, Ok, Err, ℤ, length, map, option_copied, option_map, slice_get, slice_index_or, refl, sym, ap, ap₂, ◌∙◌, arith, append_assoc}
 use Rattle.std.proofs.lemmas.List.{append-nil, length-append, map-append}
 use Rattle.std.specs.List.{flat_map}
 use Rattle.std.specs.Result.{IsErrAnd}
@@ -21,7 +21,7 @@ use Rattle.redo_outline.specs.Outline.{log_count, node_of, nodes_of, outline_of}
 use Rattle.redo_facts.specs.Facts.{RecipeCommand, nothing}
 use Rattle.redo_times.specs.declared.times.Times.{Times}
 use Rattle.redo_json.specs.declared.build.Recipe.{Recipe}
-use Rattle.redo_json.specs.Build.{Request, build_json, log_values, needs_of, object_text, options_of, unknown_times, values_in}
+use Rattle.redo_json.specs.Build.{Request, build_json, needs_of, object_text, options_of, unknown_times, values_in}
 use Rattle.redo_json.specs.Object.{LogValues}
 use Rattle.redo_json.specs.Private.Values.{IsRecipeOf, node_values, parent_name}
 

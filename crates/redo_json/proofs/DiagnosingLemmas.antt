@@ -1,12 +1,11 @@
 -- The diagnostics of lines that are iterated over.
-use Rattle.std.proofs.Common.{◌≡◌, ℕ, suc, ◌+◌, ◌<◌, ◌≤◌, ◌^◌, Bool, true, false, not, List, [], ◌∷◌, ◌++◌, Option, None, Some, filter, length, refl, sym, ap, ◌∙◌, arith}
+use Rattle.std.proofs.Common.{◌≡◌, ℕ, suc, ◌+◌, ◌<◌, ◌≤◌, ◌^◌, Bool, true, false, not, List, [], ◌∷◌, ◌++◌, Option, None, Some, length, refl, sym, ap, ◌∙◌, arith}
 use Rattle.std.specs.Str.{bytes_eq}
 use Rattle.std.proofs.lemmas.List.Filters.{length-filter_both}
-use Rattle.std.proofs.lemmas.List.{length-append}
 use Rattle.redo_device.specs.Sink.{Output}
-use Rattle.redo_diagnostics.specs.Counts.{AreCounts, max_count, stored, times_of}
+use Rattle.redo_diagnostics.specs.Counts.{AreCounts, stored, times_of}
 use Rattle.redo_diagnostics.specs.Diagnostic.{DiagnosticValue, diagnostic_of}
-use Rattle.redo_json.specs.Diagnostics.{LogDiagnostic, diagnostics_of, numbered_from, placed_from, placed_if}
+use Rattle.redo_json.specs.Diagnostics.{diagnostics_of, numbered_from, placed_from, placed_if}
 use Rattle.redo_json.specs.Private.Diagnosing.{WroteDiagnostics}
 use Rattle.redo_json.specs.Private.LogLines.{Remaining}
 use Rattle.redo_json.specs.Private.Parts.{diagnostic_text, diagnostics_text}

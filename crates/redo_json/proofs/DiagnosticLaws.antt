@@ -1,5 +1,5 @@
 -- The laws about diagnostics of logs.
-use Rattle.std.proofs.Common.{◌≡◌, ℕ, zero, suc, ◌+◌, List, [], ◌∷◌, ◌++◌, Option, None, Some, filter_map, map, option_and_then, slice_get, refl, sym, ap, ◌∙◌, subst, arith}
+use Rattle.std.proofs.Common.{◌≡◌, ℕ, suc, ◌+◌, List, [], ◌∷◌, ◌++◌, Option, None, Some, filter_map, option_and_then, slice_get, refl, ap, ◌∙◌, arith}
 use Rattle.std.specs.List.{AllByRecursion, cons_option}
 use Rattle.redo_diagnostics.specs.Counts.{numbered_after, times_of}
 use Rattle.redo_diagnostics.specs.Diagnostic.{DiagnosticValue, diagnostic_of}

@@ -1,17 +1,15 @@
 -- The diagnostics of a log in parts.
-use Rattle.std.proofs.Common.{◌≡◌, ℕ, suc, ◌+◌, ◌<◌, ◌≤◌, min, Bool, true, false, List, [], ◌∷◌, ◌++◌, Option, None, Some, IfNone, IfSome, Bor, length, option_and_then, option_map, refl, sym, ap, ◌∙◌, append_assoc, arith}
+use Rattle.std.proofs.Common.{◌≡◌, ℕ, ◌+◌, Bool, true, false, List, [], ◌∷◌, ◌++◌, Option, None, Some, IfNone, IfSome, Bor, option_and_then, option_map, refl, sym, ap, ◌∙◌, append_assoc}
 use Rattle.std.specs.Option.{option_copied}
 use Rattle.std.specs.Prelude.{codes, decimal}
-use Rattle.std.specs.Str.{bytes_eq}
 use Rattle.std.proofs.lemmas.List.{append-nil}
 use Rattle.json.specs.Json.{array, number, string}
 use Rattle.json.specs.Print.{escape_byte, print, print_from}
 use Rattle.json.specs.Tree.{items_tokens, json_tokens}
 use Rattle.redo_diagnostics.specs.declared.severity.Severity.{Severity}
 use Rattle.redo_diagnostics.specs.declared.severity.Severity.TheVariants.{Warning, Error, FatalError}
-use Rattle.redo_diagnostics.specs.Counts.{stored, times_of}
-use Rattle.redo_diagnostics.specs.Diagnostic.{DiagnosticValue, PlaceValue, diagnostic_of}
-use Rattle.redo_json.specs.Diagnostics.{LogDiagnostic, diagnostic_fields, diagnostic_objects, diagnostics_field, diagnostics_of, numbered_from, placed_from, placed_if, severity_name}
+use Rattle.redo_diagnostics.specs.Diagnostic.{PlaceValue}
+use Rattle.redo_json.specs.Diagnostics.{LogDiagnostic, diagnostic_fields, diagnostic_objects, diagnostics_field, diagnostics_of, severity_name}
 use Rattle.redo_json.specs.Fields.{Field, bytes_fields, field, number_value, object_with, optional_bytes_fields}
 use Rattle.redo_json.specs.Private.Parts.{comma_field, comma_fields, comma_if, diagnostic_text, diagnostics_text, field_text}
 use Rattle.redo_json.proofs.ObjectLemmas.{then, then_one}

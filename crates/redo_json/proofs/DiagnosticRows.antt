@@ -15,7 +15,7 @@ use Rattle.redo_diagnostics.specs.declared.severity.Severity.{Severity}
 use Rattle.redo_diagnostics.specs.declared.severity.Severity.TheVariants.{Warning, Error, FatalError}
 use Rattle.redo_diagnostics.specs.Diagnostic.{PlaceValue, before_bracket, diagnostic_of, first_place, masked_after, place_of, split_flag}
 use Rattle.redo_diagnostics.specs.Plain.{length_to, plain_after}
-use Rattle.redo_json.specs.Diagnostics.{LogDiagnostic, diagnostic_fields, diagnostic_objects, diagnostics_field, diagnostics_of}
+use Rattle.redo_json.specs.Diagnostics.{LogDiagnostic, diagnostic_fields, diagnostics_field, diagnostics_of}
 use Rattle.redo_json.specs.Fields.{object_with}
 
 abbrev found : ℕ → Severity → Option PlaceValue → List ℕ → Option (List ℕ) → List ℕ → ℕ → LogDiagnostic

@@ -1,5 +1,5 @@
 -- The numbers of a build are exact if the numbers of its logs are.
-use Rattle.std.proofs.Common.{◌≡◌, ℕ, zero, suc, ◌+◌, ◌<◌, ◌≤◌, ◌^◌, min, Bool, true, false, not, ℤ, List, [], ◌∷◌, ◌++◌, Option, None, Some, IfSome, filter_map, length, option_map, slice_get, slice_index_or, refl, sym, ap, ◌∙◌, arith}
+use Rattle.std.proofs.Common.{ℕ, zero, suc, ◌+◌, ◌≤◌, ◌^◌, Bool, true, false, not, ℤ, List, [], ◌∷◌, ◌++◌, Option, None, Some, IfSome, filter_map, length, option_map, slice_get, slice_index_or, arith}
 use Rattle.std.specs.Prelude.{nat_eq, ◌||◌, if◌then◌else◌}
 use Rattle.std.specs.Cmp.Lexicographic.{pointwise}
 use Rattle.std.specs.List.{AllByRecursion, cons_option}
@@ -11,7 +11,6 @@ use Rattle.redo_line.specs.declared.entry.Entry.TheVariants.{Text, Mention, Done
 use Rattle.redo_line.specs.declared.entry.How.{How}
 use Rattle.redo_logs.specs.Logs.{Log, log_number}
 use Rattle.redo_options.specs.declared.options.Options.{Options}
-use Rattle.redo_times.specs.declared.times.Times.{Times}
 use Rattle.redo_times.specs.Time.{IsInRange}
 use Rattle.redo_times.specs.Times.{AreInRange}
 use Rattle.redo_view.specs.declared.event.Opening.{Opening}
@@ -20,10 +19,9 @@ use Rattle.redo_view.specs.Event.Event.{Requested, Mentioned, EntryShown, LogEnd
 use Rattle.redo_view.specs.Expansion.{ShowLog, ViewState, append_event, begin_log, entries_of_target, is_among, is_mention, mention_events, mention_opening, request_event, show_entries, show_entry, show_log, show_log_within, show_mention, show_mention_line, show_target, show_targets, shown_events}
 use Rattle.redo_outline.specs.Contents.{Contents, contents_of}
 use Rattle.redo_outline.specs.Contents.Contents.{Nothing, Shown, Opened}
-use Rattle.redo_outline.specs.Facts.{closing_status, done_status, entries_at, is_number, saturated, status_if, target_at, target_status, text_of, texts_of}
+use Rattle.redo_outline.specs.Facts.{closing_status, done_status, entries_at, is_number, status_if, target_at, target_status, text_of, texts_of}
 use Rattle.redo_json.specs.Build.{Request, build_events, build_values, cpu_time, log_values, options_of, unknown_times, values_in}
 use Rattle.redo_json.specs.Laws.{HasExactEntries, HasExactInputs, HasExactNumbers, HasExactUsage, IsExact, IsExactEntry, IsExactSigned}
-use Rattle.redo_json.specs.Object.{LogValues}
 
 all-append : {A : Type 0} (P : A → Type 0) (xs ys : List A) → AllByRecursion P xs → AllByRecursion P ys → AllByRecursion P (xs ++ ys)
 all-append P [] ys first last = last

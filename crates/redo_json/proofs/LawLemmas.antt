@@ -1,5 +1,5 @@
 -- The laws about builds.
-use Rattle.std.proofs.Common.{◌≡◌, ℕ, true, List, [], ◌∷◌, ◌++◌, IsUtf8, map, refl, sym, ap, ◌∙◌, subst}
+use Rattle.std.proofs.Common.{◌≡◌, ℕ, List, [], ◌∷◌, ◌++◌, IsUtf8, map, refl, ap, ◌∙◌}
 use Rattle.std.specs.List.{AllByRecursion, flat_map}
 use Rattle.redo_line.specs.Lines.{ended, line_feed, rest, with_line_feed}
 use Rattle.redo_line.proofs.LineLemmas.{ended-free, ended-line, rest-free, rest-line}

@@ -4,13 +4,12 @@ use Rattle.std.specs.Prelude.{codes}
 use Rattle.std.proofs.lemmas.List.{append-nil}
 use Rattle.std.proofs.lemmas.List.Concat.{flat_map-append}
 use Rattle.json.specs.Json.{string}
-use Rattle.json.specs.Print.{escape_byte, print, quoted}
-use Rattle.json.specs.Tree.{json_tokens}
+use Rattle.json.specs.Print.{escape_byte, quoted}
 use Rattle.redo_line.specs.Lines.{with_line_feed}
 use Rattle.redo_json.specs.Build.{object_text}
 use Rattle.redo_json.specs.Diagnostics.{diagnostics_field}
 use Rattle.redo_json.specs.Fields.{Field, exact_fields, exact_name, field, list_fields, optional_bytes_fields}
-use Rattle.redo_json.specs.Object.{LogValues, number_fields, object_of}
+use Rattle.redo_json.specs.Object.{LogValues, number_fields}
 use Rattle.redo_json.specs.Text.{exact_of, text_of}
 use Rattle.redo_json.specs.Private.Parts.{comma_field, comma_fields, commands_part, directory_part, exact_target, field_text, first_part, from_commands, from_directory, from_exact, from_needs, from_numbers, from_parent, front_text, lines_part, needs_part, numbers_part, parent_part}
 use Rattle.redo_json.proofs.PrintLemmas.{print_object, print_string}

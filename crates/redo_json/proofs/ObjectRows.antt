@@ -100,11 +100,3 @@ these_places : AllByRecursion HasJson (
     [])
 unfolding chars digits encode_symbols encode_utf8 escape_byte is_utf8 pieces_from print_from after_prefix split_once decimal.number length_to plain_after first_place place_of before_bracket split_flag masked_after diagnostic_of
 these_places = (refl, tt)
-
--- A need that would be a diagnostic.
-these_needs : AllByRecursion HasJson (
-    row (log [] None None None None None None None [] (codes "error: x" ∷ []) [])
-    (codes "{\"target\":\"\",\"parent\":null,\"status\":null,\"start_ms\":null,\"end_ms\":null,\"cpu_ms\":null,\"peak_kb\":null,\"directory\":null,\"commands\":[],\"needs\":[\"error: x\"],\"lines\":[],\"diagnostics\":[]}") ∷
-    [])
-unfolding chars digits encode_symbols encode_utf8 escape_byte is_utf8 pieces_from print_from after_prefix split_once decimal.number length_to plain_after first_place place_of before_bracket split_flag masked_after diagnostic_of
-these_needs = (refl, tt)

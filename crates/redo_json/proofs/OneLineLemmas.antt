@@ -1,9 +1,9 @@
 -- A printed value has no line feed.
-use Rattle.std.proofs.Common.{◌≡◌, ◌≢◌, ℕ, zero, suc, ◌<◌, ◌≤◌, ◌+◌, ◌/◌, ◌%◌, Bool, true, false, List, [], ◌∷◌, ◌++◌, Option, None, Some, cond, length, drop, get_or, nat_le, refl, sym, ap, ◌∙◌, arith, append_assoc, append-nil, subst, true≢false}
-use Rattle.std.specs.Prelude.{◌==◌, ◌||◌, ◌&&◌, nat_lt, option_and_then}
+use Rattle.std.proofs.Common.{◌≡◌, ◌≢◌, ℕ, suc, ◌+◌, ◌/◌, ◌%◌, Bool, true, false, List, [], ◌∷◌, ◌++◌, Option, None, Some, cond, drop, refl, sym, ap, ◌∙◌, arith, append_assoc, append-nil, subst, true≢false}
+use Rattle.std.specs.Prelude.{◌==◌, ◌||◌, nat_lt, option_and_then}
 use Rattle.std.specs.Char.{digit_char, is_ascii_digit}
-use Rattle.std.specs.List.{AllByRecursion, prefix_len}
-use Rattle.std.proofs.lemmas.Bool.{eqb-true, ltb-false, or_parts}
+use Rattle.std.specs.List.{prefix_len}
+use Rattle.std.proofs.lemmas.Bool.{eqb-true, ltb-false}
 use Rattle.json.specs.Json.{Json}
 use Rattle.json.specs.Print.{ArePrintable, IsNumber, IsPrintable, ends, escape, escape_byte, escape_letter, print, print_from, quoted, separator, token_text}
 use Rattle.json.specs.Token.{Token, begin_object, end_object, begin_array, end_array, key, string, number, boolean, null, bad}

@@ -1,5 +1,5 @@
 -- The targets of the logs that events open.
-use Rattle.std.proofs.Common.{◌≡◌, ℕ, zero, suc, ◌+◌, Bool, true, false, ℤ, List, [], ◌∷◌, ◌++◌, Option, None, Some, get_or, length, map, refl, sym, ◌∙◌, ap, arith, append_assoc}
+use Rattle.std.proofs.Common.{◌≡◌, ℕ, zero, suc, ◌+◌, Bool, true, false, ℤ, List, [], ◌∷◌, ◌++◌, Option, None, Some, get_or, length, refl, sym, ◌∙◌, ap}
 use Rattle.std.specs.Prelude.{not, ◌||◌, slice_get, nat_eq, if◌then◌else◌}
 use Rattle.std.specs.Cmp.Lexicographic.{pointwise, same_text}
 use Rattle.std.specs.List.{AllByRecursion, flat_map}
@@ -18,7 +18,7 @@ use Rattle.redo_view.specs.Event.{Event, opening_of, opens_here}
 use Rattle.redo_view.specs.Event.Event.{Requested, Mentioned, EntryShown, LogEnds}
 use Rattle.redo_view.specs.Expansion.{ShowLog, ViewState, append_event, begin_log, entries_of_target, is_among, is_mention, mention_events, mention_opening, request_event, show_entries, show_entry, show_log, show_log_within, show_mention, show_mention_line, show_target, show_targets, shown_events}
 use Rattle.redo_view.specs.Laws.{opened_name}
-use Rattle.redo_outline.specs.Contents.{Contents, contents_from, contents_of, innermost, number_of_opening, opened_number, with_event, with_first}
+use Rattle.redo_outline.specs.Contents.{Contents, contents_from, contents_of, innermost, opened_number, with_event, with_first}
 use Rattle.redo_outline.specs.Contents.Contents.{Nothing, Shown, Opened}
 use Rattle.redo_outline.specs.Facts.{entries_at, name_or_empty, target_at, target_status, texts_of}
 use Rattle.redo_outline.specs.Laws.{events_of}

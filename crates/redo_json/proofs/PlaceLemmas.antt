@@ -1,5 +1,5 @@
 -- Rows and columns have at most nine digits.
-use Rattle.std.proofs.Common.{◌≡◌, ℕ, suc, ◌+◌, ◌-◌, ◌*◌, ◌<◌, ◌≤◌, ◌^◌, Bool, true, false, List, [], ◌∷◌, Option, None, Some, length, nat_le, option_and_then, option_map, refl, sym, ap, ◌∙◌, subst, arith}
+use Rattle.std.proofs.Common.{◌≡◌, ℕ, ◌+◌, ◌-◌, ◌*◌, ◌<◌, ◌≤◌, ◌^◌, Bool, true, false, List, [], ◌∷◌, Option, None, Some, length, nat_le, option_and_then, option_map, refl, sym, ap, ◌∙◌, subst, arith}
 use Rattle.std.specs.Prelude.{◌&&◌, if◌then◌else◌}
 use native.Mathlib.Nat.{pow-le-pow_right}
 use Rattle.std.specs.Char.{is_ascii_digit}
@@ -7,7 +7,7 @@ use Rattle.std.specs.List.{list_all}
 use Rattle.std.specs.Str.{bytes_eq}
 use Rattle.std.proofs.lemmas.Bool.{and_parts, leb-true}
 use Rattle.std.proofs.lemmas.Grind.{pow_more}
-use Rattle.redo_line.specs.Decimal.{are_digits, number, number_of}
+use Rattle.redo_line.specs.Decimal.{are_digits, number}
 use Rattle.redo_line.specs.Parts.{split_once}
 use Rattle.redo_line.specs.Record.{colon, space}
 use Rattle.redo_diagnostics.specs.Diagnostic.{DiagnosticValue, PartsValue, PlaceValue, column_from, column_in, diagnostic_from, diagnostic_of, number_in, parts_of, place_from, place_of, row_alone, row_and_column, row_with}

@@ -7,7 +7,6 @@ use Rattle.json.specs.Json.{Json, number, string}
 use Rattle.json.specs.Tree.{HasNumbers, ItemsHaveNumbers, MembersHaveNumbers, depth, items_depth, members_depth}
 use Rattle.json.proofs.Printed.Decimals.{IsNumber-decimal, IsNumber-signed_decimal}
 use Rattle.json.proofs.Printed.Trees.{document-print}
-use Rattle.redo_diagnostics.specs.Counts.{times_of}
 use Rattle.redo_diagnostics.specs.Diagnostic.{DiagnosticValue, PlaceValue, diagnostic_of}
 use Rattle.redo_json.specs.Diagnostics.{LogDiagnostic, diagnostic_fields, diagnostic_objects, diagnostics_field, diagnostics_of, numbered_from, placed_from, placed_if, severity_name}
 use Rattle.redo_json.specs.Fields.{Field, field, bytes_fields, exact_fields, exact_items, exact_list, exact_name, list_fields, members_of, number_value, object_with, optional_bytes_fields, signed_value, strings}

@@ -75,8 +75,8 @@ pub fn needs_are_mentioned()
     ensures { (entries : List Entry) (name : List ℕ) → times_of name (needs_of entries) ≡ min (times_of name (mentions_in entries)) 1 }
 {}
 
-/// An object has the diagnostics of all lines, in order, each with the position of its line. Its key and its number are the id that the law
-/// `ids_are_distinct` of `redo_diagnostics` is about.
+/// An object has the diagnostics of all lines, in order, each with the position of its line. The law `ids_are_distinct` of
+/// `redo_diagnostics` is about their keys and numbers.
 pub fn diagnostics_are_of_lines()
     ensures all { (lines : List (List ℕ)) → found_values (diagnostics_of lines) ≡ filter_map diagnostic_of lines }
     ensures positions { (lines : List (List ℕ)) → AllByRecursion (IsOfLine lines) (diagnostics_of lines) }

@@ -1,5 +1,4 @@
 //! The object of a log.
-ghost use Rattle.std.specs.Prelude.{◌∷◌, ◌++◌, []};
 ghost use Rattle.redo_device.specs.Sink.{Writes};
 ghost use Rattle.redo_line.specs.Lines.{with_line_feed};
 ghost use Rattle.redo_view.specs.Form.{FormWrites};

@@ -1,4 +1,4 @@
-use Rattle.std.proofs.Common.{◌≡◌, ℕ, List, ◌++◌, suc, take, drop, sym, ◌∙◌, append_assoc}
+use Rattle.std.proofs.Common.{ℕ, List, suc, take, drop, sym, ◌∙◌, append_assoc}
 use Rattle.std.specs.List.{flat_map}
 use Rattle.std.proofs.lemmas.Result.{err_from_is_err_and}
 use Rattle.redo_line.specs.Lines.{with_line_feed}

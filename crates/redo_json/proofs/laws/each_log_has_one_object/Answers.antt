@@ -1,14 +1,11 @@
-use Rattle.std.proofs.Common.{◌≡◌, ℕ, None, List, nat_eq, sym, ap, ◌∙◌, subst}
+use Rattle.std.proofs.Common.{None, List, nat_eq, sym, ap, ◌∙◌, subst}
 use Rattle.std.specs.Cmp.Lexicographic.{pointwise}
 use Rattle.std.specs.List.{IsDistinct, flat_map}
-use Rattle.redo_logs.specs.Logs.{Log}
 use Rattle.redo_outline.specs.Contents.{contents_of}
 use Rattle.redo_outline.specs.Facts.{target_status}
 use Rattle.redo_view.specs.Event.{Event}
-use Rattle.redo_view.specs.Laws.{opened_for, opened_name}
-use Rattle.redo_view.specs.View.{find_unknown}
-use Rattle.redo_json.specs.Build.{Request, build_events, build_values, options_of}
-use Rattle.redo_json.specs.Laws.{targets_in}
+use Rattle.redo_view.specs.Laws.{opened_name}
+use Rattle.redo_json.specs.Build.{build_events, options_of}
 use Rattle.redo_json.proofs.OpeningLemmas.{contents_named, targets_are}
 use Rattle.redo_json.proofs.laws.each_log_has_one_object.Goals as goal
 

@@ -1,11 +1,9 @@
-use Rattle.std.proofs.Common.{◌≡◌, ℕ, List, ◌∷◌, ◌++◌, [], sym, ap, ◌∙◌}
-use Rattle.std.specs.Prelude.{codes}
-use Rattle.json.specs.Print.{escape}
+use Rattle.std.proofs.Common.{ℕ, List, ◌∷◌, [], sym, ap, ◌∙◌}
 use Rattle.redo_device.specs.Sink.{append_output}
 use Rattle.redo_device.proofs.WritesLemmas.{append_nothing}
 use Rattle.redo_outline.specs.Facts.{entries_at, texts_of}
 use Rattle.redo_json.specs.Fields.{Field, exact_items, exact_list, exact_name}
-use Rattle.redo_json.specs.Private.Parts.{comma_fields, exact_item}
+use Rattle.redo_json.specs.Private.Parts.{comma_fields}
 use Rattle.redo_json.proofs.LineLemmas.{exact_line_parts}
 use Rattle.redo_json.proofs.WritingLemmas.{begin, failed_part, wrote_more, wrote_rest}
 use Rattle.redo_json.proofs.lines.write_exact_lines.Goals as goal

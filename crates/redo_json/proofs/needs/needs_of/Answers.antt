@@ -1,9 +1,8 @@
-use Rattle.std.proofs.Common.{◌≡◌, ℕ, List, length, map, sym, ap, ◌∙◌, subst, arith}
+use Rattle.std.proofs.Common.{List, sym, subst, arith}
 use Rattle.redo_logs.specs.Logs.{Log}
 use Rattle.redo_logs.specs.Numbering.{AreLinesAt}
-use Rattle.redo_outline.specs.Facts.{entries_at}
 use Rattle.redo_json.proofs.LogLineLemmas.{within}
-use Rattle.redo_json.proofs.NeedLemmas.{after_entry, after_texts, all_needs, begin_needs, lines_within}
+use Rattle.redo_json.proofs.NeedLemmas.{after_entry, after_texts, all_needs, lines_within}
 use Rattle.redo_json.proofs.needs.needs_of.Goals as goal
 
 pub entries-smaller-then-count-gt0 : goal.entries-smaller-then-count-gt0
