@@ -21,7 +21,7 @@ record IsSmall (levels : ℕ) (json : Json) : Type 0 where
   numbers : HasNumbers json
   shallow : depth json ≤ levels
 
--- The same of each member.
+-- The value of each member has numbers and is no deeper than this.
 abbrev AreSmall : ℕ → List Field → Type 0
 AreSmall levels [] = Unit {0}
 AreSmall levels (one ∷ others) = IsSmall levels one.value × AreSmall levels others

@@ -11,7 +11,7 @@ use Rattle.redo_json.specs.Private.Writing.{WroteUpTo}
 pub begin : (before : Option Output) (text rest : List ℕ) → rest ≡ text → WroteUpTo before before text rest
 begin before text rest is = record { prefix = []; wrote = append_nothing before; splits = is }
 
--- What is left is equal to other bytes.
+-- The remaining text is equal to other bytes.
 pub left_is : (before after : Option Output) (text rest left : List ℕ) → rest ≡ left → WroteUpTo before after text rest
     → WroteUpTo before after text left
 left_is before after text rest left is so_far = subst (WroteUpTo before after text) is so_far
@@ -43,7 +43,7 @@ pub wrote_all : (before after : Option Output) (text : List ℕ) → WroteUpTo b
 wrote_all before after text so_far =
     so_far.wrote ∙ ap (λ (t : List ℕ). append_output before t 0) (sym (append-nil so_far.prefix) ∙ so_far.splits)
 
--- The same writes, of an equal text.
+-- The writes of an equal text.
 pub writes_as : (before after : Option Output) (text other : List ℕ) (done : Result (Unit {0}) Broken) → text ≡ other
     → Writes before after text done → Writes before after other done
 writes_as before after text other done is wrote = subst (λ (t : List ℕ). Writes before after t done) is wrote

@@ -53,7 +53,7 @@ abbrev pub strings : List (List ℕ) → Items
 strings [] = no_items
 strings (bytes ∷ others) = item (string (text_of bytes)) (strings others)
 
--- The exact bytes of the items of which the texts don't have them. The name of each is the position of the item, counted from this one.
+-- The exact bytes of the items whose texts don't have them. The name of each is the position of the item, counted from this one.
 abbrev pub exact_items : ℕ → List (List ℕ) → List Field
 exact_items position [] = []
 exact_items position (bytes ∷ others) = exact_fields (decimal position) (exact_of bytes) ++ exact_items (suc position) others

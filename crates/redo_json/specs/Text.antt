@@ -1,4 +1,4 @@
--- What JSON says of bytes: a string has their text, and another one has the bytes in Base64 if the text doesn't determine them.
+-- Bytes in JSON: a string has their text, and another one has the bytes in Base64 if the text doesn't determine them.
 use Rattle.std.specs.Prelude.{ℕ, List, Option, None, Some, encode_utf8_all, if◌then◌else◌}
 use Rattle.std.specs.Result.{result_ok}
 use Rattle.std.specs.Str.{is_utf8}

@@ -19,12 +19,12 @@ ghost use Rattle.redo_json.specs.Text.{base64_of, bytes_from, exact_of, text_of}
 
 use redo_outline::events_are_in_contents;
 
-/// Whatever bytes are written, their text and their exact bytes in Base64, if these are written, say together what the bytes are.
+/// The text of any bytes determines them, together with the exact bytes in Base64 if these are written.
 pub fn bytes_are_recovered()
     ensures { (bytes : List ℕ) → IsBytes bytes → bytes_from (text_of bytes) (exact_of bytes) ≡ Some bytes }
 {}
 
-/// Whatever the bytes are, the strings are valid UTF-8.
+/// The strings of any bytes are valid UTF-8.
 pub fn strings_are_utf8()
     ensures text { (bytes : List ℕ) → IsUtf8 (quoted (text_of bytes)) }
     ensures base64 { (bytes : List ℕ) → IsUtf8 (quoted (base64_of bytes)) }

@@ -2,16 +2,17 @@
 //!
 //! # Design
 //!
-//! The definition is a value of the kit's `json`, and the bytes are what `json` prints of it. So a theorem of `json` says that a reader
-//! reads the object back.
+//! The definition is a value of the kit's `json`, and the bytes are the text that `json` prints of it. A theorem of `json` says that a
+//! reader reads the object back.
 //!
-//! - A string of JSON can't have bytes that are not UTF-8, and some readers reject raw bytes and lone surrogates. So a string has the
-//!   text, in which U+FFFD replaces each piece that is no character. A member whose name ends with `_base64` has the exact bytes.
+//! - A string of JSON can't have bytes that are not UTF-8, and some readers reject raw bytes and lone surrogates. Therefore a string
+//!   has the text, in which U+FFFD replaces each piece that is no character. A member whose name ends with `_base64` has the exact
+//!   bytes.
 //! - `json` writes into memory. Here parts are written to a `Sink`. Stretches without escapes are one write. The text lines of a log are
 //!   read from the table three times: for the texts, for the exact bytes, and for the diagnostics. So no object is held in memory, only
 //!   the commands and the needs of one log, and the keys of its diagnostics.
 //! - The definition is a recursion over the tree of what is shown. The code iterates over the nodes of the outline.
-//! - Base64 is encoded in chunks of 768 bytes, on the stack, and written as the text of any string is. So no proof knows its alphabet.
+//! - Base64 is encoded in chunks of 768 bytes, on the stack, and written as the text of any string is. No proof knows its alphabet.
 //! - Programs read numbers as doubles, so the law about reading has the premise that numbers are below 2^53.
 #![tactic(auto)]
 

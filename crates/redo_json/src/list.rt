@@ -8,7 +8,7 @@ use crate::field::is_text;
 use crate::part::{Part, write_parts};
 use redo_device::{Broken, Sink, push_all};
 
-/// Writes a member with the texts of a list, and another one with the exact bytes of those items of which the texts don't have them.
+/// Writes a member with the texts of a list, and another one with the exact bytes of the items whose texts don't have them.
 pub fn write_list<W: Sink>(name: &[u8], list: &[&[u8]], out: &mut W) -> Result<(), Broken>
     ensures { Writes (W.written out.old) (W.written out.new)
         (comma_fields (list_fields name.now (map (λ bytes. bytes.now) list.now))) result }
@@ -45,7 +45,7 @@ pub fn comma_after(is_first: bool) -> &'static [u8]
     if is_first { b"" } else { b"," }
 }
 
-// Writes a member with the exact bytes of those items of which the texts don't have them, if there are such items.
+// Writes a member with the exact bytes of the items whose texts don't have them, if there are such items.
 fn write_exact_list<W: Sink>(name: &[u8], list: &[&[u8]], out: &mut W) -> Result<(), Broken>
     ensures { Writes (W.written out.old) (W.written out.new)
         (comma_fields (exact_list (exact_name name.now) (exact_items 0 (map (λ bytes. bytes.now) list.now)))) result }
@@ -66,7 +66,7 @@ fn write_exact_list<W: Sink>(name: &[u8], list: &[&[u8]], out: &mut W) -> Result
     push_all(out, b"}")
 }
 
-// Writes the exact bytes of those items from `from` on of which the texts don't have them, each after a comma.
+// Writes the exact bytes of the items from `from` on whose texts don't have them, each after a comma.
 fn write_other_items<W: Sink>(list: &[&[u8]], from: usize, out: &mut W) -> Result<(), Broken>
     requires { from ≤ length list.now }
     ensures { Writes (W.written out.old) (W.written out.new)
@@ -81,7 +81,7 @@ fn write_other_items<W: Sink>(list: &[&[u8]], from: usize, out: &mut W) -> Resul
     Ok(())
 }
 
-// Returns the position of the first item from `from` on of which the text doesn't have the exact bytes.
+// Returns the position of the first item from `from` on whose text doesn't have the exact bytes.
 fn next_exact(list: &[&[u8]], from: usize) -> Option<usize>
     requires { from ≤ length list.now }
     ensures some { IfSome result (IsNextExact (map (λ bytes. bytes.now) list.now) from) }

@@ -1,4 +1,4 @@
--- What the writers of objects ensure.
+-- The postconditions of the writers of objects.
 use Rattle.std.specs.Prelude.{◌≡◌, ℕ, ◌+◌, ◌<◌, ◌≤◌, Bool, false, List, [], ◌∷◌, ◌++◌, length, drop, get_or, codes, decimal, if◌then◌else◌}
 use Rattle.std.specs.Fmt.{signed_decimal}
 use Rattle.std.specs.List.{flat_map}
@@ -44,7 +44,7 @@ items_text is_first (bytes ∷ others) = item_text is_first bytes ++ items_text 
 abbrev pub exact_item : ℕ → List ℕ → List ℕ
 exact_item position bytes = field_text (field (decimal position) (string (base64_of bytes)))
 
--- From `from` on, the first item of which the text doesn't have the exact bytes is at `at`.
+-- From `from` on, the first item whose text doesn't have the exact bytes is at `at`.
 pub record IsNextExact (list : List (List ℕ)) (from at : ℕ) : Type 0 where
   pub within : at < length list
   pub not_before : from ≤ at

@@ -1,4 +1,4 @@
--- What writers in parts ensure.
+-- The postconditions of writers in parts.
 use Rattle.std.specs.Prelude.{◌≡◌, ℕ, ◌≤◌, ◌<◌, Bool, true, List, ◌++◌, length, take, Option, if◌then◌else◌}
 use Rattle.std.specs.List.{list_all}
 use Rattle.std.specs.Str.Lossy.{replacement_bytes, utf8_lossy}
