@@ -17,7 +17,8 @@ use Rattle.redo_logs.specs.Logs.{Log}
 use Rattle.redo_logs.specs.declared.log_state.LogState.TheVariants.{Ended}
 use Rattle.redo_view.specs.Expansion.{show_log, show_log_within}
 use Rattle.redo_diagnostics.specs.Diagnostic.{before_bracket, diagnostic_of, first_place, masked_after, place_of, split_flag}
-use Rattle.redo_diagnostics.specs.Plain.{length_to, plain_after}
+use Rattle.redo_diagnostics.specs.Plain.{plain_after}
+use Rattle.redo_html.specs.Symbols.{is_sequence, sequence_len}
 use Rattle.redo_facts.specs.Facts.{RecipeFacts, nothing}
 use Rattle.redo_times.specs.declared.times.Times.{Times}
 use Rattle.redo_name.specs.declared.hash_keys.HashKeys.{HashKeys}
@@ -159,7 +160,7 @@ record JsonRow : Type 0 where
 these_lines : AllByRecursion (λ (r : JsonRow). build_json (asks false [] []) r.logs (a ∷ []) ≡ r.json) (
     record { logs = log a [] ∷ []; json = codes "{\"target\":\"a\",\"parent\":null,\"status\":null,\"start_ms\":null,\"end_ms\":null,\"cpu_ms\":null,\"peak_kb\":null,\"directory\":null,\"commands\":[],\"needs\":[],\"lines\":[],\"diagnostics\":[]}" ++ (10 ∷ []) } ∷
     [])
-unfolding chars digits encode_symbols encode_utf8 escape_byte is_utf8 pieces_from print_from after_prefix split_once decimal.number length_to plain_after first_place place_of before_bracket split_flag masked_after diagnostic_of show_log show_log_within
+unfolding chars digits encode_symbols encode_utf8 escape_byte is_utf8 pieces_from print_from after_prefix split_once decimal.number is_sequence sequence_len plain_after first_place place_of before_bracket split_flag masked_after diagnostic_of show_log show_log_within
 these_lines = (refl, tt)
 
 -- Borrowed values.

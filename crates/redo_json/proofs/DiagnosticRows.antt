@@ -14,7 +14,8 @@ use Rattle.redo_line.specs.Parts.{after_prefix, split_once}
 use Rattle.redo_diagnostics.specs.declared.severity.Severity.{Severity}
 use Rattle.redo_diagnostics.specs.declared.severity.Severity.TheVariants.{Warning, Error, FatalError}
 use Rattle.redo_diagnostics.specs.Diagnostic.{PlaceValue, before_bracket, diagnostic_of, first_place, masked_after, place_of, split_flag}
-use Rattle.redo_diagnostics.specs.Plain.{length_to, plain_after}
+use Rattle.redo_diagnostics.specs.Plain.{plain_after}
+use Rattle.redo_html.specs.Symbols.{is_sequence, sequence_len}
 use Rattle.redo_json.specs.Diagnostics.{LogDiagnostic, diagnostic_fields, diagnostics_field, diagnostics_of}
 use Rattle.redo_json.specs.Fields.{object_with}
 
@@ -42,7 +43,7 @@ these_diagnostics : AllByRecursion (λ (r : LinesRow). diagnostics_of r.lines �
           ∷ [];
     } ∷
     [])
-unfolding after_prefix split_once decimal.number length_to plain_after first_place place_of before_bracket split_flag masked_after diagnostic_of
+unfolding after_prefix split_once decimal.number is_sequence sequence_len plain_after first_place place_of before_bracket split_flag masked_after diagnostic_of
 these_diagnostics = (refl, (refl, tt))
 
 -- A diagnostic, and its object.
@@ -86,5 +87,5 @@ these_members : AllByRecursion (λ (r : MemberRow). print (json_tokens (object_w
       json = codes "{\"diagnostics\":[{\"line\":0,\"severity\":\"error\",\"file\":null,\"row\":null,\"column\":null,\"message\":\"y\",\"flag\":null,\"key\":\": error: y\",\"nth\":0},{\"line\":1,\"severity\":\"error\",\"file\":null,\"row\":null,\"column\":null,\"message\":\"y\",\"flag\":null,\"key\":\": error: y\",\"nth\":1}]}";
     } ∷
     [])
-unfolding chars digits encode_symbols encode_utf8 escape_byte is_utf8 pieces_from print_from after_prefix split_once decimal.number length_to plain_after first_place place_of before_bracket split_flag masked_after diagnostic_of
+unfolding chars digits encode_symbols encode_utf8 escape_byte is_utf8 pieces_from print_from after_prefix split_once decimal.number is_sequence sequence_len plain_after first_place place_of before_bracket split_flag masked_after diagnostic_of
 these_members = (refl, (refl, tt))
