@@ -1,5 +1,5 @@
 -- Examples of targets that need not be named, computed.
-use Rattle.std.proofs.Common.{◌≡◌, ℕ, List, [], ◌∷◌, replicate, refl}
+use Rattle.std.proofs.Common.{◌≡◌, ℕ, List, [], ◌∷◌, None, replicate, refl}
 use Rattle.std.specs.Prelude.{codes}
 use Rattle.std.specs.List.{AllByRecursion}
 use Rattle.clap.proofs.OnLiterals.{clap_on_literals}
@@ -7,6 +7,7 @@ use Rattle.clap.specs.Faults.{fault_of}
 use Rattle.clap.specs.Simple.{App, matches_of}
 use Rattle.redo_args.specs.CommandLine.{optional_words_rule, plain, with_rules}
 use Rattle.redo_args.specs.Job.{targets_or_all}
+use Rattle.redo_args.specs.Words.{fault_of_first}
 
 -- A command line with no other arguments.
 abbrev app : App
@@ -21,6 +22,7 @@ requests =
     (replicate 101 (codes "a"), replicate 101 (codes "a")) ∷
     []
 
-these_requests : AllByRecursion (λ row. (fault_of app row.0 ≡ []) × (targets_or_all (matches_of app row.0) ≡ row.1)) requests
+these_requests
+    : AllByRecursion (λ row. (fault_of_first (fault_of app row.0) ≡ None) × (targets_or_all (matches_of app row.0) ≡ row.1)) requests
 unfolding clap_on_literals
 these_requests = ((refl, refl), ((refl, refl), ((refl, refl), ((refl, refl), tt))))
