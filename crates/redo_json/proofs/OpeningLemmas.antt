@@ -283,7 +283,10 @@ module _ (request : Request) (logs : List Log) (events : List Event) where
     status = refl;
     start_ms = refl;
     end_ms = refl;
+    cpu_ms = refl;
+    peak_kb = refl;
     directory = refl;
+    commands = refl;
     needs = ap needs_of found.entries;
     lines = ap texts_of found.entries;
   }

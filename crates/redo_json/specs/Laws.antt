@@ -1,5 +1,5 @@
 -- Definitions that state the laws about objects and builds.
-use Rattle.std.specs.Prelude.{◌≡◌, ⊤, ℕ, ℤ, ◌<◌, ◌≤◌, ◌^◌, List, [], Option, None, Some, IfSome, length, map, option_and_then, slice_get, slice_index_or}
+use Rattle.std.specs.Prelude.{◌≡◌, ⊤, ℕ, ℤ, ◌<◌, ◌≤◌, ◌^◌, List, [], Option, None, Some, IfSome, length, map, option_and_then, option_map, slice_get, slice_index_or}
 use Rattle.std.specs.List.{AllByRecursion}
 use lib.Signed.{mag}
 use Rattle.json.specs.Json.{Json, document}
@@ -7,7 +7,7 @@ use Rattle.json.specs.Print.{print}
 use Rattle.json.specs.Tree.{json_tokens}
 use Rattle.redo_line.specs.Lines.{ended, rest}
 use Rattle.redo_diagnostics.specs.Diagnostic.{DiagnosticValue, diagnostic_of}
-use Rattle.redo_facts.specs.Facts.{RecipeFacts, nothing}
+use Rattle.redo_facts.specs.Facts.{RecipeCommand, RecipeFacts, nothing}
 use Rattle.redo_facts.specs.declared.statement.Usage.{Usage}
 use Rattle.redo_line.specs.declared.entry.Entry.{Entry}
 use Rattle.redo_line.specs.declared.entry.Entry.TheVariants.{Closing, Done}
@@ -15,7 +15,7 @@ use Rattle.redo_times.specs.Times.{AreInRange}
 use Rattle.redo_logs.specs.Logs.{Log}
 use Rattle.redo_view.specs.Event.{Event}
 use Rattle.redo_outline.specs.Facts.{target_status, texts_of}
-use Rattle.redo_json.specs.Build.{Request, needs_of, object_text, unknown_times}
+use Rattle.redo_json.specs.Build.{Request, cpu_time, needs_of, unknown_times}
 use Rattle.redo_json.specs.Diagnostics.{LogDiagnostic}
 use Rattle.redo_json.specs.Object.{LogValues, object_of}
 
@@ -62,7 +62,7 @@ IsReadBack json = document (print (json_tokens json)) ≡ Some json
 
 -- Some JSON, split at line feeds, is the objects of these values, one in each line. A reader of JSON reads each line as its object.
 pub record AreReadBack (json : List ℕ) (all : List LogValues) : Type 0 where
-  pub lines : ended json ≡ map object_text all
+  pub lines : ended json ≡ map (λ (values : LogValues). print (json_tokens (object_of values))) all
   pub whole : rest json ≡ []
   pub each : AllByRecursion (λ values. IsReadBack (object_of values)) all
 
@@ -80,7 +80,10 @@ pub record IsOfLog (request : Request) (logs : List Log) (events : List Event) (
   pub status : values.status ≡ target_status logs events number
   pub start_ms : values.start_ms ≡ (slice_index_or request.times number unknown_times).began
   pub end_ms : values.end_ms ≡ (slice_index_or request.times number unknown_times).ended
+  pub cpu_ms : values.cpu_ms ≡ option_map cpu_time (slice_index_or request.facts number nothing).usage
+  pub peak_kb : values.peak_kb ≡ option_map (λ (usage : Usage). usage.peak_kb) (slice_index_or request.facts number nothing).usage
   pub directory : values.directory ≡ (slice_index_or request.facts number nothing).directory
+  pub commands : values.commands ≡ map (λ (command : RecipeCommand). command.text) (slice_index_or request.facts number nothing).commands
   pub needs : values.needs ≡ needs_of log.entries
   pub lines : values.lines ≡ texts_of log.entries
 
