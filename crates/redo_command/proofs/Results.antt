@@ -20,7 +20,7 @@ use Rattle.redo_command.specs.Logs.{AllGive, IsRunWritten, IsWriteResult, known_
 use Rattle.redo_command.specs.NamesFile.{CannotBeRead, byte_limit}
 use Rattle.redo_command.specs.Output.{IsClosedAfter}
 use Rattle.redo_command.specs.Private.Program.{IsIndexResult}
-use Rattle.redo_command.specs.Private.Shown.{IsShown}
+use Rattle.redo_command.specs.Shown.{IsShown}
 use Rattle.redo_command.proofs.LogLemmas.{match_known}
 
 -- The result of a run states the same about the streams of its readers and about the logs that they give.

@@ -7,3 +7,4 @@ pub mod NamesFile
 pub mod Output
 pub mod Private
 pub mod Process
+pub mod Shown

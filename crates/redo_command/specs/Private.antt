@@ -1,5 +1,4 @@
 -- Definitions that only clauses of private functions cite. They help in proofs and need not be trusted.
 pub mod Opening
 pub mod Program
-pub mod Shown
 pub mod Suggested

@@ -14,7 +14,7 @@ ghost use Rattle.redo_view.specs.View.{find_unknown};
 ghost use Rattle.redo_command.specs.Failure.{IsReportable, status_of};
 ghost use Rattle.redo_command.specs.Job.{IsJobWritten};
 ghost use Rattle.redo_command.specs.Logs.{opaque_logs};
-ghost use Rattle.redo_command.specs.Private.Shown.{IsShown};
+ghost use Rattle.redo_command.specs.Shown.{IsShown, IsShownOrNotCreated};
 
 use crate::buffer::{buffered, flush_after};
 use crate::directory::{Shown, find_index};
@@ -144,12 +144,14 @@ pub fn write_job<
 /// Writes the text of a job: to its output file, or else to `out`. It reads the index and the log files of the job's directory, and
 /// writes what [`write_job`] states, unless the index couldn't be read or memory ran out.
 ///
-/// Nothing is known of the files, and nothing is stated about the text that `out` takes.
+/// Nothing is known of the files, and nothing is stated about the bytes that `out` takes.
 pub fn show_job<
     R: Files<File: Send> + RandomSource + Threads + Wait + Sync + AllocGlobal,
     J: Job,
     W: Write,
 >(rt: &R, job: &J, out: &mut W) -> Shown
+    ensures shown { IsShownOrNotCreated (IsJobWritten (J.are_facts job.now opaque_logs result.index) (J.text job.now) opaque_logs
+        result.index (J.arguments job.now) None None) result.outcome }
     ensures reportable { IfErr result.outcome (IsReportable (length result.index) (length (J.arguments job.now))) }
     ensures nonzero_status { IfErr result.outcome (λ failure. status_of failure ≢ 0) }
 {
