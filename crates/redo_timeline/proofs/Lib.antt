@@ -1,3 +1,5 @@
+mod AloneLemmas
+mod AloneRows
 mod BarLemmas
 mod CountLemmas
 pub mod CoverLemmas
@@ -9,3 +11,5 @@ pub mod OrderLemmas
 mod TimelineLemmas
 mod TimelineRows
 mod LargeRows
+mod SumLemmas
+mod TimeLemmas

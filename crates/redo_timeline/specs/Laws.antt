@@ -1,10 +1,11 @@
 -- The statements of the laws.
-use Rattle.std.specs.Prelude.{◌≡◌, ℕ, ◌+◌, ◌<◌, ◌≤◌, ◌⊎◌, true, false, List, [], ◌∷◌, length}
-use Rattle.std.specs.List.{AllByRecursion, Contains, flat_map}
+use Rattle.std.specs.Prelude.{◌≡◌, ℕ, ◌+◌, ◌<◌, ◌≤◌, ◌⊎◌, true, false, List, [], ◌∷◌, length, map}
+use Rattle.std.specs.List.{AllByRecursion, Contains, flat_map, range_with_len}
 use Rattle.std.specs.List.Sorted.{IsPermutation, IsSorted}
 use Rattle.redo_timeline.specs.declared.bar.Bar.{Bar}
 use Rattle.redo_timeline.specs.declared.span.Span.{Span}
 use Rattle.redo_timeline.specs.declared.span.Window.{Window}
+use Rattle.redo_timeline.specs.Alone.{time_running}
 use Rattle.redo_timeline.specs.Bars.{has_failed, width_of}
 use Rattle.redo_timeline.specs.Order.{span_cmp}
 use Rattle.redo_timeline.specs.Parallelism.{count_at, most_of}
@@ -49,3 +50,13 @@ AreOrdered spans ordered = IsPermutation spans ordered × IsSorted span_cmp orde
 -- The greatest number of spans that run at once run when one of the spans begins, if there are any.
 abbrev pub IsReached : List Span → Type 0
 IsReached spans = (spans ≡ []) ⊎ ((span : Span) × Contains spans span × (most_of spans ≡ count_at spans span))
+
+-- How long exactly k of the spans run in a window, for each k from 0 to the number of spans.
+abbrev pub times_running : Window → List Span → List ℕ
+times_running window spans =
+    map (λ (count : ℕ). time_running spans count window.began window.width) (range_with_len 0 (length spans + 1))
+
+-- All spans begin and end in a window.
+abbrev pub AreInWindow : Window → List Span → Type 0
+AreInWindow window spans =
+    AllByRecursion (λ (span : Span). (window.began ≤ span.began) × (span.ended ≤ window.began + window.width)) spans

@@ -1,3 +1,4 @@
+pub mod Alone
 pub mod Bars
 pub mod Lanes
 pub mod Laws

@@ -2,3 +2,4 @@
 pub mod Counting
 pub mod Drafting
 pub mod Placing
+pub mod Summing

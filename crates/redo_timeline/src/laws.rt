@@ -1,10 +1,11 @@
 //! Laws about the definitions alone: their contracts are theorems, and their bodies are empty.
-ghost use Rattle.std.specs.Prelude.{ℕ, ◌≤◌, List};
-ghost use Rattle.std.specs.List.{count_by};
+ghost use Rattle.std.specs.Prelude.{◌≡◌, ℕ, ◌-◌, ◌≤◌, List, ◌∷◌, ◌++◌};
+ghost use Rattle.std.specs.List.{count_by, sum};
 ghost use Rattle.std.specs.List.Sorted.{IsPermutation};
 ghost use Rattle.redo_timeline.specs.declared.span.Span.{Span};
 ghost use Rattle.redo_timeline.specs.declared.span.Window.{Window};
-ghost use Rattle.redo_timeline.specs.Laws.{AreInTurn, AreOrdered, EachBar, IsAloneIfFailed, IsInLanes, IsReached, IsSlimIfJoined, spans_of};
+ghost use Rattle.redo_timeline.specs.Alone.{alone, time_running, times_alone};
+ghost use Rattle.redo_timeline.specs.Laws.{AreInTurn, AreInWindow, AreOrdered, EachBar, IsAloneIfFailed, IsInLanes, IsReached, IsSlimIfJoined, spans_of, times_running};
 ghost use Rattle.redo_timeline.specs.Order.{in_order};
 ghost use Rattle.redo_timeline.specs.Parallelism.{most_of, runs_at};
 ghost use Rattle.redo_timeline.specs.Timeline.{bars_of, timeline_of};
@@ -52,4 +53,26 @@ pub fn no_more_spans_run()
 /// As many spans run when one of them begins.
 pub fn most_spans_run()
     ensures { (spans : List Span) → IsReached spans }
+{}
+
+/// The times in a window at which exactly k spans run add up to its width, over all k from 0 to the number of spans.
+pub fn times_add_up()
+    ensures { (window : Window) (spans : List Span) → sum (times_running window spans) ≡ window.width }
+{}
+
+/// The times that the spans run alone add up to the time at which exactly one span runs, in a window with all spans.
+pub fn times_alone_add_up()
+    ensures { (window : Window) (spans : List Span) → AreInWindow window spans
+        → sum (times_alone spans) ≡ time_running spans 1 window.began window.width }
+{}
+
+/// A span runs alone for as long as it runs and none of the other spans does.
+pub fn no_other_span_runs()
+    ensures { (before after : List Span) (span : Span)
+        → alone (before ++ span ∷ after) span ≡ time_running (before ++ after) 0 span.began (span.ended - span.began) }
+{}
+
+/// A span runs alone for no longer than it runs.
+pub fn times_alone_are_bounded()
+    ensures { (spans : List Span) (span : Span) → alone spans span ≤ span.ended - span.began }
 {}

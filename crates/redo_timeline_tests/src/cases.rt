@@ -259,3 +259,33 @@ pub static PARALLEL: [(&[SpanCase], usize); 8] = [
     ),
     (&[(10, 5, 0, false), (4, 11, 1, false)], 2),
 ];
+
+/// Spans, and how long each runs alone.
+pub static ALONE: [(&[SpanCase], &[u64]); 11] = [
+    (&[], &[]),
+    (&[(5, 9, 0, false)], &[4]),
+    // Spans that touch, with a gap, and that overlap.
+    (&[(0, 10, 0, false), (10, 20, 1, false)], &[10, 10]),
+    (&[(10, 14, 0, false), (0, 3, 1, true)], &[4, 3]),
+    (&[(9, 20, 1, false), (0, 10, 0, false)], &[10, 9]),
+    // A span that runs while another one does, and one that is equal to it.
+    (&[(0, 10, 0, false), (3, 5, 1, false)], &[8, 0]),
+    (&[(2, 7, 0, false), (2, 7, 0, false)], &[0, 0]),
+    // Spans without length, and one that ended before it began.
+    (&[(5, 5, 0, false), (0, 10, 1, false)], &[0, 10]),
+    (&[(9, 4, 0, false), (0, 10, 1, false)], &[0, 10]),
+    // Three spans at once, and spans that follow each other while another one runs.
+    (
+        &[(0, 10, 0, false), (2, 6, 1, false), (4, 8, 2, false)],
+        &[4, 0, 0],
+    ),
+    (
+        &[
+            (0, 10, 0, false),
+            (2, 5, 1, false),
+            (5, 8, 2, false),
+            (9, 13, 3, false),
+        ],
+        &[3, 0, 0, 3],
+    ),
+];

@@ -63,7 +63,8 @@ fn timeline_of(
     Ok(layout(alloc, Window { began, width }, max_lanes, spans)?)
 }
 
-fn spans_of(alloc: Global, cases: &[SpanCase]) -> Result<Vec<Span>, AllocError> {
+/// Returns the spans of cases.
+pub fn spans_of(alloc: Global, cases: &[SpanCase]) -> Result<Vec<Span>, AllocError> {
     let mut spans = Vec::new(alloc);
     for case in cases {
         spans.push(span(case))?;
@@ -79,7 +80,8 @@ fn bars_of(alloc: Global, cases: &[BarCase]) -> Result<Vec<Bar>, AllocError> {
     Ok(bars)
 }
 
-fn span(case: &SpanCase) -> Span {
+/// Returns the span of a case.
+pub fn span(case: &SpanCase) -> Span {
     let (began, ended, position, failed) = *case;
     Span {
         began,

@@ -1,5 +1,5 @@
 use Rattle.std.proofs.lemmas.List.Sorted.{IsNonDecreasingBy-from_sort}
-use Rattle.redo_timeline.proofs.parallelism.in_order.Goals as goal
+use Rattle.redo_timeline.proofs.counting.in_order.Goals as goal
 
 pub returns : goal.returns
 returns c = (

@@ -1,7 +1,7 @@
 use Rattle.std.proofs.Common.{rules, ℕ, leb, sym, ◌∙◌}
 use Rattle.std.proofs.lemmas.List.Sorted.{IsPartitionPoint-from_clause, IsPartitionedBy-leb}
 use Rattle.redo_timeline.proofs.CountLemmas.{count_by_is, count_until_position}
-use Rattle.redo_timeline.proofs.parallelism.count_until.Goals as goal
+use Rattle.redo_timeline.proofs.counting.count_until.Goals as goal
 
 pub returns : goal.returns
 returns c =
