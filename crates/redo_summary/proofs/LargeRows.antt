@@ -1,5 +1,6 @@
 -- Rows of long builds, of single targets, and of large sums.
 use Rattle.std.proofs.Common.{◌≡◌, ℕ, true, false, List, [], ◌∷◌, ◌++◌, Option, None, Some, pos, negsuc, length, map, replicate, refl}
+use Rattle.redo_facts.specs.Facts.{RecipeFacts, nothing}
 use Rattle.redo_timeline.specs.declared.span.Span.{Span}
 use Rattle.redo_timeline.specs.declared.span.Window.{Window}
 use Rattle.redo_summary.specs.Callers.{callers_of}
@@ -9,6 +10,7 @@ use Rattle.redo_times.specs.declared.times.Times.{Times}
 use Rattle.redo_summary.specs.Ranks.{duration, first_ranks, longest_of, most_warned}
 use Rattle.redo_summary.specs.Summary.{bytes_of, facts_of, is_timed, total, warnings_of}
 use Rattle.redo_summary.specs.Targets.{no_times, only_time, targets_of, times_of}
+use Rattle.redo_summary.specs.Usage.{known_usages, most_memory, processor_of, usage_at}
 use Rattle.redo_summary.specs.Window.{known_times, time_over, window_over}
 use Rattle.redo_summary.specs.declared.rank.Rank.{Rank}
 use Rattle.redo_summary.specs.declared.target.Target.{Target}
@@ -126,3 +128,35 @@ failures = refl
 
 many_times : length (known_times (replicate 1500 (target 0 None (Some 100) (Some 120)))) ≡ 3000
 many_times = refl
+
+-- ---- what many recipes used
+
+abbrev used : ℕ → ℕ → ℕ → RecipeFacts
+used user system peak = record nothing { usage = Some (record { user_ms = user; system_ms = system; peak_kb = peak }) }
+
+-- The log with the number 5000 has its own usage.
+late_usage : usage_at (replicate 5000 nothing ++ used 999999999999999 0 9 ∷ used 1 2 3 ∷ []) 5000
+    ≡ Some (record { user_ms = 999999999999999; system_ms = 0; peak_kb = 9 })
+late_usage = refl
+
+abbrev one_node : List Node
+one_node = record no_node { number = 0 } ∷ []
+
+many_usages :
+    (length (known_usages one_node (used 3 4 5 ∷ []) (replicate 1500 (span 0 0 9))) ≡ 1500)
+    × (processor_of (replicate 150 (record { user_ms = 3; system_ms = 4; peak_kb = 5 })) ≡ Some 1050)
+    × (processor_of (replicate 10 (record { user_ms = 999999999999999; system_ms = 999999999999999; peak_kb = 5 }))
+    ≡ Some 19999999999999980)
+many_usages = (refl, refl, refl)
+
+-- Of eleven recipes, the one with the least memory is left out. One of them had more than 2^32 kilobytes.
+abbrev eleven : List ℕ
+eleven = 11 ∷ 10 ∷ 9 ∷ 8 ∷ 7 ∷ 1 ∷ 6 ∷ 5 ∷ 4 ∷ 3 ∷ 4294967297 ∷ []
+
+abbrev eleven_nodes : List Node
+eleven_nodes = map (λ number. record no_node { number = number }) (0 ∷ 1 ∷ 2 ∷ 3 ∷ 4 ∷ 5 ∷ 6 ∷ 7 ∷ 8 ∷ 9 ∷ 10 ∷ [])
+
+memory_ranks_are :
+    most_memory eleven_nodes (map (used 1 2) eleven) (map (λ position. span position 0 9) (0 ∷ 1 ∷ 2 ∷ 3 ∷ 4 ∷ 5 ∷ 6 ∷ 7 ∷ 8 ∷ 9 ∷ 10 ∷ []))
+    ≡ rank 4294967297 10 ∷ rank 11 0 ∷ rank 10 1 ∷ rank 9 2 ∷ rank 8 3 ∷ rank 7 4 ∷ rank 6 6 ∷ rank 5 7 ∷ rank 4 8 ∷ rank 3 9 ∷ []
+memory_ranks_are = refl

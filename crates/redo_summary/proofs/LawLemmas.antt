@@ -2,7 +2,7 @@
 use Rattle.std.proofs.Common.{◌≡◌, ℕ, zero, suc, ◌+◌, ◌<◌, ◌≤◌, Bool, true, false, cond, ltb, List, [], ◌∷◌, ◌++◌, Option, None, Some, inl, inr, filter, filter_map, length, map, not, option_map, take, refl, ◌∙◌, ap, subst, arith}
 use Rattle.std.specs.Prelude.{◌-◌, IfSome, slice_get}
 use Rattle.std.specs.declared.cmp.Ordering.{Ordering}
-use Rattle.std.specs.List.{AllByRecursion, cons_option}
+use Rattle.std.specs.List.{AllByRecursion, Contains, cons_option}
 use Rattle.std.specs.Ordering.{is_gt}
 use Rattle.std.proofs.lemmas.List.{append_assoc, length-append}
 use Rattle.std.proofs.lemmas.List.Sorted.{IsPermutation-filter_both}
@@ -13,9 +13,9 @@ use Rattle.redo_outline.specs.declared.node.Node.{Node}
 use Rattle.redo_outline.specs.Facts.{is_failure}
 use Rattle.redo_summary.specs.declared.rank.Rank.{Rank}
 use Rattle.redo_summary.specs.declared.target.Target.{Target}
-use Rattle.redo_summary.specs.Laws.{AreInOrderOfPosition, AreOfNodes, AreRisingFrom, AreSplit, HasDuration, HasWarnings, IsMarkOf, IsOfTarget, IsSpanOf}
+use Rattle.redo_summary.specs.Laws.{AreInOrderOfPosition, AreOfNodes, AreRisingFrom, AreSplit, HasDuration, HasTimeAlone, HasWarnings, IsMarkOf, IsOfTarget, IsSpanOf}
 use Rattle.redo_summary.specs.Callers.{ran_others, recipes_of, spans_of}
-use Rattle.redo_summary.specs.Ranks.{first_ranks, rank_cmp, rank_of, warnings_from}
+use Rattle.redo_summary.specs.Ranks.{alone_rank, alone_ranks, first_ranks, rank_cmp, rank_of, warnings_from}
 use Rattle.redo_summary.specs.Summary.{summary_of}
 use Rattle.redo_summary.specs.Targets.{duration_of, mark_of, only_time, span_between, span_if, span_of, target_of, targets_from, targets_of, time_between, times_of}
 
@@ -30,7 +30,7 @@ module _ {X : Type 0} (P : X → Type 0) where
       by true more = (all.0, more)
       by false more = more
 
-  all_taken : (n : ℕ) (xs : List X) → AllByRecursion P xs → AllByRecursion P (take n xs)
+  pub all_taken : (n : ℕ) (xs : List X) → AllByRecursion P xs → AllByRecursion P (take n xs)
   all_taken zero xs all = tt
   all_taken (suc n) [] all = tt
   all_taken (suc n) (x ∷ xs) all = (all.0, all_taken n xs all.1)
@@ -44,7 +44,7 @@ module _ {X : Type 0} (P : X → Type 0) where
         by true more = (all.0, more)
         by false more = (here, all)
 
-    all_sorted : (xs : List X) → AllByRecursion P xs → AllByRecursion P (sort cmp xs)
+    pub all_sorted : (xs : List X) → AllByRecursion P xs → AllByRecursion P (sort cmp xs)
     all_sorted [] all = tt
     all_sorted (x ∷ xs) all = all_inserted x (sort cmp xs) all.0 (all_sorted xs all.1)
 
@@ -94,6 +94,11 @@ module _ (count : ℕ) where
   ranks_below [] all = tt
   ranks_below (span ∷ spans) all = (all.0, ranks_below spans all.1)
 
+  alone_below : (all spans : List Span) → AllByRecursion (λ (span : Span). span.position < count) spans
+      → AllByRecursion (λ (rank : Rank). rank.position < count) (map (alone_rank all) spans)
+  alone_below all [] below = tt
+  alone_below all (span ∷ spans) below = (below.0, alone_below all spans below.1)
+
   first_below : (ranks : List Rank) → AllByRecursion (λ (rank : Rank). rank.position < count) ranks
       → AllByRecursion (λ (rank : Rank). rank.position < count) (first_ranks ranks)
   first_below ranks all =
@@ -115,6 +120,8 @@ are_of_nodes nodes times =
       marks = all_chosen (λ (target : Target). target.position < count) (λ (span : Span). span.position < count) mark_of
           (mark_below count) targets below;
       longest = first_below count _ (ranks_below count _ recipes);
+      alone = first_below count _ (all_passed (λ (rank : Rank). rank.position < count) (λ (rank : Rank). ltb 0 rank.value) _
+          (alone_below count (recipes_of targets) _ recipes));
       warned = first_below count _ (all_passed (λ (rank : Rank). rank.position < count) (λ (rank : Rank). ltb 0 rank.value)
           (warnings_from 0 nodes) (warnings_below count 0 nodes (omega arith)));
     }
@@ -252,6 +259,34 @@ longest_are nodes times =
     let ranks = map rank_of (recipes_of targets) in
     all_taken (HasDuration nodes times) 10 (sort rank_cmp ranks)
     (all_sorted (HasDuration nodes times) rank_cmp ranks (ranks_are nodes times (recipes_of targets) recipes))
+
+-- ---- how long recipes were the only ones that ran
+
+weaker : {X : Type 0} (P Q : X → Type 0) → ((x : X) → P x → Q x) → (xs : List X) → AllByRecursion P xs → AllByRecursion Q xs
+weaker P Q so [] all = tt
+weaker P Q so (x ∷ xs) all = (so x all.0, weaker P Q so xs all.1)
+
+contained : (spans : List Span) → AllByRecursion (Contains spans) spans
+contained [] = tt
+contained (span ∷ spans) =
+    ((0, omega arith, refl), weaker (Contains spans) (Contains (span ∷ spans)) later spans (contained spans))
+  where
+    later : (other : Span) → Contains spans other → Contains (span ∷ spans) other
+    later other (k, below, is) = (suc k, omega (arith, below), is)
+
+alone_have : (all spans : List Span) → AllByRecursion (Contains all) spans
+    → AllByRecursion (HasTimeAlone all) (map (alone_rank all) spans)
+alone_have all [] contains = tt
+alone_have all (span ∷ spans) contains = ((span, contains.0, refl, refl), alone_have all spans contains.1)
+
+pub alone_are : (nodes : List Node) (times : List Times)
+    → AllByRecursion (HasTimeAlone (summary_of nodes times).recipes) (summary_of nodes times).alone
+alone_are nodes times =
+    let recipes = recipes_of (targets_of nodes times) in
+    all_taken (HasTimeAlone recipes) 10 (sort rank_cmp (alone_ranks recipes))
+    (all_sorted (HasTimeAlone recipes) rank_cmp (alone_ranks recipes)
+    (all_passed (HasTimeAlone recipes) (λ (rank : Rank). ltb 0 rank.value) (map (alone_rank recipes) recipes)
+    (alone_have recipes recipes (contained recipes))))
 
 pub warned_are : (nodes : List Node) (times : List Times) → AllByRecursion (HasWarnings nodes) (summary_of nodes times).warned
 warned_are nodes times =

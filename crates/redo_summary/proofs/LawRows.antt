@@ -1,15 +1,21 @@
 -- Summaries that the laws accept, and others that they reject.
-use Rattle.std.proofs.Common.{◌≤◌, ◌≡◌, ◌<◌, ◌+◌, ℕ, zero, suc, List, [], ◌∷◌, ◌++◌, Option, None, Some, get_or, length, replicate, unwrap_or, inl, inr, refl, ap, ◌∙◌, arith}
+use Rattle.std.proofs.Common.{◌≤◌, ◌≡◌, ◌<◌, ◌+◌, ℕ, zero, suc, List, [], ◌∷◌, ◌++◌, Option, None, Some, get_or, length, replicate, unwrap_or, inl, inr, refl, sym, ap, ◌∙◌, arith}
 use Rattle.std.specs.List.{AllByRecursion}
 use Rattle.std.proofs.lemmas.List.Sorted.{length_permutation}
+use Rattle.std.proofs.lemmas.Option.{none-some, same_Some}
 use Rattle.redo_timeline.proofs.OrderLemmas.{sum_of-permutation}
 use Rattle.redo_timeline.proofs.OrderLemmas.{sum_of as added}
+use Rattle.redo_facts.specs.declared.statement.Usage.{Usage}
 use Rattle.redo_times.specs.declared.times.Times.{Times}
 use Rattle.redo_outline.specs.declared.node.Node.{Node}
 use Rattle.redo_summary.specs.declared.rank.Rank.{Rank}
-use Rattle.redo_summary.specs.Laws.{AllRanOthers, AreDuring, AreInOrder, AreInOrderOfPosition, AreOfNodes, AreSplit, HasFirstTen, IsBefore, IsTable, NoneRanOthers, Ran, RanOthers, warning_ranks}
+use Rattle.redo_summary.specs.Laws.{AllRanOthers, AreDuring, AreInOrder, AreInOrderOfPosition, AreOfNodes, AreSplit, HasFirstTen, HasMemory, HasTimeAlone, IsBefore, IsProcessorTime, IsTable, NoneRanOthers, Ran, RanOthers, warning_ranks}
 use Rattle.redo_summary.specs.Summary.{Facts}
-use Rattle.redo_summary.proofs.SummaryRows.{node, ran, rank, span}
+use Rattle.redo_summary.specs.Usage.{usage_at}
+use Rattle.redo_summary.specs.Window.{cut}
+use Rattle.redo_timeline.specs.Alone.{alone}
+use Rattle.redo_timeline.specs.declared.span.Span.{Span}
+use Rattle.redo_summary.proofs.SummaryRows.{node, ran, rank, span, unknown, usage, used}
 
 -- ---- tables
 
@@ -66,6 +72,7 @@ no_facts = record {
   warnings = 0;
   bytes = 0;
   longest = [];
+  alone = [];
   warned = [];
 }
 
@@ -79,12 +86,14 @@ rejected_positions :
     × ¬ AreOfNodes one_node (record no_facts { marks = span 1 3 3 ∷ [] })
     × ¬ AreOfNodes one_node (record no_facts { longest = rank 7 1 ∷ [] })
     × ¬ AreOfNodes one_node (record no_facts { warned = rank 7 1 ∷ [] })
+    × ¬ AreOfNodes one_node (record no_facts { alone = rank 7 1 ∷ [] })
 rejected_positions = (
   λ of_nodes. let below : 1 < 1 = of_nodes.callers.0 in omega (arith, below),
   λ of_nodes. let below : 1 < 1 = of_nodes.recipes.0 in omega (arith, below),
   λ of_nodes. let below : 1 < 1 = of_nodes.marks.0 in omega (arith, below),
   λ of_nodes. let below : 1 < 1 = of_nodes.longest.0 in omega (arith, below),
   λ of_nodes. let below : 1 < 1 = of_nodes.warned.0 in omega (arith, below),
+  λ of_nodes. let below : 1 < 1 = of_nodes.alone.0 in omega (arith, below),
 )
 
 -- The positions fall in each list; then a position occurs twice.
@@ -161,3 +170,60 @@ ran_hidden_target run = by run.1.0 run.1.1 run.1.2
 -- A recipe is among the callers, and a caller among the recipes.
 rejected_lists : ¬ AllRanOthers one_node two_times (span 0 10 90 ∷ []) × ¬ NoneRanOthers two_nodes two_times (span 0 10 90 ∷ [])
 rejected_lists = (λ all. ran_hidden_target all.0, λ lists. lists.0 accepted_run)
+
+-- ---- what recipes used
+
+-- Nothing is known, but there is a time; then the time is unknown, though something is known; then it has no system time.
+rejected_processor_times :
+    ¬ IsProcessorTime [] (Some 0) × ¬ IsProcessorTime (usage 30 5 2000 ∷ []) None × ¬ IsProcessorTime (usage 30 5 2000 ∷ []) (Some 30)
+rejected_processor_times = (
+  λ is. none-some 0 (sym is),
+  λ is. none-some 35 is,
+  λ is. let same : 30 ≡ 35 = same_Some 30 35 is in omega (arith, same),
+)
+
+-- The memory is unknown, or another. Then there is no node.
+rejected_memory :
+    ¬ HasMemory one_node (unknown ∷ []) (rank 0 0) × ¬ HasMemory one_node (used 30 5 2000 ∷ []) (rank 30 0)
+    × ¬ HasMemory one_node (used 30 5 2000 ∷ []) (rank 2000 1)
+rejected_memory = (
+  λ has. by_none has.0 (same_Some (node 0 None None 0 0) has.0 has.1) has.2 has.3,
+  λ has. by_other has.0 (same_Some (node 0 None None 0 0) has.0 has.1) has.2 has.3 has.4,
+  λ has. none-some has.0 has.1,
+)
+  where
+    by_none : (other : Node) → node 0 None None 0 0 ≡ other → (known : Usage) → usage_at (unknown ∷ []) other.number ≡ Some known → ⊥
+    by_none other same known is =
+        none-some known (ap (λ (n : Node). usage_at (unknown ∷ []) n.number) same ∙ is)
+
+    by_other : (other : Node) → node 0 None None 0 0 ≡ other → (known : Usage)
+        → usage_at (used 30 5 2000 ∷ []) other.number ≡ Some known → 30 ≡ known.peak_kb → ⊥
+    by_other other same known is value =
+        let found : usage 30 5 2000 ≡ known =
+        same_Some (usage 30 5 2000) known (ap (λ (n : Node). usage_at (used 30 5 2000 ∷ []) n.number) same ∙ is) in
+        let peak : 2000 ≡ known.peak_kb = ap (λ (u : Usage). u.peak_kb) found in
+        omega (arith, value, peak)
+
+-- No recipe is listed; then the recipe has another position; then it was alone for 9 ms.
+rejected_times_alone :
+    ¬ HasTimeAlone [] (rank 9 0) × ¬ HasTimeAlone (span 0 1 10 ∷ []) (rank 9 1) × ¬ HasTimeAlone (span 0 1 10 ∷ []) (rank 8 0)
+rejected_times_alone = (
+  λ has. let below : has.1.0 < 0 = has.1.1 in omega (arith, below),
+  λ has. by_position has.0 has.1.0 has.1.1 has.1.2 has.2,
+  λ has. by_value has.0 has.1.0 has.1.1 has.1.2 has.3,
+)
+  where
+    the_one : (other : Span) (k : ℕ) → k < 1 → get_or (span 0 1 10 ∷ []) k other ≡ other → span 0 1 10 ≡ other
+    the_one other zero below is = is
+    the_one other (suc k) below is = absurd (omega (arith, below))
+
+    by_position : (other : Span) (k : ℕ) → k < 1 → get_or (span 0 1 10 ∷ []) k other ≡ other → other.position ≡ 1 → ⊥
+    by_position other k below is place =
+        let same : 0 ≡ other.position = ap (λ (s : Span). s.position) (the_one other k below is) in omega (arith, same, place)
+
+    by_value : (other : Span) (k : ℕ) → k < 1 → get_or (span 0 1 10 ∷ []) k other ≡ other
+        → 8 ≡ cut (alone (span 0 1 10 ∷ []) other) → ⊥
+    by_value other k below is value =
+        let same : 9 ≡ cut (alone (span 0 1 10 ∷ []) other) =
+        ap (λ (s : Span). cut (alone (span 0 1 10 ∷ []) s)) (the_one other k below is) in
+        omega (arith, same, value)

@@ -7,5 +7,6 @@ mod SummaryRows
 mod TableLemmas
 mod TargetLemmas
 mod TimeLemmas
+mod UsageLemmas
 mod WindowLemmas
 mod LargeRows

@@ -52,7 +52,7 @@ longest_more recipes i d below = first_more (rank_of (get_or recipes i d)) (map 
     ∙ ap longest_of (sym (drop_more recipes i d below))
 
 -- The span of a position past the end.
-abbrev no_span : Span
+abbrev pub no_span : Span
 no_span = record { began = 0; position = 0; ended = 0; failed = false }
 
 -- The step of a loop that goes down.
@@ -116,6 +116,48 @@ pub warned_same_down : (nodes : List Node) (i : ℕ) (ranks : List Rank) → 0 <
 warned_same_down nodes i ranks some within none so_far =
     let i_is : i ≡ i - 1 + 1 = omega arith in
     so_far ∙ ap (λ (k : ℕ). warned_from k (drop k nodes)) i_is ∙ warned_less nodes (i - 1) no_node (omega arith) none
+
+-- The first ten recipes by these values, without those whose value is 0.
+module _ (value_of : Span → ℕ) where
+  abbrev rank_by : Span → Rank
+  rank_by recipe = record { value = value_of recipe; position = recipe.position }
+
+  abbrev ranks_by : List Span → List Rank
+  ranks_by recipes = filter (λ (rank : Rank). ltb 0 rank.value) (map rank_by recipes)
+
+  abbrev pub most_by : List Span → List Rank
+  most_by recipes = first_ranks (ranks_by recipes)
+
+  most_next : (recipe : Span) (recipes : List Span) (b : Bool) → ltb 0 (value_of recipe) ≡ b
+      → most_by (recipe ∷ recipes) ≡ first_ranks (cond b (rank_by recipe ∷ ranks_by recipes) (ranks_by recipes))
+  most_next recipe recipes b is = ap (λ (b : Bool). first_ranks (cond b (rank_by recipe ∷ ranks_by recipes) (ranks_by recipes))) is
+
+  -- The steps of a loop that goes down: a recipe with a value, and one without.
+  pub most_more : (recipes : List Span) (i value : ℕ) (old new : List Rank) → 0 < i → i ≤ length recipes
+      → value ≡ value_of (get_or recipes (i - 1) no_span) → 0 < value → old ≡ most_by (drop i recipes)
+      → new ≡ take 10 (insert_sorted rank_cmp (record { value = value; position = (get_or recipes (i - 1) no_span).position }) old)
+      → new ≡ most_by (drop (i - 1) recipes)
+  most_more recipes i value old new some within is any so_far inserted =
+      let recipe = get_or recipes (i - 1) no_span in
+      let i_is : i ≡ i - 1 + 1 = omega arith in
+      let has : 0 < value_of recipe = omega (arith, any, is) in
+      let positive : ltb 0 (value_of recipe) ≡ true = grind (arith, nat_tests) in
+      inserted
+      ∙ ap (λ (v : ℕ). take 10 (insert_sorted rank_cmp (record { value = v; position = recipe.position }) old)) is
+      ∙ ap (λ ranks. take 10 (insert_sorted rank_cmp (rank_by recipe) ranks))
+      (so_far ∙ ap (λ (k : ℕ). most_by (drop k recipes)) i_is)
+      ∙ first_more (rank_by recipe) (ranks_by (drop (i - 1 + 1) recipes))
+      ∙ sym (ap most_by (drop_more recipes (i - 1) no_span (omega arith)) ∙ most_next recipe (drop (i - 1 + 1) recipes) true positive)
+
+  pub most_same : (recipes : List Span) (i value : ℕ) (ranks : List Rank) → 0 < i → i ≤ length recipes
+      → value ≡ value_of (get_or recipes (i - 1) no_span) → value ≡ 0 → ranks ≡ most_by (drop i recipes)
+      → ranks ≡ most_by (drop (i - 1) recipes)
+  most_same recipes i value ranks some within is none so_far =
+      let recipe = get_or recipes (i - 1) no_span in
+      let i_is : i ≡ i - 1 + 1 = omega arith in
+      so_far ∙ ap (λ (k : ℕ). most_by (drop k recipes)) i_is
+      ∙ sym (ap most_by (drop_more recipes (i - 1) no_span (omega arith))
+      ∙ most_next recipe (drop (i - 1 + 1) recipes) false (ap (λ (v : ℕ). ltb 0 v) (sym is ∙ none)))
 
 -- ---- the order of ranks
 

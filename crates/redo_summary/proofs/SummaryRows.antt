@@ -1,15 +1,20 @@
 -- Rows of the facts about the times of shown targets. The values are worked out by hand.
-use Rattle.std.proofs.Common.{◌≡◌, ℕ, ℤ, pos, negsuc, true, false, List, [], ◌∷◌, Option, None, Some, replicate, refl}
+use Rattle.std.proofs.Common.{◌≡◌, ℕ, ℤ, pos, negsuc, zero, suc, true, false, List, [], ◌∷◌, Option, None, Some, replicate, refl, ap, arith}
+use Rattle.redo_facts.specs.declared.statement.Usage.{Usage}
+use Rattle.redo_facts.specs.Facts.{RecipeFacts}
 use Rattle.redo_timeline.specs.declared.span.Span.{Span}
 use Rattle.redo_times.specs.declared.times.Times.{Times}
 use Rattle.redo_outline.specs.declared.node.Node.{Node}
 use Rattle.redo_summary.specs.declared.rank.Rank.{Rank}
 use Rattle.redo_summary.specs.declared.target.Target.{Target}
+use Rattle.redo_timeline.specs.Alone.{alone}
+use Rattle.redo_summary.specs.Laws.{HasTimeAlone}
 use Rattle.redo_summary.specs.Callers.{is_in, marks_of, callers_of, recipes_of}
-use Rattle.redo_summary.specs.Ranks.{duration, first_ranks, longest_of, most_warned}
+use Rattle.redo_summary.specs.Ranks.{alone_rank, alone_ranks, duration, first_ranks, longest_alone, longest_of, most_warned}
 use Rattle.redo_summary.specs.Summary.{Facts, bytes_of, is_timed, sum_of, summary_of, total, warnings_of}
 use Rattle.redo_summary.specs.Targets.{duration_of, mark_of, no_times, span_of, targets_of}
-use Rattle.redo_summary.specs.Window.{known_times, time_over, window_over}
+use Rattle.redo_summary.specs.Usage.{known_usages, memory_rank, memory_ranks, most_memory, peak_of, processor_ms, processor_of, usage_at, usage_of, used_by}
+use Rattle.redo_summary.specs.Window.{cut, known_times, time_over, window_over}
 
 -- ---- values
 
@@ -55,6 +60,16 @@ failed position began ended = record { began = began; position = position; ended
 
 abbrev pub rank : ℕ → ℕ → Rank
 rank value position = record { value = value; position = position }
+
+abbrev pub usage : ℕ → ℕ → ℕ → Usage
+usage user system peak = record { user_ms = user; system_ms = system; peak_kb = peak }
+
+-- What is known of a recipe that used this.
+abbrev pub used : ℕ → ℕ → ℕ → RecipeFacts
+used user system peak = record { has_log = true; directory = None; commands = []; usage = Some (usage user system peak) }
+
+abbrev pub unknown : RecipeFacts
+unknown = record { has_log = true; directory = None; commands = []; usage = None }
 
 -- ---- targets
 
@@ -179,6 +194,16 @@ ten_ranks = refl
 longest : longest_of (span 2 0 5 ∷ failed 4 3 9 ∷ span 6 9 9 ∷ []) ≡ rank 6 4 ∷ rank 5 2 ∷ rank 0 6 ∷ []
 longest = refl
 
+-- The first recipe ran alone from 0 to 3 and from 9 to 20, and the last one from 20 to 25. The second one never did.
+abbrev overlapping : List Span
+overlapping = span 1 0 20 ∷ span 2 3 9 ∷ span 4 18 18 ∷ failed 6 20 25 ∷ []
+
+alone_rows :
+    (alone_rank overlapping (span 1 0 20) ≡ rank 14 1) × (alone_rank overlapping (span 2 3 9) ≡ rank 0 2)
+    × (alone_ranks overlapping ≡ rank 14 1 ∷ rank 5 6 ∷ [])
+    × (longest_alone (failed 6 20 25 ∷ span 1 0 20 ∷ span 2 3 9 ∷ []) ≡ rank 14 1 ∷ rank 5 6 ∷ []) × (longest_alone [] ≡ [])
+alone_rows = (refl, refl, refl, refl, refl)
+
 -- Targets without warnings are not in the table.
 warned : most_warned (node 5 None None 0 0 ∷ node 3 (Some 0) None 0 2 ∷ node 4 (Some 0) None 0 0 ∷ node 9 (Some 0) None 0 7
     ∷ node 8 (Some 0) None 0 1 ∷ []) ≡ rank 7 3 ∷ rank 2 1 ∷ rank 1 4 ∷ []
@@ -213,6 +238,7 @@ small_build = record {
   warnings = 6;
   bytes = 100;
   longest = rank 40 2 ∷ rank 30 1 ∷ [];
+  alone = rank 40 2 ∷ rank 30 1 ∷ [];
   warned = rank 4 2 ∷ rank 2 3 ∷ [];
 }
 
@@ -228,6 +254,7 @@ whole :
       warnings = 0;
       bytes = 10;
       longest = [];
+      alone = [];
       warned = [];
     })
     × (summary_of (node 3 None (Some (pos 0)) 10 0 ∷ node 0 (Some 0) (Some (pos 1)) 20 0 ∷ node 2 (Some 0) (Some (pos 2)) 30 4
@@ -248,6 +275,7 @@ overlap :
       warnings = 0;
       bytes = 60;
       longest = rank 50 2 ∷ rank 40 1 ∷ [];
+      alone = rank 40 2 ∷ rank 30 1 ∷ [];
       warned = [];
     }
 overlap = refl
@@ -262,3 +290,71 @@ timed :
     × (is_timed (counted 0 0 1) ≡ false) × (is_timed (counted 4 5 1) ≡ true)
     × (is_timed (counted 4 4 1) ≡ false) × (is_timed (counted 3 15 2) ≡ true) × (is_timed (counted 3 14 2) ≡ false)
 timed = (refl, refl, refl, refl, refl, refl, refl, refl)
+
+-- ---- what recipes used
+
+-- By the numbers of their logs: the usage of the second one is unknown, and the third one had no memory of its own.
+abbrev some_facts : List RecipeFacts
+some_facts = used 30 5 2000 ∷ unknown ∷ used 7 1 0 ∷ used 100 50 9000 ∷ used 4 0 9000 ∷ []
+
+-- The first node ran the others. The number of the last log is past the end of the facts.
+abbrev some_nodes : List Node
+some_nodes =
+    node 3 None None 0 0 ∷ node 0 (Some 0) None 0 0 ∷ node 1 (Some 0) None 0 0 ∷ node 2 (Some 0) None 0 0 ∷ node 4 (Some 0) None 0 0
+    ∷ node 5 (Some 0) None 0 0 ∷ []
+
+-- All recipes but the first one, which ran them.
+abbrev some_recipes : List Span
+some_recipes = span 1 10 20 ∷ span 2 10 20 ∷ span 3 10 20 ∷ span 4 10 20 ∷ span 5 10 20 ∷ []
+
+usages_by_number : (usage_at some_facts 0 ≡ Some (usage 30 5 2000)) × (usage_at some_facts 1 ≡ None)
+    × (usage_at some_facts 3 ≡ Some (usage 100 50 9000)) × (usage_at some_facts 5 ≡ None)
+usages_by_number = (refl, refl, refl, refl)
+
+usages_by_position :
+    (used_by some_nodes some_facts (span 0 1 9) ≡ Some (usage 100 50 9000))
+    × (used_by some_nodes some_facts (span 1 1 9) ≡ Some (usage 30 5 2000))
+    × (used_by some_nodes some_facts (span 2 1 9) ≡ None) × (used_by some_nodes some_facts (span 5 1 9) ≡ None)
+    × (used_by some_nodes some_facts (span 6 1 9) ≡ None)
+usages_by_position = (refl, refl, refl, refl, refl)
+
+usages_of_recipes : known_usages some_nodes some_facts some_recipes ≡ usage 30 5 2000 ∷ usage 7 1 0 ∷ usage 4 0 9000 ∷ []
+usages_of_recipes = refl
+
+-- User and system time. A recipe that took no time is known. 2^64 - 1 milliseconds aren't cut, and one more are.
+processor_times :
+    (processor_ms (usage 30 5 2000) ≡ 35) × (processor_of [] ≡ None) × (processor_of (usage 0 0 9 ∷ []) ≡ Some 0)
+    × (processor_of (usage 30 5 2000 ∷ usage 7 1 0 ∷ usage 4 0 9000 ∷ []) ≡ Some 47)
+    × (processor_of (usage 18446744073709551614 1 0 ∷ []) ≡ Some 18446744073709551615)
+    × (processor_of (usage 18446744073709551614 1 0 ∷ usage 1 0 0 ∷ []) ≡ Some 18446744073709551615)
+processor_times = (refl, refl, refl, refl, refl, refl)
+
+peaks : (peak_of None ≡ 0) × (peak_of (Some (usage 30 5 2000)) ≡ 2000) × (peak_of (Some (usage 1 2 999999999999999)) ≡ 999999999999999)
+peaks = (refl, refl, refl)
+
+memory_rows : (memory_rank some_nodes some_facts (span 1 1 9) ≡ rank 2000 1) × (memory_rank some_nodes some_facts (span 2 1 9) ≡ rank 0 2)
+memory_rows = (refl, refl)
+
+-- Recipes without memory, and unknown ones, are not in the table. The most memory is first.
+memory_tables :
+    (memory_ranks some_nodes some_facts some_recipes ≡ rank 2000 1 ∷ rank 9000 4 ∷ [])
+    × (most_memory some_nodes some_facts some_recipes ≡ rank 9000 4 ∷ rank 2000 1 ∷ [])
+    × (most_memory some_nodes some_facts (span 0 1 9 ∷ span 1 1 9 ∷ span 4 1 9 ∷ []) ≡ rank 9000 0 ∷ rank 9000 4 ∷ rank 2000 1 ∷ [])
+memory_tables = (refl, refl, refl)
+
+usages :
+    (usage_of some_nodes some_facts some_recipes ≡ record { processor = Some 47; memory = rank 9000 4 ∷ rank 2000 1 ∷ [] })
+    × (usage_of some_nodes [] some_recipes ≡ record { processor = None; memory = [] })
+    × (usage_of some_nodes some_facts (span 3 10 20 ∷ []) ≡ record { processor = Some 8; memory = [] })
+    × (usage_of some_nodes some_facts [] ≡ record { processor = None; memory = [] })
+usages = (refl, refl, refl, refl)
+
+-- The first recipe ran for 20 ms, and alone for 14 of them.
+pub rejected_time : HasTimeAlone (span 0 0 20 ∷ span 1 3 9 ∷ []) (rank 20 0) → ⊥
+rejected_time (one, (zero, below, is), place, value) =
+    let alone_for : 14 ≡ cut (alone (span 0 0 20 ∷ span 1 3 9 ∷ []) one) =
+    ap (λ (s : Span). cut (alone (span 0 0 20 ∷ span 1 3 9 ∷ []) s)) is in
+    omega (arith, alone_for, value)
+rejected_time (one, (suc zero, below, is), place, value) =
+    let other : 1 ≡ one.position = ap (λ (s : Span). s.position) is in omega (arith, other, place)
+rejected_time (one, (suc (suc k), below, is), place, value) = omega (arith, below)

@@ -1,9 +1,12 @@
 -- The statements of the laws.
-use Rattle.std.specs.Prelude.{◌≡◌, ℕ, ◌+◌, ◌-◌, ◌<◌, ◌≤◌, ◌⊎◌, max, min, ltb, List, [], ◌∷◌, ◌++◌, length, filter, Option, Some, slice_get, sum_by}
+use Rattle.std.specs.Prelude.{◌≡◌, ℕ, ◌+◌, ◌-◌, ◌<◌, ◌≤◌, ◌⊎◌, max, min, ltb, List, [], ◌∷◌, ◌++◌, length, filter, Option, None, Some, slice_get, sum_by}
 use Rattle.std.specs.List.{AllByRecursion, Contains}
 use Rattle.std.specs.List.Sorted.{IsPermutation}
+use Rattle.redo_facts.specs.declared.statement.Usage.{Usage}
+use Rattle.redo_facts.specs.Facts.{RecipeFacts}
 use Rattle.redo_timeline.specs.declared.span.Span.{Span}
 use Rattle.redo_timeline.specs.declared.span.Window.{Window}
+use Rattle.redo_timeline.specs.Alone.{alone}
 use Rattle.redo_timeline.specs.Parallelism.{most_of}
 use Rattle.redo_times.specs.declared.times.Times.{Times}
 use Rattle.redo_times.specs.Laws.{IsFirst, IsLast}
@@ -14,6 +17,7 @@ use Rattle.redo_summary.specs.Callers.{spans_of}
 use Rattle.redo_summary.specs.Ranks.{warnings_from}
 use Rattle.redo_summary.specs.Summary.{Facts}
 use Rattle.redo_summary.specs.Targets.{duration_of, targets_of, times_of}
+use Rattle.redo_summary.specs.Usage.{usage_at}
 use Rattle.redo_summary.specs.Window.{cut}
 
 -- The positions of spans, or of ranks, are below a number.
@@ -29,6 +33,7 @@ pub record AreOfNodes (nodes : List Node) (facts : Facts) : Type 0 where
   pub recipes : AreSpansBelow (length nodes) facts.recipes
   pub marks : AreSpansBelow (length nodes) facts.marks
   pub longest : AreRanksBelow (length nodes) facts.longest
+  pub alone : AreRanksBelow (length nodes) facts.alone
   pub warned : AreRanksBelow (length nodes) facts.warned
 
 -- The positions of spans rise, and none is below a number.
@@ -98,6 +103,12 @@ pub record AreTotals (nodes : List Node) (facts : Facts) : Type 0 where
   pub warnings : facts.warnings ≡ saturated (sum_by (λ (node : Node). node.warnings) nodes)
   pub bytes : facts.bytes ≡ saturated (sum_by (λ (node : Node). node.bytes) nodes)
 
+-- The processor time of recipes is the sum over all of them that are known. It is unknown if none is.
+abbrev pub IsProcessorTime : List Usage → Option ℕ → Type 0
+IsProcessorTime [] processor = processor ≡ None
+IsProcessorTime (usage ∷ usages) processor =
+    processor ≡ Some (saturated (sum_by (λ (used : Usage). used.user_ms + used.system_ms) (usage ∷ usages)))
+
 -- A window begins at the first known time, and `took` is how long it is from there to the last one. The window is this long, but at least
 -- one millisecond.
 pub record IsOverTimes (nodes : List Node) (times : List Times) (took : ℕ) (window : Window) : Type 0 where
@@ -141,6 +152,17 @@ abbrev pub HasDuration : List Node → List Times → Rank → Type 0
 HasDuration nodes times rank =
     (node : Node) × (slice_get nodes rank.position ≡ Some node) × (took : ℕ) × (duration_of times node.number ≡ Some took) × (rank.value ≡ cut took)
 
+-- The value of a rank is how long the recipe at its position was the only one of these that ran.
+abbrev pub HasTimeAlone : List Span → Rank → Type 0
+HasTimeAlone recipes rank =
+    (span : Span) × Contains recipes span × (span.position ≡ rank.position) × (rank.value ≡ cut (alone recipes span))
+
 -- The value of a rank is the number of warnings of the target at its position.
 abbrev pub HasWarnings : List Node → Rank → Type 0
 HasWarnings nodes rank = (node : Node) × (slice_get nodes rank.position ≡ Some node) × (rank.value ≡ node.warnings)
+
+-- The value of a rank is the most memory that one process of the recipe at its position had.
+abbrev pub HasMemory : List Node → List RecipeFacts → Rank → Type 0
+HasMemory nodes facts rank =
+    (node : Node) × (slice_get nodes rank.position ≡ Some node) × (usage : Usage) × (usage_at facts node.number ≡ Some usage)
+    × (rank.value ≡ usage.peak_kb)

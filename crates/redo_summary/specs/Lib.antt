@@ -4,4 +4,5 @@ pub mod Private
 pub mod Ranks
 pub mod Summary
 pub mod Targets
+pub mod Usage
 pub mod Window

@@ -9,7 +9,7 @@ use Rattle.redo_outline.specs.Facts.{saturated}
 use Rattle.redo_summary.specs.declared.rank.Rank.{Rank}
 use Rattle.redo_summary.specs.declared.target.Target.{Target}
 use Rattle.redo_summary.specs.Callers.{marks_of, callers_of, recipes_of}
-use Rattle.redo_summary.specs.Ranks.{duration, longest_of, most_warned}
+use Rattle.redo_summary.specs.Ranks.{duration, longest_alone, longest_of, most_warned}
 use Rattle.redo_summary.specs.Targets.{targets_of}
 use Rattle.redo_summary.specs.Window.{known_times, time_over, window_over}
 
@@ -27,8 +27,9 @@ pub record Facts : Type 0 where
   -- The numbers of warnings, and of bytes of text, in all logs.
   pub warnings : ℕ
   pub bytes : ℕ
-  -- The ten recipes that took longest, and the ten targets with the most warnings.
+  -- The ten recipes that took longest, those that were longest the only ones that ran, and the ten targets with the most warnings.
   pub longest : List Rank
+  pub alone : List Rank
   pub warned : List Rank
 
 -- The sum of the counts of all items, as it fits into 64 bits.
@@ -59,6 +60,7 @@ facts_of nodes targets = record {
   warnings = warnings_of nodes;
   bytes = bytes_of nodes;
   longest = longest_of (recipes_of targets);
+  alone = longest_alone (recipes_of targets);
   warned = most_warned nodes;
 }
 

@@ -1,16 +1,21 @@
 //! Laws about the definitions alone: their contracts are theorems, and their bodies are empty.
-ghost use Rattle.std.specs.Prelude.{◌≡◌, ℕ, List, map, None, Some};
+ghost use Rattle.std.specs.Prelude.{◌≡◌, ℕ, List, length, map, None, Some};
 ghost use Rattle.std.specs.List.{AllByRecursion};
+ghost use Rattle.redo_facts.specs.Facts.{RecipeFacts};
 ghost use Rattle.redo_outline.specs.declared.node.Node.{Node};
 ghost use Rattle.redo_times.specs.declared.times.Times.{Times};
-ghost use Rattle.redo_summary.specs.Laws.{AllRanOthers, AreInOrderOfPosition, AreOfNodes, AreSplit, AreTotals, HasDuration, HasFirstTen, HasWarnings, IsKnown, IsMarkOf, IsOfTarget, IsOverTimes, IsSpanOf, IsTable, NoneRanOthers, warning_ranks};
-ghost use Rattle.redo_summary.specs.Ranks.{rank_of};
+ghost use Rattle.redo_summary.specs.Laws.{AllRanOthers, AreInOrderOfPosition, AreOfNodes, AreRanksBelow, AreSplit, AreTotals, HasDuration, HasFirstTen, HasMemory, HasTimeAlone, HasWarnings, IsKnown, IsMarkOf, IsOfTarget, IsOverTimes, IsProcessorTime, IsSpanOf, IsTable, NoneRanOthers, warning_ranks};
+ghost use Rattle.redo_summary.specs.Ranks.{alone_ranks, rank_of};
 ghost use Rattle.redo_summary.specs.Summary.{summary_of};
+ghost use Rattle.redo_summary.specs.Usage.{known_usages, memory_ranks, usage_of};
+ghost use Rattle.redo_timeline.specs.declared.span.Span.{Span};
 ghost use Rattle.redo_timeline.specs.declared.span.Window.{Window};
 
 /// Each position is the position of a node.
 pub fn positions_are_of_nodes()
-    ensures { (nodes : List Node) (times : List Times) → AreOfNodes nodes (summary_of nodes times) }
+    ensures times { (nodes : List Node) (times : List Times) → AreOfNodes nodes (summary_of nodes times) }
+    ensures memory { (nodes : List Node) (facts : List RecipeFacts) (recipes : List Span) →
+        AreRanksBelow (length nodes) (usage_of nodes facts recipes).memory }
 {}
 
 /// Callers, recipes and marks are in order of position. No position occurs twice in one of these lists.
@@ -34,9 +39,12 @@ pub fn spans_are_of_targets()
         AllByRecursion (IsOfTarget IsMarkOf nodes times) (summary_of nodes times).marks }
 {}
 
-/// The totals are over all recipes, and over all shown targets.
+/// The totals are over all recipes, and over all shown targets. The processor time is the sum of the user and system times of all recipes
+/// whose usage is known, and there is none only if no usage is known.
 pub fn totals_are_over_all()
-    ensures { (nodes : List Node) (times : List Times) → AreTotals nodes (summary_of nodes times) }
+    ensures times { (nodes : List Node) (times : List Times) → AreTotals nodes (summary_of nodes times) }
+    ensures processor { (nodes : List Node) (facts : List RecipeFacts) (recipes : List Span) →
+        IsProcessorTime (known_usages nodes facts recipes) (usage_of nodes facts recipes).processor }
 {}
 
 /// The window runs from the first known time of a shown target to the last one, and is at least one millisecond wide. There is none only if
@@ -58,19 +66,32 @@ pub fn callers_ran_others()
 /// A table has at most ten ranks. Their values fall, and ranks with equal values are in order of position.
 pub fn ranks_are_in_order()
     ensures longest { (nodes : List Node) (times : List Times) → IsTable (summary_of nodes times).longest }
+    ensures alone { (nodes : List Node) (times : List Times) → IsTable (summary_of nodes times).alone }
     ensures warned { (nodes : List Node) (times : List Times) → IsTable (summary_of nodes times).warned }
+    ensures memory { (nodes : List Node) (facts : List RecipeFacts) (recipes : List Span) →
+        IsTable (usage_of nodes facts recipes).memory }
 {}
 
-/// The tables have the ten recipes that took longest, and the ten targets with the most warnings, or all of them if there are no more.
+/// The tables have the ten recipes that took longest, those that were longest the only ones that ran, the ten targets with the most
+/// warnings, and the ten recipes with the most memory, or all of them if there are no more.
 pub fn tables_have_first_ranks()
     ensures longest { (nodes : List Node) (times : List Times) →
         HasFirstTen (map rank_of (summary_of nodes times).recipes) (summary_of nodes times).longest }
+    ensures alone { (nodes : List Node) (times : List Times) →
+        HasFirstTen (alone_ranks (summary_of nodes times).recipes) (summary_of nodes times).alone }
     ensures warned { (nodes : List Node) (times : List Times) → HasFirstTen (warning_ranks nodes) (summary_of nodes times).warned }
+    ensures memory { (nodes : List Node) (facts : List RecipeFacts) (recipes : List Span) →
+        HasFirstTen (memory_ranks nodes facts recipes) (usage_of nodes facts recipes).memory }
 {}
 
-/// The value of each rank says how long the target at its position took, or how many warnings it has.
+/// The value of each rank says how long the target at its position took or was the only one that ran, how many warnings it has, or how
+/// much memory its recipe had.
 pub fn ranks_have_values_of_targets()
     ensures longest { (nodes : List Node) (times : List Times) →
         AllByRecursion (HasDuration nodes times) (summary_of nodes times).longest }
+    ensures alone { (nodes : List Node) (times : List Times) →
+        AllByRecursion (HasTimeAlone (summary_of nodes times).recipes) (summary_of nodes times).alone }
     ensures warned { (nodes : List Node) (times : List Times) → AllByRecursion (HasWarnings nodes) (summary_of nodes times).warned }
+    ensures memory { (nodes : List Node) (facts : List RecipeFacts) (recipes : List Span) →
+        AllByRecursion (HasMemory nodes facts) (usage_of nodes facts recipes).memory }
 {}

@@ -1,7 +1,8 @@
-//! The facts about the times of a build's shown targets: when they ran, how long the build took, and which ones took
-//! longest.
+//! The facts about a build's shown targets: when they ran, how long the build took, which ones took longest, and what their recipes
+//! used.
 //!
-//! [`Summary::new`] computes them from the nodes of an outline and the times of all targets. It makes no HTML.
+//! [`Summary::new`] computes them from the nodes of an outline and the times of all targets, and [`UsageSummary::new`] from what is known
+//! of recipes. They make no HTML.
 //!
 //! # Terms
 //!
@@ -20,6 +21,7 @@ mod summary;
 mod target;
 mod targets;
 mod totals;
+mod usage;
 mod window;
 
 pub use laws::{
@@ -30,3 +32,4 @@ pub use laws::{
 pub use rank::Rank;
 pub use summary::Summary;
 pub use targets::duration_of;
+pub use usage::UsageSummary;

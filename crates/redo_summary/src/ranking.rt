@@ -1,17 +1,19 @@
-//! The recipes that took longest, and the targets with the most warnings.
+//! The recipes that took longest, those that were longest the only ones that ran, and the targets with the most warnings.
 //!
 //! A table has at most ten rows, so the code never sorts all targets. It iterates over them from the last one to the first,
 //! as the definition of a sort by insertion does, and keeps the first ten so far: an insertion into a sorted list changes its
 //! first ten items in the same way as an insertion into these ten alone.
 ghost use Rattle.std.specs.Prelude.{◌≡◌, take, IfOk, OnOk};
 ghost use Rattle.std.specs.Ordering.{is_gt};
+ghost use Rattle.redo_timeline.specs.Alone.{times_alone};
 ghost use Rattle.redo_timeline.specs.Order.{insert_sorted};
-ghost use Rattle.redo_summary.specs.Ranks.{longest_of, most_warned, rank_cmp};
+ghost use Rattle.redo_summary.specs.Ranks.{longest_alone, longest_of, most_warned, rank_cmp};
 
 use crate::rank::Rank;
 use crate::totals::duration;
+use crate::window::cut;
 use redo_outline::Node;
-use redo_timeline::Span;
+use redo_timeline::{Span, times_alone};
 use std::alloc::{AllocError, Global};
 
 // A table has at most this many ranks.
@@ -24,6 +26,31 @@ pub fn longest_of(alloc: Global, recipes: &[Span]) -> Result<Vec<Rank>, AllocErr
     let mut ranks = Vec::new(alloc);
     for i in (0..recipes.len()).rev() {
         let value = duration(&recipes[i]);
+        let position = recipes[i].position;
+        insert_rank(&mut ranks, Rank { value, position })?;
+    }
+    Ok(ranks)
+}
+
+/// Returns the recipes that were longest the only ones that ran.
+pub fn longest_alone(alloc: Global, recipes: &[Span]) -> Result<Vec<Rank>, AllocError>
+    ensures { IfOk result (λ ranks. ranks.items ≡ longest_alone recipes.now) }
+{
+    let times = times_alone(alloc, recipes)?;
+    first_by_times(alloc, recipes, &times)
+}
+
+// Returns the first of recipes by these times, without those whose time is 0.
+fn first_by_times(alloc: Global, recipes: &[Span], times: &[u64]) -> Result<Vec<Rank>, AllocError>
+    requires { times.now ≡ times_alone recipes.now }
+    ensures { IfOk result (λ ranks. ranks.items ≡ longest_alone recipes.now) }
+{
+    let mut ranks = Vec::new(alloc);
+    for i in (0..recipes.len()).rev() {
+        let value = cut(times[i]);
+        if value == 0 {
+            continue;
+        }
         let position = recipes[i].position;
         insert_rank(&mut ranks, Rank { value, position })?;
     }
@@ -45,8 +72,8 @@ pub fn most_warned(alloc: Global, nodes: &[Node]) -> Result<Vec<Rank>, AllocErro
     Ok(ranks)
 }
 
-// Inserts a rank into a table in order. If the table is full, its last rank is removed.
-fn insert_rank(ranks: &mut Vec<Rank>, rank: Rank) -> Result<(), AllocError>
+/// Inserts a rank into a table in order. If the table is full, its last rank is removed.
+pub fn insert_rank(ranks: &mut Vec<Rank>, rank: Rank) -> Result<(), AllocError>
     ensures { OnOk result (ranks.new.items ≡ take 10 (insert_sorted rank_cmp rank ranks.old.items)) }
 {
     let mut position = 0;

@@ -4,7 +4,7 @@ ghost use Rattle.redo_timeline.specs.Bars.{IsValidWindow};
 ghost use Rattle.redo_summary.specs.Summary.{is_timed, summary_of};
 
 use crate::rank::Rank;
-use crate::ranking::{longest_of, most_warned};
+use crate::ranking::{longest_alone, longest_of, most_warned};
 use crate::spans::{Spans, list_marks, split_spans};
 use crate::targets::list_targets;
 use crate::totals::{bytes_of, sum_of, warnings_of};
@@ -28,6 +28,7 @@ pub struct Summary {
     warnings: u64,
     bytes: u64,
     longest: Vec<Rank>,
+    alone: Vec<Rank>,
     warned: Vec<Rank>,
 }
 
@@ -49,6 +50,7 @@ impl Model for Summary {
       warnings = summary.warnings;
       bytes = summary.bytes;
       longest = summary.longest.items;
+      alone = summary.alone.items;
       warned = summary.warned.items;
     } };
 
@@ -68,6 +70,7 @@ impl Summary {
         let marks = list_marks(alloc, &targets)?;
         let most = most_at_once(alloc, &recipes)?;
         let longest = longest_of(alloc, &recipes)?;
+        let alone = longest_alone(alloc, &recipes)?;
         let warned = most_warned(alloc, nodes)?;
         let total = sum_of(&recipes);
         Ok(Summary {
@@ -81,6 +84,7 @@ impl Summary {
             warnings: warnings_of(nodes),
             bytes: bytes_of(nodes),
             longest,
+            alone,
             warned,
         })
     }
@@ -159,6 +163,14 @@ impl Summary {
         ensures { result.now ≡ self.now.longest }
     {
         self.longest.as_slice()
+    }
+
+    /// Returns the ten recipes that were longest the only ones that ran, the longest one first, and only those that ever were. If recipes
+    /// were equally long, the one with the lowest position is first. A duration is at most 2^44 - 1 milliseconds.
+    pub fn alone(&self) -> &[Rank]
+        ensures { result.now ≡ self.now.alone }
+    {
+        self.alone.as_slice()
     }
 
     /// Returns the ten targets with the most warnings, the one with the most first, and only those with a warning. If targets have

@@ -1,9 +1,13 @@
 //! Summaries of small and larger builds. The values are worked out by hand.
+use redo_facts::{Facts, read_facts};
+use redo_index::read_index;
 use redo_outline::Node;
-use redo_summary::{Rank, Summary, duration_of};
+use redo_summary::{Rank, Summary, UsageSummary, duration_of};
+use redo_test_support::{Cut, reader};
 use redo_timeline::{Span, Window};
 use redo_times::Times;
 use std::alloc::{AllocError, Global};
+use std::process::Abort;
 use std::test::Fail;
 
 #[test]
@@ -19,6 +23,7 @@ fn summary_of_nothing(rt: HostRuntime) -> Result<(), Fail> {
     assert_eq!(rt; summary.warnings(), 0);
     assert_eq!(rt; summary.bytes(), 0);
     assert_eq!(rt; summary.longest(), [].as_slice());
+    assert_eq!(rt; summary.alone(), [].as_slice());
     assert_eq!(rt; summary.warned(), [].as_slice());
     assert_eq!(rt; summary.is_timed(), false);
     Ok(())
@@ -58,6 +63,7 @@ fn summary_of_small_build(rt: HostRuntime) -> Result<(), Fail> {
     assert_eq!(rt; summary.warnings(), 6);
     assert_eq!(rt; summary.bytes(), 150);
     assert_eq!(rt; summary.longest(), [rank(50, 1), rank(40, 2)].as_slice());
+    assert_eq!(rt; summary.alone(), [rank(30, 1), rank(20, 2)].as_slice());
     assert_eq!(rt; summary.warned(), [rank(4, 2), rank(2, 3)].as_slice());
     // One mark beside three spans is more than a tenth.
     assert_eq!(rt; summary.is_timed(), false);
@@ -94,6 +100,8 @@ fn summary_of_larger_build(rt: HostRuntime) -> Result<(), Fail> {
         summary.longest(),
         falling_ranks(rt.alloc(), 130, 30)?.as_slice()
     );
+    // Each one ran alone.
+    assert_eq!(rt; summary.alone(), summary.longest());
     let warned = [
         rank(2, 2),
         rank(2, 5),
@@ -108,6 +116,46 @@ fn summary_of_larger_build(rt: HostRuntime) -> Result<(), Fail> {
     ];
     assert_eq!(rt; summary.warned(), warned.as_slice());
     assert_eq!(rt; summary.is_timed(), true);
+    Ok(())
+}
+
+// What is known of the recipes of five targets: nothing of the third one, and no memory of the fourth.
+#[test]
+fn usage_of_small_build(rt: HostRuntime) -> Result<(), Fail> {
+    let index = read_index(rt.alloc(), b"9 all\n7 a\n5 b\n3 c\n2 d\n")?;
+    let file =
+        "9 log all\n9 usage 100 50 9000\n7 log a\n7 usage 30 5 2000\n5 log b\n3 log c\n3 usage 7 1 0\n2 log d\n2 usage 4 0 3000\n";
+    let mut reader = reader(rt.alloc(), file, false, Cut::InReadsOf(64))?;
+    let facts = read_facts(rt.alloc(), &index, &mut reader, 1000)?;
+    expect_usage(&rt, &facts, Some(47), &[rank(3000, 4), rank(2000, 1)])?;
+    expect_usage(&rt, &[], None, &[])
+}
+
+// Summarizes what these recipes used, all but the one of the first target, which ran the others. The log of the last one is not listed.
+fn expect_usage(
+    rt: &(impl Abort + AllocGlobal),
+    facts: &[Facts],
+    processor: Option<u64>,
+    memory: &[Rank],
+) -> Result<(), Fail> {
+    let nodes = [
+        node(0, None, None, 0, 0),
+        node(1, Some(0), None, 0, 0),
+        node(2, Some(0), None, 0, 0),
+        node(3, Some(0), None, 0, 0),
+        node(4, Some(0), None, 0, 0),
+        node(5, Some(0), None, 0, 0),
+    ];
+    let recipes = [
+        span(1, 10, 20, false),
+        span(2, 10, 20, false),
+        span(3, 10, 20, false),
+        span(4, 10, 20, false),
+        span(5, 10, 20, false),
+    ];
+    let usage = UsageSummary::new(rt.alloc(), &nodes, facts, &recipes)?;
+    assert_eq!(rt; usage.processor(), processor);
+    assert_eq!(rt; usage.memory(), memory);
     Ok(())
 }
 
