@@ -1,12 +1,14 @@
 -- From the mask of one load to the bytes that pass a test.
-use Rattle.std.proofs.Common.{◌≡◌, ℕ, ◌+◌, ◌%◌, ◌^◌, ◌≤◌, Bool, true, not, ◌||◌, List, [], ◌∷◌, map, length, take, drop, get_or, replicate, Fits, w8, refl, sym, ap, ap₂, ◌∙◌, arith}
+use Rattle.std.proofs.Common.{◌≡◌, ℕ, ◌+◌, ◌%◌, ◌^◌, ◌≤◌, Bool, true, not, ◌||◌, List, [], ◌∷◌, ◌++◌, map, length, take, drop, get_or, replicate, Fits, w8, refl, sym, ap, ap₂, ◌∙◌, arith}
 use Rattle.std.proofs.lemmas.Bool.{agree_below, agree_below_at}
-use Rattle.std.proofs.lemmas.Simd.{map-map, mask_l-mod, length-chunk, get_or-chunk, first_set_mask_l, run_in_chunk_le, run_in_chunk_fails, zip2-map}
-use Rattle.std.proofs.lemmas.List.{length-map}
+use Rattle.std.proofs.lemmas.Simd.{map-map, mask_l-mod, length-chunk, length-put_chunk, put_chunk_is, get_or-chunk, first_set_mask_l, run_in_chunk_le, run_in_chunk_fails, zip2-map}
+use Rattle.std.proofs.lemmas.List.{length-map, length-take-le, take-append-le, take-take, take_at, drop_at}
 use Rattle.std.proofs.lemmas.List.Sums.{list_all-from_AllPass}
 use Rattle.std.proofs.lemmas.List.Elements.{All-from_get_or}
 use Rattle.std.specs.List.{prefix_len, list_all}
-use lib.Lanes.{chunk, zip2, mask_l, top}
+use borrow.Rule.Slice.PartMut.{put_mid, post_of}
+use lib.Lanes.{chunk, put_chunk, zip2, mask_l, top}
+use lib.Seq.{take-add}
 use Rattle.redo_html.specs.Private.Writing.{first_set}
 
 -- An operation on two vectors that were computed lane by lane from another one.
@@ -49,3 +51,39 @@ module _ (q : ℕ → Bool) (d : List ℕ) (i n r : ℕ) (z : List ℕ) (room : 
         (run_in_chunk_fails stops d i n r 0 room counted (i + k) (omega arith) (omega (arith, inside, size))))
         ∙ agree_below_at (λ x. stops x || q x) (λ _. true) 256 (get_or d (i + k) 0) all (fits (i + k)).fits)),
   )
+
+-- ---- stores
+
+-- Lanes were stored after the first `to` bytes.
+pub stored : (xs zs bytes : List ℕ) (to k at count : ℕ) → to ≤ length xs → 16 ≤ length zs → at + 16 ≤ length bytes → count ≤ 16
+    → take (to + count) (put_mid to k xs (put_chunk 0 zs (chunk at 16 bytes))) ≡ take to xs ++ take count (drop at bytes)
+stored xs zs bytes to k at count within room long few =
+    take-add to count (front ++ (ys ++ post))
+    ∙ (rw (take_at front (ys ++ post) _ front_len, drop_at front (ys ++ post) _ front_len, take-append-le count ys post fits) refl)
+    ∙ ap (λ (t : List ℕ). front ++ t) ys_front
+  where
+    lanes : List ℕ
+    lanes = chunk at 16 bytes
+
+    ys : List ℕ
+    ys = put_chunk 0 zs lanes
+
+    front : List ℕ
+    front = take to xs
+
+    post : List ℕ
+    post = post_of to k xs
+
+    front_len : length front ≡ to
+    front_len = length-take-le to xs within
+
+    lanes_len : length lanes ≡ 16
+    lanes_len = length-chunk at 16 bytes long
+
+    fits : count ≤ length ys
+    fits = let size = length-put_chunk 0 zs lanes in omega (arith, size, room, few)
+
+    ys_front : take count ys ≡ take count (drop at bytes)
+    ys_front = ap (take count) (put_chunk_is 0 zs lanes (omega (arith, lanes_len, room)))
+        ∙ take-append-le count lanes (drop (length lanes) (drop 0 zs)) (omega (arith, lanes_len, few))
+        ∙ take-take count 16 (drop at bytes) few

@@ -1,6 +1,6 @@
 -- The states between the bytes of letters, and which bytes lead from one to the next.
 use Rattle.std.proofs.Common.{◌≡◌, ℕ, ◌+◌, ◌<◌, ◌/◌, ◌%◌, ◌^◌, Bool, true, false, List, length, drop, slice_index, refl, ◌∙◌, ap, subst, arith}
-use Rattle.std.specs.Prelude.{⊤, ◌==◌, ◌||◌, ◌&&◌, not, nat_lt, nat_le, slice_index_or, if◌then◌else◌}
+use Rattle.std.specs.Prelude.{⊤, ◌==◌, ◌&&◌, not, nat_lt, nat_le, slice_index_or, if◌then◌else◌}
 use Rattle.std.proofs.lemmas.Bool.{agree_below_at, and_parts, and_from, or_left, or_right, eqb-true, leb-true, lt-ltb}
 use Rattle.std.proofs.lemmas.List.{get_or-drop, length-drop}
 use Rattle.bstr.specs.Utf8.{continues}

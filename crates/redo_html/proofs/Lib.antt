@@ -1,3 +1,4 @@
+mod BufferLemmas
 mod ChartReading
 mod ChartRows
 mod ChartTags
@@ -12,7 +13,9 @@ mod LawRows
 mod CodePointRows
 mod LetterLemmas
 mod LetterSteps
+mod LineBuffering
 mod LineLemmas
+mod LineParts
 mod LineRows
 mod LinkLemmas
 mod LinkRows
@@ -27,6 +30,7 @@ mod Reading
 mod RepeatLemmas
 mod SequenceLemmas
 mod ShownRows
+mod StrideLemmas
 mod StyleLemmas
 mod StyleRows
 mod SymbolLemmas

@@ -119,7 +119,7 @@ link_same (a ∷ b ∷ c ∷ d ∷ bytes) more =
     ∙ ap (λ (t : List ℕ). len t n (end_len (slice_index all (4 + n)) (slice_index all (5 + n)))) (take-append-le n bytes (10 ∷ more) within)
     ∙ ap (len (take n bytes) n) (end_same line more (4 + n) (5 + n) (omega (arith, within)) (omega arith))
 
-sequence_same : (x : ℕ) (bytes more : List ℕ) → sequence_len ((x ∷ bytes) ++ 10 ∷ more) ≡ sequence_len (x ∷ bytes)
+pub sequence_same : (x : ℕ) (bytes more : List ℕ) → sequence_len ((x ∷ bytes) ++ 10 ∷ more) ≡ sequence_len (x ∷ bytes)
 unfolding sequence_len
 sequence_same x [] more = cond-false _ _ _ (one_byte_more x more (x == 27) refl) ∙ link_same (x ∷ []) more
     ∙ sym (cond-false _ _ _ (one_byte x (x == 27) refl))
@@ -134,7 +134,7 @@ is_sequence_same : (kind : TextKind) (x : ℕ) (bytes more : List ℕ)
 unfolding is_sequence
 is_sequence_same kind x bytes more = rw (sequence_same x bytes more) refl
 
-numbers_same : (x y : ℕ) (bytes more : List ℕ) → sequence_numbers ((x ∷ y ∷ bytes) ++ 10 ∷ more) ≡ sequence_numbers (x ∷ y ∷ bytes)
+pub numbers_same : (x y : ℕ) (bytes more : List ℕ) → sequence_numbers ((x ∷ y ∷ bytes) ++ 10 ∷ more) ≡ sequence_numbers (x ∷ y ∷ bytes)
 unfolding sequence_numbers
 numbers_same x y bytes more =
     let n = prefix_len is_parameter bytes in

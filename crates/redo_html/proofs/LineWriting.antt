@@ -8,7 +8,7 @@ use Rattle.std.proofs.lemmas.List.Folds.{list_all-append}
 use Rattle.memchr.specs.Find.{Passes, Nowhere, NoneBefore, is_byte}
 use Rattle.std.specs.Result.{IsErr}
 use Rattle.redo_device.specs.declared.feed.Broken.{Broken}
-use Rattle.redo_device.specs.Sink.{Output, append_output, Writes}
+use Rattle.redo_device.specs.Sink.{Output, Writes}
 use Rattle.redo_line.specs.Lines.{HasNoLineFeed, ended, rest, with_line_feed}
 use Rattle.redo_line.proofs.CutLemmas.{free_before, holds_none, upto_feed}
 use Rattle.redo_line.proofs.LineLemmas.{ended-append, rest-append, ended-line, rest-line, rest-free, are_lines}
@@ -24,7 +24,8 @@ use Rattle.redo_html.specs.Private.Writing.{WroteUpTo, BeginsPassage}
 use Rattle.redo_html.proofs.LineLemmas.{passage-feed}
 use Rattle.redo_html.proofs.VerbatimLemmas.{plain_written}
 use Rattle.redo_html.proofs.SymbolLemmas.{no_sequence}
-use Rattle.redo_html.proofs.WritingLemmas.{wrote_more, failed_part}
+use Rattle.redo_html.proofs.BufferLemmas.{extended}
+use Rattle.redo_html.proofs.WritingLemmas.{wrote_on, failed_part}
 
 -- ---- texts without escape characters
 
@@ -156,6 +157,26 @@ begins_line style bytes at found complete = record {
     lines : ended bytes ≡ line ∷ ended behind
     lines = ap ended parts ∙ ended-line line behind free
 
+-- The first line, up to the first line feed and with it.
+pub first_line_at : (bytes : List ℕ) (at : ℕ)
+    → NoneBefore (Passes (is_byte 10) bytes) 0 (length bytes) at × Passes (is_byte 10) bytes at
+    → (line : List ℕ) (more : List (List ℕ)) → ended bytes ≡ line ∷ more → take (at + 1) bytes ≡ with_line_feed line
+first_line_at bytes at found line more is =
+    line_is ∙ ap with_line_feed (heads (sym (ap ended parts ∙ ended-line (take at bytes) (drop (at + 1) bytes) free) ∙ is))
+  where
+    heads : {a b : List ℕ} {s t : List (List ℕ)} → a ∷ s ≡ b ∷ t → a ≡ b
+    heads same = cc
+
+    free : HasNoLineFeed (take at bytes)
+    free = free_before bytes at found.0.before
+
+    line_is : take (at + 1) bytes ≡ with_line_feed (take at bytes)
+    line_is = upto_feed bytes at found.0.high found.1
+
+    parts : bytes ≡ take at bytes ++ 10 ∷ drop (at + 1) bytes
+    parts = sym (take-append-drop (at + 1) bytes) ∙ ap (λ (b : List ℕ). b ++ drop (at + 1) bytes) line_is
+        ∙ append_assoc (take at bytes) (10 ∷ []) (drop (at + 1) bytes)
+
 -- Complete lines have a line feed.
 pub line_found : (bytes : List ℕ) → Nowhere (Passes (is_byte 10) bytes) 0 (length bytes) → rest bytes ≡ [] → 0 < length bytes → ⊥
 line_found bytes nowhere complete some = let none = ap length (sym (rest-free bytes (holds_none bytes nowhere)) ∙ complete) in
@@ -192,19 +213,23 @@ complete_to_feed bytes at below passes =
 
 -- ---- the next lines of a text
 
-module _ (before middle after : Option Output) (text : List ℕ) (style : Style) (left : List ℕ) (len : ℕ)
-    (begins : BeginsPassage style left len) (so_far : WroteUpTo before middle text (lines_html style (ended left))) where
-  next : WroteUpTo before middle text
-      (passage_html Log style (take len left) ++ lines_html (style_after style (take len left)) (ended (drop len left)))
-  next = subst (WroteUpTo before middle text) (sym begins.html) so_far
+module _ (before middle after : Option Output) (text old : List ℕ) (style : Style) (left : List ℕ) (len : ℕ)
+    (begins : BeginsPassage style left len) (so_far : WroteUpTo before middle text (old ++ lines_html style (ended left))) where
+  abbrev passage : List ℕ
+  passage = passage_html Log style (take len left)
+
+  abbrev behind : List ℕ
+  behind = lines_html (style_after style (take len left)) (ended (drop len left))
+
+  next : WroteUpTo before middle text ((old ++ passage) ++ behind)
+  next = subst (WroteUpTo before middle text)
+      (ap (λ (t : List ℕ). old ++ t) (sym begins.html) ∙ sym (append_assoc old passage behind)) so_far
 
   pub lines_failed : (broken : Broken) (done : Result (Unit {0}) Broken) → IsErr done
-      → Writes middle after (passage_html Log style (take len left)) (Err broken) → Writes before after text done
-  lines_failed broken done failed wrote =
-      failed_part before middle after text (passage_html Log style (take len left))
-      (lines_html (style_after style (take len left)) (ended (drop len left))) broken done failed next wrote
+      → Writes middle after (old ++ passage) (Err broken) → Writes before after text done
+  lines_failed broken done failed wrote = failed_part before middle after text (old ++ passage) behind broken done failed next wrote
 
-  pub lines_wrote : after ≡ append_output middle (passage_html Log style (take len left)) 0
-      → WroteUpTo before after text (lines_html (style_after style (take len left)) (ended (drop len left)))
-  lines_wrote wrote = wrote_more before middle after text (passage_html Log style (take len left))
-      (lines_html (style_after style (take len left)) (ended (drop len left))) next wrote
+  pub lines_wrote : (now : List ℕ) → WroteUpTo middle after (old ++ passage) now → WroteUpTo before after text (now ++ behind)
+  lines_wrote now put =
+      wrote_on before middle after text ((old ++ passage) ++ behind) (now ++ behind) next
+      (extended middle after (old ++ passage) now behind put)

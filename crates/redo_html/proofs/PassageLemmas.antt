@@ -2,7 +2,7 @@
 use Rattle.std.proofs.Common.{◌≡◌, ℕ, zero, suc, ◌<◌, Bool, true, false, List, [], ◌∷◌, ◌++◌, length, drop, slice_index, refl, sym, ◌∙◌, ap, arith}
 use Rattle.std.specs.Prelude.{◌==◌, ◌||◌, ◌&&◌, not, codes, encode_utf8, if◌then◌else◌}
 use Rattle.std.specs.List.{flat_map, list_all}
-use Rattle.std.proofs.lemmas.Bool.{and_parts, cond-true, cond-false, eq-eqb}
+use Rattle.std.proofs.lemmas.Bool.{and_left, and_parts, cond-true, cond-false, eq-eqb}
 use Rattle.std.proofs.lemmas.List.{append_assoc, append-nil}
 use Rattle.std.proofs.lemmas.List.Concat.{flat_map-append}
 use Rattle.redo_html.specs.declared.text_kind.TextKind.{TextKind}
@@ -226,6 +226,22 @@ module _ (kind : TextKind) (look : Look) (unprintable ends_unprintable ends_styl
       ++ (optional_highlight kind starts (bracketed (highlight_text (StyleStart look.wanted))) ++ optional_highlight kind w (codes "<i>"))))
       is_starts_unprintable
       ∙ highlights_parts kind look unprintable
+
+-- Between two visible code points with different styles.
+pub style_change_html : (kind : TextKind) (look : Look) → look.unprintable ≡ false → is_same_style look.wanted look.current ≡ false
+    → optional_highlight kind (has_element look.current) (60 ∷ (highlight_text (StyleEnd look.current) ++ 62 ∷ []))
+    ++ optional_highlight kind (has_element look.wanted) (60 ∷ (highlight_text (StyleStart look.wanted) ++ 62 ∷ []))
+    ≡ flat_map (inline_html kind) (highlights_between look false)
+style_change_html kind look visible changes =
+    let end_tag = 60 ∷ (highlight_text (StyleEnd look.current) ++ 62 ∷ []) in
+    let start_tag = 60 ∷ (highlight_text (StyleStart look.wanted) ++ 62 ∷ []) in
+    let first = optional_highlight kind (has_element look.current) end_tag in
+    let second = optional_highlight kind (has_element look.wanted) start_tag in
+    ap (λ (t : List ℕ). first ++ t) (sym (append-nil second))
+    ∙ highlights_written kind look false false (has_element look.current) (has_element look.wanted) false end_tag start_tag
+    (sym (and_left look.unprintable (not (is_same_style look.wanted look.current && false)) visible))
+    (sym (ap (λ (same : Bool). not same && has_element look.current) changes))
+    (sym (ap (λ (same : Bool). not same && has_element look.wanted) changes)) refl refl refl
 
 pub end_written : (kind : TextKind) (look : Look) (has : Bool) (tag : List ℕ) → has ≡ has_element look.current
     → tag ≡ bracketed (highlight_text (StyleEnd look.current))

@@ -1,14 +1,16 @@
 -- Lemmas about sequences that follow each other, and about the shortest ones.
-use Rattle.std.proofs.Common.{◌≡◌, ℕ, zero, suc, None, ◌+◌, ◌<◌, ◌≤◌, true, false, List, [], ◌∷◌, ◌++◌, length, take, drop, slice_index, refl, sym, ◌∙◌, ap, arith}
-use Rattle.std.specs.Prelude.{◌==◌, ◌||◌, ◌&&◌, if◌then◌else◌}
+use Rattle.std.proofs.Common.{◌≡◌, ℕ, zero, suc, None, ◌+◌, ◌-◌, ◌<◌, ◌≤◌, true, false, List, [], ◌∷◌, ◌++◌, length, take, drop, slice_index, refl, sym, ◌∙◌, ap, subst, arith}
+use Rattle.std.specs.Prelude.{◌==◌, ◌||◌, ◌&&◌, nat_le, if◌then◌else◌}
 use Rattle.std.specs.List.{prefix_len}
+use Rattle.std.proofs.lemmas.Bool.{and_parts, leb-true}
 use Rattle.std.proofs.lemmas.List.{drop-drop, get_or-drop, length-drop}
 use Rattle.std.proofs.lemmas.List.Sums.{prefix_len-drop_no}
 use Rattle.redo_html.specs.declared.text_kind.TextKind.{TextKind}
 use Rattle.redo_html.specs.declared.text_kind.TextKind.TheVariants.{Log, Monochrome, Title}
+use Rattle.redo_html.specs.declared.style.Hue.{Hue}
 use Rattle.redo_html.specs.declared.style.Style.{Style}
 use Rattle.redo_html.specs.Passage.{html_from, with_wanted}
-use Rattle.redo_html.specs.Style.{restyled}
+use Rattle.redo_html.specs.Style.{digit_hue, restyled}
 use Rattle.redo_html.specs.Symbols.{is_parameter, parameter_count, final_byte, sequence_len, numbers_from, sequence_numbers, has_colours, first_symbol, symbol_len}
 use Rattle.redo_html.specs.Symbols.Symbol.{Sequence}
 use Rattle.redo_html.specs.Private.Writing.{IsSequence, ReadsSequence, SkipsSequences, style_in, symbol_code_point}
@@ -55,6 +57,88 @@ read_to_end bytes parameters final count is escape bracket inside counted at oth
       omega (arith, known.0),
       known.1 ∙ ap (λ (l : List ℕ). if final == 109 then numbers_from 0 (take count l) else []) (sym is),
     )
+
+-- ---- sequences that set bold
+
+next_known : (bytes : List ℕ) (n byte : ℕ) → n < length bytes → slice_index bytes n ≡ byte → drop n bytes ≡ byte ∷ drop (suc n) bytes
+next_known [] n byte inside is = absurd (omega (arith, inside))
+next_known (x ∷ xs) zero byte inside is = ap (λ (b : ℕ). b ∷ xs) is
+next_known (x ∷ xs) (suc n) byte inside is = next_known xs n byte (omega (arith, inside)) is
+
+begins_bold : (bytes : List ℕ) → 4 ≤ length bytes → slice_index bytes 0 ≡ 27 → slice_index bytes 1 ≡ 91 → slice_index bytes 2 ≡ 48
+    → slice_index bytes 3 ≡ 49 → bytes ≡ 27 ∷ 91 ∷ 48 ∷ 49 ∷ drop 4 bytes
+begins_bold bytes within escape bracket zero_digit one_digit =
+    next_known bytes 0 27 (omega (arith, within)) escape
+    ∙ ap (λ (l : List ℕ). 27 ∷ l) (next_known bytes 1 91 (omega (arith, within)) bracket)
+    ∙ ap (λ (l : List ℕ). 27 ∷ 91 ∷ l) (next_known bytes 2 48 (omega (arith, within)) zero_digit)
+    ∙ ap (λ (l : List ℕ). 27 ∷ 91 ∷ 48 ∷ l) (next_known bytes 3 49 (omega (arith, within)) one_digit)
+
+bold_read : (rest : List ℕ) → (5 ≡ sequence_len (27 ∷ 91 ∷ 48 ∷ 49 ∷ 109 ∷ rest))
+    × (sequence_numbers (27 ∷ 91 ∷ 48 ∷ 49 ∷ 109 ∷ rest) ≡ 1 ∷ [])
+unfolding sequence_len sequence_numbers
+bold_read rest = (refl, refl)
+
+pub bold_sequence : (style : Style) (bytes : List ℕ) → 5 ≤ length bytes → slice_index bytes 0 ≡ 27 → slice_index bytes 1 ≡ 91
+    → slice_index bytes 2 ≡ 48 → slice_index bytes 3 ≡ 49 → slice_index bytes 4 ≡ 109
+    → ReadsSequence style bytes (record { bold = true; hue = style.hue }) 5
+bold_sequence style bytes within escape bracket zero_digit one_digit final = λ some. (read.0, sym (ap (restyled style) read.1))
+  where
+    shape : bytes ≡ 27 ∷ 91 ∷ 48 ∷ 49 ∷ 109 ∷ drop 5 bytes
+    shape = begins_bold bytes (omega (arith, within)) escape bracket zero_digit one_digit
+        ∙ ap (λ (l : List ℕ). 27 ∷ 91 ∷ 48 ∷ 49 ∷ l) (next_known bytes 4 109 (omega (arith, within)) final)
+
+    read : (5 ≡ sequence_len bytes) × (sequence_numbers bytes ≡ 1 ∷ [])
+    read = subst (λ (l : List ℕ). (5 ≡ sequence_len l) × (sequence_numbers l ≡ 1 ∷ [])) (sym shape) (bold_read (drop 5 bytes))
+
+abbrev bold_hue : ℕ → List ℕ → List ℕ
+bold_hue digit rest = 27 ∷ 91 ∷ 48 ∷ 49 ∷ 59 ∷ 51 ∷ digit ∷ 109 ∷ rest
+
+hue_read : (style : Style) (k : ℕ) → k < 8 → (rest : List ℕ) → (8 ≡ sequence_len (bold_hue (48 + k) rest))
+    × (record { bold = true; hue = digit_hue k } ≡ restyled style (sequence_numbers (bold_hue (48 + k) rest)))
+unfolding sequence_len sequence_numbers
+hue_read style zero below rest = (refl, refl)
+hue_read style (suc zero) below rest = (refl, refl)
+hue_read style (suc (suc zero)) below rest = (refl, refl)
+hue_read style (suc (suc (suc zero))) below rest = (refl, refl)
+hue_read style (suc (suc (suc (suc zero)))) below rest = (refl, refl)
+hue_read style (suc (suc (suc (suc (suc zero))))) below rest = (refl, refl)
+hue_read style (suc (suc (suc (suc (suc (suc zero)))))) below rest = (refl, refl)
+hue_read style (suc (suc (suc (suc (suc (suc (suc zero))))))) below rest = (refl, refl)
+hue_read style (suc (suc (suc (suc (suc (suc (suc (suc k)))))))) below rest = absurd (omega (arith, below))
+
+pub bold_hue_sequence : (style : Style) (bytes : List ℕ) (hue : Hue) → 8 ≤ length bytes → slice_index bytes 0 ≡ 27
+    → slice_index bytes 1 ≡ 91 → slice_index bytes 2 ≡ 48 → slice_index bytes 3 ≡ 49 → slice_index bytes 4 ≡ 59 → slice_index bytes 5 ≡ 51
+    → (nat_le 48 (slice_index bytes 6) && nat_le (slice_index bytes 6) 55) ≡ true → slice_index bytes 7 ≡ 109
+    → hue ≡ digit_hue (slice_index bytes 6 - 48) → ReadsSequence style bytes (record { bold = true; hue = hue }) 8
+bold_hue_sequence style bytes hue within escape bracket zero_digit one_digit semicolon three octal final is = λ some.
+    (read.0, ap (λ (h : Hue). record { bold = true; hue = h }) is ∙ read.1)
+  where
+    digit : ℕ
+    digit = slice_index bytes 6
+
+    ends : (nat_le 48 digit ≡ true) × (nat_le digit 55 ≡ true)
+    ends = and_parts (nat_le 48 digit) (nat_le digit 55) octal
+
+    above : 48 ≤ digit
+    above = leb-true 48 digit ends.0
+
+    below : digit - 48 < 8
+    below = let last = leb-true digit 55 ends.1 in omega (arith, above, last)
+
+    digit_is : 48 + (digit - 48) ≡ digit
+    digit_is = omega (arith, above)
+
+    shape : bytes ≡ bold_hue digit (drop 8 bytes)
+    shape = begins_bold bytes (omega (arith, within)) escape bracket zero_digit one_digit
+        ∙ ap (λ (l : List ℕ). 27 ∷ 91 ∷ 48 ∷ 49 ∷ l) (next_known bytes 4 59 (omega (arith, within)) semicolon)
+        ∙ ap (λ (l : List ℕ). 27 ∷ 91 ∷ 48 ∷ 49 ∷ 59 ∷ l) (next_known bytes 5 51 (omega (arith, within)) three)
+        ∙ ap (λ (l : List ℕ). 27 ∷ 91 ∷ 48 ∷ 49 ∷ 59 ∷ 51 ∷ l) (next_known bytes 6 digit (omega (arith, within)) refl)
+        ∙ ap (λ (l : List ℕ). 27 ∷ 91 ∷ 48 ∷ 49 ∷ 59 ∷ 51 ∷ digit ∷ l) (next_known bytes 7 109 (omega (arith, within)) final)
+
+    read : (8 ≡ sequence_len bytes) × (record { bold = true; hue = digit_hue (digit - 48) } ≡ restyled style (sequence_numbers bytes))
+    read = subst (λ (l : List ℕ). (8 ≡ sequence_len l)
+        × (record { bold = true; hue = digit_hue (digit - 48) } ≡ restyled style (sequence_numbers l)))
+        (ap (λ (d : ℕ). bold_hue d (drop 8 bytes)) digit_is ∙ sym shape) (hue_read style (digit - 48) below (drop 8 bytes))
 
 pub none_skipped : (style : Style) (bytes : List ℕ) → SkipsSequences style bytes style 0
 none_skipped style bytes = record {

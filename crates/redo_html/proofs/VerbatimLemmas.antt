@@ -1,10 +1,10 @@
 -- Lemmas about code points that are written as they are.
-use Rattle.std.proofs.Common.{◌≡◌, ℕ, zero, suc, ◌+◌, ◌<◌, ◌≤◌, true, false, List, [], ◌∷◌, ◌++◌, Option, Some, length, take, drop, map, slice_index, refl, sym, ◌∙◌, ap, arith, zero-le, le_refl, ⊎_elim}
+use Rattle.std.proofs.Common.{◌≡◌, ℕ, zero, suc, ◌+◌, ◌-◌, ◌<◌, ◌≤◌, min, true, false, List, [], ◌∷◌, ◌++◌, Option, Some, length, take, drop, map, slice_index, slice_range, refl, sym, ◌∙◌, ap, arith, zero-le, le_refl, ⊎_elim}
 use Rattle.std.specs.Char.{encode_utf8}
 use Rattle.std.specs.Prelude.{◌==◌, ◌&&◌, not, fold}
 use Rattle.std.specs.List.{flat_map, list_all}
 use Rattle.std.proofs.lemmas.Bool.{and_parts, and_from, cases_lt, cond-true, cond-false, lt-ltb, not-true, not_from_false, ne_eqb}
-use Rattle.std.proofs.lemmas.List.{append_assoc, append-nil, drop-drop, length-drop, length-take-le, map-append, take_at, take_all, drop_all}
+use Rattle.std.proofs.lemmas.List.{append_assoc, append-nil, drop-drop, drop-take, get_or-drop, get_or-take, length-drop, length-take-le, map-append, take-take, take_at, take_all, drop_all}
 use Rattle.std.proofs.lemmas.List.Concat.{flat_map-append}
 use Rattle.std.proofs.lemmas.List.Folds.{list_all-append}
 use Rattle.std.proofs.Math.Seq.{take-add}
@@ -67,6 +67,48 @@ pub plain_more : (count more : ℕ) (bytes : List ℕ) → list_all is_plain (ta
 plain_more count more bytes first next =
     ap (list_all is_plain) (take-add count more bytes) ∙ list_all-append is_plain (take count bytes) (take more (drop count bytes))
     ∙ and_from (list_all is_plain (take count bytes)) (list_all is_plain (take more (drop count bytes))) first next
+
+-- ---- code points in a part of a text
+
+pub all_of_front : (n m : ℕ) (bytes : List ℕ) → n ≤ m → list_all is_plain (take m bytes) ≡ true → list_all is_plain (take n bytes) ≡ true
+all_of_front zero m bytes few plain = refl
+all_of_front (suc n) m [] few plain = refl
+all_of_front (suc n) zero (byte ∷ bytes) few plain = absurd (omega (arith, few))
+all_of_front (suc n) (suc m) (byte ∷ bytes) few plain =
+    let parts = and_parts (is_plain byte) (list_all is_plain (take m bytes)) plain in
+    and_from (is_plain byte) (list_all is_plain (take n bytes)) parts.0 (all_of_front n m bytes (omega (arith, few)) parts.1)
+
+pub range_is : (bytes : List ℕ) (at end : ℕ) → at ≤ end → slice_range bytes at end ≡ drop at (take end bytes)
+range_is bytes at end ordered =
+    let parts : at + (end - at) ≡ end = omega (arith, ordered) in
+    sym (drop-take at (end - at) bytes) ∙ ap (λ (n : ℕ). drop at (take n bytes)) parts
+
+pub length-range : (bytes : List ℕ) (at end : ℕ) → at ≤ end → end ≤ length bytes → length (slice_range bytes at end) ≡ end - at
+length-range bytes at end ordered within =
+    length-take-le (end - at) (drop at bytes) (omega (arith, ordered, within, length-drop at bytes))
+
+pub first_of_range : (bytes : List ℕ) (at end : ℕ) → at < end → slice_index bytes at ≡ slice_index (slice_range bytes at end) 0
+first_of_range bytes at end some =
+    let front : 0 < end - at = omega (arith, some) in
+    sym (get_or-take (end - at) (drop at bytes) 0 0 front ∙ get_or-drop at bytes 0 0 ∙ ap (slice_index bytes) (omega arith))
+
+-- As many as are tested at once were tested, and the text may end before.
+pub plain_in_range : (bytes : List ℕ) (at end run : ℕ) → at < end → end ≤ length bytes → list_all is_plain (take run (drop at bytes)) ≡ true
+    → IsVerbatim (slice_range bytes at end) (min run (end - at))
+plain_in_range bytes at end run some within plain =
+    let count = min run (end - at) in
+    let first : count ≤ run = omega arith in
+    let second : count ≤ end - at = omega arith in
+    let size = length-range bytes at end (omega (arith, some)) within in
+    plain_code_points count (slice_range bytes at end) (omega (arith, second, size))
+    (ap (list_all is_plain) (take-take count (end - at) (drop at bytes) second) ∙ all_of_front count run (drop at bytes) first plain)
+
+-- The bytes of these code points, in the text that goes on after the part.
+pub range_front : (bytes : List ℕ) (at end len : ℕ) → at ≤ end → end ≤ length bytes → IsVerbatim (slice_range bytes at end) len
+    → take len (slice_range bytes at end) ≡ take len (drop at bytes)
+range_front bytes at end len ordered within verbatim =
+    let inside = verbatim.within in
+    take-take len (end - at) (drop at bytes) (omega (arith, inside, length-range bytes at end ordered within))
 
 -- ---- a code point that isn't in ASCII
 

@@ -32,7 +32,7 @@
 //! [`write_log_lines`] takes the style at the start of some lines and sets it to the one at their end, so several calls may write
 //! the lines of a log. The crates above begin each block of lines with the plain style, and there a style of the log ends.
 //! Lines without escape characters are written as one passage, which has the same HTML: no symbol, run of code points or highlight goes
-//! past a line feed.
+//! past a line feed. Lines with them go through a buffer in one pass (`put_lines`): a line is known to end where its line feed was put.
 //!
 //! **Reading** (`Html`). The tokenizer of the HTML standard, in the states that a page needs. The laws compose: each part of a
 //! page is read from the data state to the data state (`ReadsAs`), before any bytes. A reading that leaves the modelled states
@@ -58,11 +58,15 @@
 //! the same with other texts, and that only the markup of a page decides whether its tags nest.
 //!
 //! **Speed.** A stretch of code points that are written as they are (`verbatim_len`) is one write. Sixteen bytes at once are tested
-//! for plain ones, and a table says which of the last bytes are plain. A table of states tells the letters of most scripts (`STEPS`), and
-//! only other characters are decoded. Each sequence is read in one pass, and the sequences before a stretch are read in a row. Every other code
-//! point is a write of its own, and so is each number and each fixed text of a chart.
+//! for plain ones, and a table says which of the last bytes are plain. A table of states recognizes the letters of most scripts (`STEPS`).
+//! After such letters, 32 bytes at once are tested for plain bytes and for letters in blocks whose code points are all visible
+//! (`strides_len`). Only other characters are decoded. Each sequence is read in one pass, and the sequences before a stretch are read in
+//! a row; those that GCC writes most are compared with constants (`read_bold`). Every other code point is a write of its own, and so is
+//! each number and each fixed text of a chart. The parts of lines with sequences are short, so they are put into a `Buffer`, sixteen
+//! bytes at once: what was written, with the bytes in the buffer, is the text so far. If a write fails, a prefix of the text was written.
 #![tactic(auto)]
 
+mod buffer;
 mod chart;
 mod cut;
 mod laws;
@@ -72,8 +76,10 @@ mod markup;
 mod notation;
 mod passage;
 mod piece;
+mod stride;
 mod style;
 mod style_sheet;
+mod styled;
 mod symbol;
 mod text_kind;
 

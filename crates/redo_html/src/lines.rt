@@ -4,11 +4,12 @@ ghost use Rattle.std.specs.List.{list_all};
 ghost use Rattle.redo_device.specs.Sink.{Writes};
 ghost use Rattle.redo_line.specs.Lines.{ended, rest};
 ghost use Rattle.redo_html.specs.Lines.{is_no_escape, lines_html, style_after_lines};
-ghost use Rattle.redo_html.specs.Private.Writing.{BeginsPassage};
-ghost use Rattle.redo_html.specs.declared.style.Style.{Style};
+ghost use Rattle.redo_html.specs.Private.Buffering.{held, PutLines, PutPassage};
 
+use crate::buffer::Buffer;
 use crate::passage::write_passage;
 use crate::style::{Style, has_own_element};
+use crate::styled::put_lines;
 use crate::symbol::ESCAPE;
 use crate::text_kind::TextKind;
 use memchr::{memchr, memrchr};
@@ -22,48 +23,53 @@ pub fn write_log_lines<W: Sink>(style: &mut Style, lines: &[u8], out: &mut W) ->
     ensures style { OnOk result (style.new ≡ style_after_lines style.old (ended lines.now)) }
     ensures unchanged_on_err { OnErr result (style.new ≡ style.old) }
 {
+    let mut buffer = Buffer::new();
     let mut current = *style;
     let mut done = 0;
     while done < lines.len() {
-        let left = &lines[done..];
-        let len = passage_len(current, left);
-        current = write_passage(TextKind::Log, current, &left[..len], out)?;
+        let (next, len) = write_some_lines(current, &lines[done..], &mut buffer, out)?;
+        current = next;
         done += len;
     }
+    buffer.flush(out)?;
     *style = current;
     Ok(())
 }
 
-// Returns the number of bytes of the lines at the start that are written as one passage: all lines before the first one with
-// an escape character, if they begin with the plain style, and otherwise one line.
-fn passage_len(style: Style, lines: &[u8]) -> usize
+// Writes the lines before the first one with an escape character as one passage, if they begin with the plain style and there are any, and
+// otherwise lines through the buffer. Returns the style after them, and the number of their bytes.
+fn write_some_lines<W: Sink>(
+    style: Style,
+    lines: &[u8],
+    buffer: &mut Buffer,
+    out: &mut W,
+) -> Result<(Style, usize), Broken>
     requires some { 0 < length lines.now }
     requires complete { rest lines.now ≡ [] }
-    ensures { BeginsPassage style lines.now result }
+    ensures { PutLines (W.written out.old) (W.written out.new) (held buffer.old) style lines.now (held buffer.new) result }
 {
-    let first = first_line_len(lines);
-    if has_own_element(style) || has_escape(&lines[..first]) {
-        return first;
+    if has_own_element(style) {
+        return put_lines(style, lines, buffer, out);
     }
     let len = plain_lines_len(lines);
-    if len > 0 { len } else { first }
-}
-
-// Returns the number of bytes of the first line.
-fn first_line_len(lines: &[u8]) -> usize
-    requires some { 0 < length lines.now }
-    requires complete { rest lines.now ≡ [] }
-    ensures within { result ≤ length lines.now }
-    ensures first { (style : Style) → BeginsPassage style lines.now result }
-{
-    match memchr(b'\n', lines) {
-        Some(at) => at + 1,
-        None => lines.len(),
+    if len == 0 {
+        return put_lines(style, lines, buffer, out);
     }
+    let next = write_lines(style, &lines[..len], buffer, out)?;
+    Ok((next, len))
 }
 
-fn has_escape(bytes: &[u8]) -> bool {
-    memchr(ESCAPE, bytes).is_some()
+// Writes lines as one passage, without the buffer.
+fn write_lines<W: Sink>(
+    style: Style,
+    lines: &[u8],
+    buffer: &mut Buffer,
+    out: &mut W,
+) -> Result<Style, Broken>
+    ensures { PutPassage (W.written out.old) (W.written out.new) (held buffer.old) style lines.now (held buffer.new) result }
+{
+    buffer.flush(out)?;
+    write_passage(TextKind::Log, style, lines, out)
 }
 
 // Returns the number of bytes of the lines before the first line with an escape character.

@@ -10,6 +10,7 @@ ghost use Rattle.redo_html.specs.Style.{plain_style};
 ghost use Rattle.redo_html.specs.Shown.{is_unprintable};
 ghost use Rattle.redo_html.specs.Symbols.{first_symbol, has_colours, symbol_len};
 ghost use Rattle.redo_html.specs.Symbols.Symbol.{CodePoint};
+ghost use Rattle.redo_html.specs.Private.Buffering.{IsPadded};
 ghost use Rattle.redo_html.specs.Private.Writing.{WrotePassage, WroteSomeOrFailed, IsRepeated, IsVerbatim, SkipsSequences, optional_highlight};
 
 use crate::look::{Look, at_start, pass_code_point};
@@ -65,6 +66,24 @@ pub fn write_passage<W: Sink>(
     }
     write_end(kind, &look, out)?;
     Ok(look.wanted)
+}
+
+/// Writes the rest of a passage, which isn't empty, up to the highlights at its end. Returns the number of its bytes, and sets the look to
+/// the one after it.
+pub fn write_rest<W: Sink>(
+    kind: TextKind,
+    look: &mut Look,
+    bytes: &[u8],
+    out: &mut W,
+) -> Result<usize, Broken>
+    requires { 0 < length bytes.now }
+    ensures { WroteSomeOrFailed (W.written out.old) (W.written out.new) kind look.old bytes.now look.new result }
+{
+    let mut done = 0;
+    while done < bytes.len() {
+        done += write_some(kind, look, &bytes[done..], out)?;
+    }
+    Ok(done)
 }
 
 // Writes the start of the rest of a passage, which isn't empty. Returns the number of its bytes, and sets the look to the one after it.
@@ -124,8 +143,8 @@ fn write_symbol<W: Sink>(
     }
 }
 
-// Returns whether a byte is one of the three that are written as references.
-fn has_reference(byte: u8) -> bool
+/// Returns whether a byte is one of the three that are written as references.
+pub fn has_reference(byte: u8) -> bool
     ensures { result ≡ (byte == 38 || byte == 60 || byte == 62) }
 {
     byte == b'&' || byte == b'<' || byte == b'>'
@@ -155,12 +174,22 @@ fn reference(byte: u8) -> &'static [u8]
     requires { (byte == 38 || byte == 60 || byte == 62) ≡ true }
     ensures { result.now ≡ escaped_byte byte }
 {
+    let (bytes, len) = padded_reference(byte);
+    &bytes[..len]
+}
+
+/// Returns a reference with spaces after it, and the number of its bytes.
+#[inline(always)]
+pub fn padded_reference(byte: u8) -> (&'static [u8], usize)
+    requires { (byte == 38 || byte == 60 || byte == 62) ≡ true }
+    ensures { IsPadded result.0.now result.1 (escaped_byte byte) }
+{
     if byte == b'&' {
-        b"&amp;"
+        (b"&amp;           ", 5)
     } else if byte == b'<' {
-        b"&lt;"
+        (b"&lt;            ", 4)
     } else {
-        b"&gt;"
+        (b"&gt;            ", 4)
     }
 }
 
@@ -372,8 +401,8 @@ fn starts_style(look: &Look) -> bool
     !is_same(look.wanted, look.current) && has_own_element(look.wanted)
 }
 
-// Writes the highlights at the end of a passage.
-fn write_end<W: Sink>(kind: TextKind, look: &Look, out: &mut W) -> Result<(), Broken>
+/// Writes the highlights at the end of a passage.
+pub fn write_end<W: Sink>(kind: TextKind, look: &Look, out: &mut W) -> Result<(), Broken>
     ensures { Writes (W.written out.old) (W.written out.new) (html_from kind look.now []) result }
 {
     let style = look.current;
@@ -408,25 +437,33 @@ fn shows_highlights(kind: TextKind) -> bool
 fn style_start_tag(style: Style) -> &'static [u8]
     ensures { result.now ≡ 60 ∷ (highlight_text (StyleStart style) ++ 62 ∷ []) }
 {
+    let (bytes, len) = padded_start_tag(style);
+    &bytes[..len]
+}
+
+/// Returns the start tag of a style with spaces after it, and the number of its bytes.
+pub fn padded_start_tag(style: Style) -> (&'static [u8], usize)
+    ensures { IsPadded result.0.now result.1 (60 ∷ (highlight_text (StyleStart style) ++ 62 ∷ [])) }
+{
     if style.bold {
         match style.hue {
-            Hue::Plain => b"<b>",
-            Hue::Red => b"<b class=\"r\">",
-            Hue::Green => b"<b class=\"g\">",
-            Hue::Yellow => b"<b class=\"y\">",
-            Hue::Blue => b"<b class=\"b\">",
-            Hue::Magenta => b"<b class=\"m\">",
-            Hue::Cyan => b"<b class=\"c\">",
+            Hue::Plain => (b"<b>             ", 3),
+            Hue::Red => (b"<b class=\"r\">   ", 13),
+            Hue::Green => (b"<b class=\"g\">   ", 13),
+            Hue::Yellow => (b"<b class=\"y\">   ", 13),
+            Hue::Blue => (b"<b class=\"b\">   ", 13),
+            Hue::Magenta => (b"<b class=\"m\">   ", 13),
+            Hue::Cyan => (b"<b class=\"c\">   ", 13),
         }
     } else {
         match style.hue {
-            Hue::Plain => b"<span>",
-            Hue::Red => b"<span class=\"r\">",
-            Hue::Green => b"<span class=\"g\">",
-            Hue::Yellow => b"<span class=\"y\">",
-            Hue::Blue => b"<span class=\"b\">",
-            Hue::Magenta => b"<span class=\"m\">",
-            Hue::Cyan => b"<span class=\"c\">",
+            Hue::Plain => (b"<span>          ", 6),
+            Hue::Red => (b"<span class=\"r\">", 16),
+            Hue::Green => (b"<span class=\"g\">", 16),
+            Hue::Yellow => (b"<span class=\"y\">", 16),
+            Hue::Blue => (b"<span class=\"b\">", 16),
+            Hue::Magenta => (b"<span class=\"m\">", 16),
+            Hue::Cyan => (b"<span class=\"c\">", 16),
         }
     }
 }
@@ -434,5 +471,17 @@ fn style_start_tag(style: Style) -> &'static [u8]
 fn style_end_tag(style: Style) -> &'static [u8]
     ensures { result.now ≡ 60 ∷ (highlight_text (StyleEnd style) ++ 62 ∷ []) }
 {
-    if style.bold { b"</b>" } else { b"</span>" }
+    let (bytes, len) = padded_end_tag(style);
+    &bytes[..len]
+}
+
+/// Returns the end tag of a style with spaces after it, and the number of its bytes.
+pub fn padded_end_tag(style: Style) -> (&'static [u8], usize)
+    ensures { IsPadded result.0.now result.1 (60 ∷ (highlight_text (StyleEnd style) ++ 62 ∷ [])) }
+{
+    if style.bold {
+        (b"</b>            ", 4)
+    } else {
+        (b"</span>         ", 7)
+    }
 }

@@ -1,5 +1,5 @@
 //! The styles that compilers set.
-ghost use Rattle.std.specs.Prelude.{◌≡◌, ◌≤◌, ◌∷◌, ◌&&◌, ℕ, List, true, nat_le, length, slice_index};
+ghost use Rattle.std.specs.Prelude.{◌≡◌, ◌≤◌, ◌∷◌, ◌++◌, [], ◌&&◌, ℕ, List, true, nat_le, length, slice_index};
 ghost use Rattle.redo_html.specs.Passage.{hue_number, is_same_style, has_element};
 ghost use Rattle.redo_html.specs.Style.{digit_hue, attribute_added, setting_after, restyled};
 ghost use Rattle.redo_html.specs.Symbols.{sequence_numbers, numbers_from};
@@ -70,8 +70,10 @@ fn number(hue: Hue) -> u8
 }
 
 /// Returns the style after the sequences at the start of a log's text, and the number of their bytes.
+#[inline(always)]
 pub fn after_sequences(style: Style, bytes: &[u8]) -> (Style, usize)
-    ensures { SkipsSequences style bytes.now result.0 result.1 }
+    ensures all { SkipsSequences style bytes.now result.0 result.1 }
+    ensures line { (line more : List ℕ) → bytes.now ≡ line ++ 10 ∷ more → SkipsSequences style (line ++ 10 ∷ []) result.0 result.1 }
 {
     let mut current = style;
     let mut done = 0;
@@ -86,7 +88,9 @@ pub fn after_sequences(style: Style, bytes: &[u8]) -> (Style, usize)
     (current, done)
 }
 
-// Returns the style after the sequence at the start, and the number of its bytes, or 0 if there is none. Most sequences have no number.
+// Returns the style after the sequence at the start, and the number of its bytes, or 0 if there is none. Most sequences have no number,
+// and most of the others are GCC's.
+#[inline(always)]
 fn read_sequence(style: Style, bytes: &[u8]) -> (Style, usize)
     ensures { ReadsSequence style bytes.now result.0 result.1 }
 {
@@ -96,6 +100,10 @@ fn read_sequence(style: Style, bytes: &[u8]) -> (Style, usize)
         }
         if bytes[2] == b'm' {
             return (Style::PLAIN, 3);
+        }
+        let (next, len) = read_bold(style, bytes);
+        if len > 0 {
+            return (next, len);
         }
         return read_parameters(style, bytes);
     }
@@ -107,7 +115,50 @@ fn read_sequence(style: Style, bytes: &[u8]) -> (Style, usize)
     }
 }
 
+// Returns the same for bytes that begin with `ESC [` and the parameters `01` or `01;3` and a digit.
+#[inline(always)]
+fn read_bold(style: Style, bytes: &[u8]) -> (Style, usize)
+    requires escape { slice_index bytes.now 0 ≡ 27 }
+    requires bracket { slice_index bytes.now 1 ≡ 91 }
+    ensures { ReadsSequence style bytes.now result.0 result.1 }
+{
+    if bytes.len() < 5 || bytes[2] != b'0' || bytes[3] != b'1' {
+        return (style, 0);
+    }
+    if bytes[4] == b'm' {
+        return (
+            Style {
+                bold: true,
+                ..style
+            },
+            5,
+        );
+    }
+    if bytes.len() >= 8
+        && bytes[4] == b';'
+        && bytes[5] == b'3'
+        && is_octal(bytes[6])
+        && bytes[7] == b'm'
+    {
+        return (
+            Style {
+                bold: true,
+                hue: hue_of(u32::from(bytes[6] - b'0')),
+            },
+            8,
+        );
+    }
+    (style, 0)
+}
+
+fn is_octal(byte: u8) -> bool
+    ensures { result ≡ (nat_le 48 byte && nat_le byte 55) }
+{
+    b'0' <= byte && byte <= b'7'
+}
+
 // Returns the same for bytes that begin with `ESC [`, by one pass over the parameters.
+#[inline(never)]
 fn read_parameters(style: Style, bytes: &[u8]) -> (Style, usize)
     requires some { 3 ≤ length bytes.now }
     requires escape { slice_index bytes.now 0 ≡ 27 }

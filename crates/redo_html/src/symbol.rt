@@ -1,12 +1,13 @@
 //! The symbols of a text: code points, and sequences that set colours.
-ghost use Rattle.std.specs.Prelude.{◌≡◌, ◌≤◌, ◌<◌, ◌+◌, ◌/◌, ◌%◌, ◌^◌, slice_index_or, ◌==◌, ◌||◌, ◌&&◌, true, length, take, slice_index};
+ghost use Rattle.std.specs.Prelude.{◌≡◌, ◌≤◌, ◌<◌, ◌+◌, ◌/◌, ◌%◌, ◌^◌, slice_index_or, ◌==◌, ◌||◌, ◌&&◌, true, length, take, drop, slice_index, List, ℕ, ◌∷◌, ◌++◌, []};
 ghost use Rattle.std.specs.List.{list_all, list_any, prefix_len};
 ghost use Rattle.redo_html.specs.Laws.{is_plain};
 ghost use Rattle.redo_html.specs.Shown.{is_unprintable, is_control, ends_plane, is_between, unseen_ranges};
 ghost use Rattle.redo_html.specs.Symbols.{first_code_point, code_point_len, is_parameter, is_link_byte, begins_link_text, end_len, link_len, sequence_len, has_colours, first_symbol, symbol_len};
-ghost use Rattle.redo_html.specs.Private.Writing.{ArePlain, IsVerbatim, first_set, symbol_code_point};
+ghost use Rattle.redo_html.specs.Private.Writing.{ArePlain, HaveNoLineFeed, IsVerbatim, first_set, symbol_code_point};
 ghost use Rattle.redo_html.specs.declared.symbol.TheConstants.{STEPS};
 
+use crate::stride::strides_len;
 use crate::text_kind::TextKind;
 use bstr::decode_utf8;
 use std::simd::prelude::*;
@@ -108,11 +109,11 @@ const C7: u64 = 0o52_06_52_06_06_06_00_52;
 /// The byte at the start of each sequence.
 pub const ESCAPE: u8 = 27;
 
-// The number of bytes that are tested at once.
-const LANES: usize = 16;
+/// The number of bytes that are tested at once.
+pub const LANES: usize = 16;
 
-// The number of bytes after which a search for letters looks for plain bytes again.
-const WINDOW: usize = 64;
+// The number of bytes after which a search for letters tests many bytes at once again.
+const WINDOW: usize = 32;
 
 /// Returns the number of bytes at the start that are code points which are written as they are.
 pub fn verbatim_len(bytes: &[u8]) -> usize
@@ -125,9 +126,47 @@ pub fn verbatim_len(bytes: &[u8]) -> usize
             return len;
         }
         len += more;
+        len += strides_len(bytes, len);
         len += plain_len(&bytes[len..]);
     }
     len
+}
+
+/// Returns a number of bytes from `at` on, at most as many as are tested at once, that are code points which are written as they are. No
+/// byte after the first line feed is among them.
+#[inline(always)]
+pub fn verbatim_run(bytes: &[u8], at: usize) -> usize
+    requires room { at + LANES ≤ length bytes.now }
+    ensures verbatim { (line more : List ℕ) → drop at bytes.now ≡ line ++ 10 ∷ more → IsVerbatim (line ++ 10 ∷ []) result }
+    ensures few { result ≤ LANES }
+{
+    let line = line_run(bytes, at);
+    if bytes[at] < 128 {
+        plain_run(bytes, at).min(line)
+    } else {
+        letters_len(&bytes[at..], line)
+    }
+}
+
+// Returns the number of bytes from `at` on up to the first line feed and with it, of as many bytes as are tested at once.
+#[inline(always)]
+fn line_run(bytes: &[u8], at: usize) -> usize
+    requires { at + LANES ≤ length bytes.now }
+    ensures few { result ≤ LANES }
+    ensures line { (line more : List ℕ) → drop at bytes.now ≡ line ++ 10 ∷ more → result ≤ length line + 1 }
+{
+    let before = before_line_feed(bytes, at);
+    (before + 1).min(LANES)
+}
+
+// Returns the number of bytes from `at` on before the first line feed, of as many bytes as are tested at once.
+#[inline(always)]
+fn before_line_feed(bytes: &[u8], at: usize) -> usize
+    requires { at + LANES ≤ length bytes.now }
+    ensures { HaveNoLineFeed bytes.now at LANES result }
+{
+    let feeds = u8x16::from_slice(&bytes[at..]).simd_eq(u8x16::splat(b'\n'));
+    first_set(feeds.to_bitmask(), LANES)
 }
 
 // Returns a number of bytes at the start that are code points which are written as they are. The first one isn't in ASCII.
@@ -135,23 +174,24 @@ fn high_len(bytes: &[u8]) -> usize
     requires { 0 < length bytes.now }
     ensures { IsVerbatim bytes.now result }
 {
-    let len = letters_len(bytes);
+    let len = letters_len(bytes, WINDOW);
     if len > 0 { len } else { visible_len(bytes) }
 }
 
-// Returns the number of bytes of some letters at the start that are easy to tell, and of plain bytes among them.
-fn letters_len(bytes: &[u8]) -> usize
-    ensures { IsVerbatim bytes.now result }
+// Returns the number of bytes of some letters at the start that are easy to tell, and of plain bytes among them: at most `window`.
+fn letters_len(bytes: &[u8], window: usize) -> usize
+    ensures verbatim { IsVerbatim bytes.now result }
+    ensures few { result ≤ window }
 {
+    let end = bytes.len().min(window);
     let mut len = 0;
     let mut state = START;
-    for (at, byte) in bytes.iter().enumerate() {
-        if state == FAILED || at == WINDOW {
-            return len;
-        }
-        state = next_state(state, *byte);
+    let mut at = 0;
+    while at < end && state != FAILED {
+        state = next_state(state, bytes[at]);
+        at += 1;
         if state == START {
-            len = at + 1;
+            len = at;
         }
     }
     len

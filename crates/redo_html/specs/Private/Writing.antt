@@ -113,6 +113,10 @@ pub record ReadsParameter (before after : Setting) (value byte next : ℕ) : Typ
 abbrev pub ArePlain : List ℕ → ℕ → ℕ → ℕ → Type 0
 ArePlain bytes at count run = (run ≤ count) × (list_all is_plain (take run (drop at bytes)) ≡ true)
 
+-- The first `run` of the `count` bytes from `at` on are no line feeds.
+abbrev pub HaveNoLineFeed : List ℕ → ℕ → ℕ → ℕ → Type 0
+HaveNoLineFeed bytes at count run = (run ≤ count) × (list_all (λ byte. not (byte == 10)) (take run (drop at bytes)) ≡ true)
+
 -- The place of the lowest bit that is set, or `count` if none is.
 abbrev pub first_set : ℕ → ℕ → ℕ
 first_set mask count = if mask == 0 then count else trailing_zeros w64 mask
