@@ -11,4 +11,5 @@ pub mod PlainLemmas
 pub mod ReadLemmas
 pub mod SequenceLaws
 pub mod SplitLemmas
+mod StretchLemmas
 pub mod WordLemmas

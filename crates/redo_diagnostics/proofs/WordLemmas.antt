@@ -1,18 +1,18 @@
 -- The first word of a plain line.
-use Rattle.std.proofs.Common.{◌≡◌, ℕ, zero, suc, ◌+◌, ◌-◌, ◌<◌, ◌≤◌, ◌==◌, Bool, true, false, cond, ◌&&◌, ◌||◌, List, [], ◌∷◌, ◌++◌, Option, None, Some, length, drop, get_or, refl, sym, ◌∙◌, ap, subst, arith, zero-le, ⊎_elim}
-use Rattle.std.specs.Prelude.{IfSome, is_some, option_map, slice_index}
-use Rattle.std.proofs.lemmas.Bool.{and_from, and_parts, cases_lt, eq-eqb, false≢true, false_from_ne_true}
-use Rattle.std.proofs.lemmas.List.{get_or-drop, length-drop}
+use Rattle.std.proofs.Common.{◌≡◌, ◌≢◌, ℕ, zero, suc, ◌+◌, ◌-◌, ◌<◌, ◌≤◌, ◌==◌, Bool, true, false, cond, ◌&&◌, ◌||◌, List, [], ◌∷◌, Option, None, Some, length, take, drop, get_or, refl, sym, ◌∙◌, ap, subst, arith, zero-le, ⊎_elim}
+use Rattle.std.specs.Prelude.{is_some, slice_index}
+use Rattle.std.specs.Str.{bytes_eq}
+use Rattle.std.proofs.lemmas.Bool.{and_parts, cases_lt, eq-eqb, false_from_ne_true}
+use Rattle.std.proofs.lemmas.List.{get_or-drop, get_or-take, length-drop}
 use Rattle.std.proofs.lemmas.Option.{none-some, same_Some}
-use Rattle.memchr.specs.Find.{IsFirst, NoneBefore, Nowhere, OccursAt, occurs_at}
-use Rattle.memchr.proofs.lemmas.FindLemmas.{Nowhere-more}
-use Rattle.memchr.proofs.lemmas.MatchLemmas.{OccursAt-true, occurs_at-true}
+use Rattle.memchr.specs.Find.{NoneBefore, Nowhere, OccursAt, Passes, is_byte, occurs_at}
+use Rattle.memchr.proofs.lemmas.MatchLemmas.{OccursAt-true}
 use Rattle.redo_line.specs.Record.{colon, space}
 use Rattle.redo_line.proofs.PartLemmas.{HasNo}
 use Rattle.redo_diagnostics.specs.declared.severity.Severity.{Severity}
 use Rattle.redo_diagnostics.specs.declared.severity.Severity.TheVariants.{Warning, Error, FatalError}
 use Rattle.redo_diagnostics.specs.Diagnostic.{first_place, is_word_at, severity_at, severity_in, word_of, word_place}
-use Rattle.redo_diagnostics.specs.Private.Words.{IsFirstOf}
+use Rattle.redo_diagnostics.specs.Private.Words.{IsFirstBefore, IsWordBefore}
 use Rattle.redo_diagnostics.proofs.FlagLemmas.{passes_inside}
 
 -- ---- the severities at a place
@@ -20,41 +20,8 @@ use Rattle.redo_diagnostics.proofs.FlagLemmas.{passes_inside}
 abbrev one_of : Bool → Severity → Option Severity → Option Severity
 one_of is severity others = cond is (Some severity) others
 
-append_none : (plain : List ℕ) (severity : Severity) (place : ℕ) (severities : List Severity) → severity_in severities plain place ≡ None
-    → is_word_at plain severity place ≡ false → severity_in (severities ++ severity ∷ []) plain place ≡ None
-append_none plain severity place [] none not_here = ap (λ b. one_of b severity None) not_here
-append_none plain severity place (first ∷ others) none not_here =
-    by (is_word_at plain first place) (severity_in others plain place) none (λ none. append_none plain severity place others none not_here)
-  where
-    by : (is : Bool) (found : Option Severity) → one_of is first found ≡ None
-        → (found ≡ None → severity_in (others ++ severity ∷ []) plain place ≡ None)
-        → one_of is first (severity_in (others ++ severity ∷ []) plain place) ≡ None
-    by true found none later = absurd (none-some first (sym none))
-    by false found none later = later none
-
-append_last : (plain : List ℕ) (severity : Severity) (place : ℕ) (severities : List Severity) → severity_in severities plain place ≡ None
-    → is_word_at plain severity place ≡ true → severity_in (severities ++ severity ∷ []) plain place ≡ Some severity
-append_last plain severity place [] none here = ap (λ b. one_of b severity None) here
-append_last plain severity place (first ∷ others) none here =
-    by (is_word_at plain first place) (severity_in others plain place) none (λ none. append_last plain severity place others none here)
-  where
-    by : (is : Bool) (found : Option Severity) → one_of is first found ≡ None
-        → (found ≡ None → severity_in (others ++ severity ∷ []) plain place ≡ Some severity)
-        → one_of is first (severity_in (others ++ severity ∷ []) plain place) ≡ Some severity
-    by true found none later = absurd (none-some first (sym none))
-    by false found none later = later none
-
-append_first : (plain : List ℕ) (severity one : Severity) (place : ℕ) (severities : List Severity)
-    → severity_in severities plain place ≡ Some one → severity_in (severities ++ severity ∷ []) plain place ≡ Some one
-append_first plain severity one place [] some = absurd (none-some one some)
-append_first plain severity one place (first ∷ others) some =
-    by (is_word_at plain first place) (severity_in others plain place) some (λ some. append_first plain severity one place others some)
-  where
-    by : (is : Bool) (found : Option Severity) → one_of is first found ≡ Some one
-        → (found ≡ Some one → severity_in (others ++ severity ∷ []) plain place ≡ Some one)
-        → one_of is first (severity_in (others ++ severity ∷ []) plain place) ≡ Some one
-    by true found some later = some
-    by false found some later = later some
+abbrev all_severities : List Severity
+all_severities = Warning ∷ Error ∷ FatalError ∷ []
 
 -- A severity at a place is one whose word is there.
 pub has_word : (plain : List ℕ) (one : Severity) (place : ℕ) (severities : List Severity)
@@ -70,6 +37,38 @@ has_word plain one place (first ∷ others) some =
 
 pub some_letters : (severity : Severity) → 1 ≤ length (word_of severity)
 some_letters severity = grind arith
+
+-- There is no severity at a place without a word.
+pub no_severity : (plain : List ℕ) (place : ℕ) (severities : List Severity)
+    → ((severity : Severity) → is_word_at plain severity place ≡ false) → severity_in severities plain place ≡ None
+no_severity plain place [] never = refl
+no_severity plain place (first ∷ others) never =
+    ap (λ b. one_of b first (severity_in others plain place)) (never first) ∙ no_severity plain place others never
+
+-- The severity at a place is the one whose word is there, if words of other lengths aren't.
+pub only_severity : (plain : List ℕ) (place : ℕ) (one : Severity) → is_word_at plain one place ≡ true
+    → ((severity : Severity) → is_word_at plain severity place ≡ true → length (word_of severity) ≡ length (word_of one))
+    → severity_at plain place ≡ Some one
+only_severity plain place one here same = by one here same
+  where
+    not_here : (one severity : Severity)
+        → ((severity : Severity) → is_word_at plain severity place ≡ true → length (word_of severity) ≡ length (word_of one))
+        → length (word_of severity) ≢ length (word_of one) → is_word_at plain severity place ≡ false
+    not_here one severity same other = false_from_ne_true (is_word_at plain severity place) (λ is. other (same severity is))
+
+    by : (one : Severity) → is_word_at plain one place ≡ true
+        → ((severity : Severity) → is_word_at plain severity place ≡ true → length (word_of severity) ≡ length (word_of one))
+        → severity_at plain place ≡ Some one
+    by Warning here same = ap (λ b. one_of b Warning (severity_in (Error ∷ FatalError ∷ []) plain place)) here
+    by Error here same =
+        ap (λ b. one_of b Warning (severity_in (Error ∷ FatalError ∷ []) plain place))
+        (not_here Error Warning same (λ is. omega (arith, is)))
+        ∙ ap (λ b. one_of b Error (severity_in (FatalError ∷ []) plain place)) here
+    by FatalError here same =
+        ap (λ b. one_of b Warning (severity_in (Error ∷ FatalError ∷ []) plain place))
+        (not_here FatalError Warning same (λ is. omega (arith, is)))
+        ∙ ap (λ b. one_of b Error (severity_in (FatalError ∷ []) plain place)) (not_here FatalError Error same (λ is. omega (arith, is)))
+        ∙ ap (λ b. one_of b FatalError None) here
 
 -- ---- the search for a word
 
@@ -95,121 +94,6 @@ word_ends plain severity place is = (and_parts (occurs_at plain (word_of severit
 pub word_fits : (plain : List ℕ) (severity : Severity) (place : ℕ) → is_word_at plain severity place ≡ true
     → place + length (word_of severity) ≤ length plain
 word_fits plain severity place is = (word_occurs plain severity place is).fits
-
-module _ (plain left needle : List ℕ) (severity : Severity) (from : ℕ)
-    (needle_is : needle ≡ word_of severity) (left_is : left ≡ drop from plain) (few : from ≤ length plain)
-    (none : Nowhere (λ place. is_word_at plain severity place ≡ true) 0 from) where
-  size : length left + from ≡ length plain
-  size = let same = ap length left_is ∙ length-drop from plain in omega (arith, same, few)
-
-  byte_is : (k : ℕ) → slice_index left k ≡ slice_index plain (from + k)
-  byte_is k = ap (λ (bytes : List ℕ). get_or bytes k 0) left_is ∙ get_or-drop from plain k 0
-
-  occurs_left : (k : ℕ) → OccursAt plain (word_of severity) (from + k) → OccursAt left (word_of severity) k
-  occurs_left k occurs = record {
-    fits = let fits = occurs.fits in omega (arith, fits, size);
-    reads = λ j below. let index : from + (k + j) ≡ from + k + j = omega arith in
-        byte_is (k + j) ∙ ap (slice_index plain) index ∙ occurs.reads j below;
-  }
-
-  occurs_plain : (k : ℕ) → OccursAt left (word_of severity) k → OccursAt plain (word_of severity) (from + k)
-  occurs_plain k occurs = record {
-    fits = let fits = occurs.fits in omega (arith, fits, size);
-    reads = λ j below. let index : from + k + j ≡ from + (k + j) = omega arith in
-        ap (slice_index plain) index ∙ sym (byte_is (k + j)) ∙ occurs.reads j below;
-  }
-
-  none_upto : (n : ℕ) → Nowhere (OccursAt left (word_of severity)) 0 n
-      → Nowhere (λ place. is_word_at plain severity place ≡ true) 0 (from + n)
-  none_upto n nowhere place low below is = ⊎_elim
-      (λ (sooner : place < from). none place zero-le sooner is)
-      (λ (later : from ≤ place). let same : place ≡ from + (place - from) = omega arith in
-      nowhere (place - from) zero-le (omega (arith, below, later))
-      (occurs_left (place - from) (subst (OccursAt plain (word_of severity)) same (word_occurs plain severity place is))))
-      (cases_lt place from)
-
-  pub none_left : Nowhere (OccursAt left needle) 0 (length left + 1)
-      → Nowhere (λ place. is_word_at plain severity place ≡ true) 0 (length plain + 1)
-  none_left nowhere place low below is =
-      none_upto (length left + 1)
-      (subst (λ (needle : List ℕ). Nowhere (OccursAt left needle) 0 (length left + 1)) needle_is nowhere)
-      place low (omega (arith, below, size)) is
-
-  module _ (at : ℕ)
-      (found_needle : NoneBefore (OccursAt left needle) 0 (length left + 1) at × OccursAt left needle at) where
-    found : NoneBefore (OccursAt left (word_of severity)) 0 (length left + 1) at × OccursAt left (word_of severity) at
-    found = subst (λ (needle : List ℕ). NoneBefore (OccursAt left needle) 0 (length left + 1) at × OccursAt left needle at)
-        needle_is found_needle
-
-    pub found_fits : from + at + length (word_of severity) ≤ length plain
-    found_fits = (occurs_plain at found.1).fits
-
-    pub found_word : (bounded : Bool) → bounded ≡ true
-        → bounded ≡ (starts_well plain (from + at) && ends_well plain (from + at + length (word_of severity)))
-        → IsFirst (λ place. is_word_at plain severity place ≡ true) 0 (length plain + 1) (Some (from + at))
-    found_word bounded is same =
-        let both = and_parts (starts_well plain (from + at)) (ends_well plain (from + at + length (word_of severity))) (sym same ∙ is) in (
-          record { low = zero-le; high = let fits = found_fits in omega (arith, fits); before = none_upto at found.0.before },
-          and_from _ _ (and_from _ _ (occurs_at-true plain (word_of severity) (from + at) (occurs_plain at found.1)) both.0) both.1,
-        )
-
-    pub found_other : (bounded : Bool) → bounded ≡ false
-        → bounded ≡ (starts_well plain (from + at) && ends_well plain (from + at + length (word_of severity)))
-        → Nowhere (λ place. is_word_at plain severity place ≡ true) 0 (from + at + 1)
-    found_other bounded is same = Nowhere-more (none_upto at found.0.before) (λ word.
-        let ends = and_parts (occurs_at plain (word_of severity) (from + at) && starts_well plain (from + at))
-        (ends_well plain (from + at + length (word_of severity))) word in
-        let starts = and_parts (occurs_at plain (word_of severity) (from + at)) (starts_well plain (from + at)) ends.0 in
-        false≢true (sym is ∙ same ∙ and_from _ _ starts.1 ends.1))
-
--- ---- the first of two words
-
-module _ (plain : List ℕ) (severity : Severity) (severities : List Severity) where
-  abbrev IsHere : ℕ → Type 0
-  IsHere place = is_word_at plain severity place ≡ true
-
-  not_before : (k place : ℕ) → NoneBefore IsHere 0 (length plain + 1) k → place < k → is_word_at plain severity place ≡ false
-  not_before k place first below =
-      false_from_ne_true (is_word_at plain severity place) (λ is. first.before place (omega arith) below is)
-
-  not_at_all : (place : ℕ) → Nowhere IsHere 0 (length plain + 1) → is_word_at plain severity place ≡ false
-  not_at_all place nowhere = false_from_ne_true (is_word_at plain severity place) (λ is.
-      nowhere place (omega arith) (let fits = word_fits plain severity place is in omega (arith, fits)) is)
-
-  -- This word is the first one.
-  pub takes_sooner : (k : ℕ) (first : ℕ × Severity) → NoneBefore IsHere 0 (length plain + 1) k × IsHere k → k < first.0
-      → IsFirstOf severities plain (Some first) → IsFirstOf (severities ++ severity ∷ []) plain (Some (k, severity))
-  takes_sooner k first found below other = (
-    append_last plain severity k severities (other.1 k below) found.1,
-    λ place before. append_none plain severity place severities (other.1 place (omega (arith, before, below)))
-        (not_before k place found.0 before),
-  )
-
-  pub takes_only : (k : ℕ) → NoneBefore IsHere 0 (length plain + 1) k × IsHere k
-      → IsFirstOf severities plain None → IsFirstOf (severities ++ severity ∷ []) plain (Some (k, severity))
-  takes_only k found other = (
-    append_last plain severity k severities (other k) found.1,
-    λ place before. append_none plain severity place severities (other place) (not_before k place found.0 before),
-  )
-
-  -- The other word is the first one.
-  pub keeps : (first : ℕ × Severity) → ((place : ℕ) → place < first.0 → is_word_at plain severity place ≡ false)
-      → IsFirstOf severities plain (Some first) → IsFirstOf (severities ++ severity ∷ []) plain (Some first)
-  keeps first not_here other = (
-    append_first plain severity first.1 first.0 severities other.0,
-    λ place before. append_none plain severity place severities (other.1 place before) (not_here place before),
-  )
-
-  pub keeps_sooner : (k : ℕ) (first : ℕ × Severity) → NoneBefore IsHere 0 (length plain + 1) k × IsHere k → first.0 ≤ k
-      → IsFirstOf severities plain (Some first) → IsFirstOf (severities ++ severity ∷ []) plain (Some first)
-  keeps_sooner k first found over other =
-      keeps first (λ place before. not_before k place found.0 (omega (arith, before, over))) other
-
-  -- This word is nowhere.
-  pub keeps_other : (other : Option (ℕ × Severity)) → Nowhere IsHere 0 (length plain + 1) → IsFirstOf severities plain other
-      → IsFirstOf (severities ++ severity ∷ []) plain other
-  keeps_other None nowhere other = λ place. append_none plain severity place severities (other place) (not_at_all place nowhere)
-  keeps_other (Some first) nowhere other = keeps first (λ place before. not_at_all place nowhere) other
 
 -- ---- the place of the first word
 
@@ -252,42 +136,181 @@ pub place_nowhere : (plain : List ℕ) → ((place : ℕ) → severity_at plain 
 place_nowhere plain never =
     nowhere_at (λ place. is_some (severity_at plain place)) 0 (length plain) (λ place. ap is_some (never place))
 
--- Each word has a colon.
-colon_in : (severity : Severity) → (j : ℕ) × (j < length (word_of severity)) × (slice_index (word_of severity) j ≡ colon)
-colon_in Warning = (7, omega arith, refl)
-colon_in Error = (5, omega arith, refl)
-colon_in FatalError = (11, omega arith, refl)
+-- ---- the colon of a word
 
-no_word : (plain : List ℕ) (severity : Severity) (place : ℕ) → HasNo colon plain → is_word_at plain severity place ≡ true → ⊥
-no_word plain severity place free is =
-    let occurs = word_occurs plain severity place is in
-    let last = colon_in severity in
-    passes_inside colon plain (place + last.0) (let fits = occurs.fits in omega (arith, fits, last.1))
-    (eq-eqb (slice_index plain (place + last.0)) colon (occurs.reads last.0 last.1 ∙ last.2)) free
+-- The letters of a word, before its colon.
+abbrev letters : Severity → List ℕ
+letters severity = take (length (word_of severity) - 1) (word_of severity)
+
+count_letters : (severity : Severity) → length (letters severity) + 1 ≡ length (word_of severity)
+count_letters Warning = refl
+count_letters Error = refl
+count_letters FatalError = refl
+
+no_colon : (severity : Severity) → HasNo colon (letters severity)
+no_colon Warning = grind arith
+no_colon Error = grind arith
+no_colon FatalError = grind arith
+
+last_is_colon : (severity : Severity) → slice_index (word_of severity) (length (word_of severity) - 1) ≡ colon
+last_is_colon Warning = refl
+last_is_colon Error = refl
+last_is_colon FatalError = refl
+
+module _ (plain : List ℕ) (severity : Severity) (place : ℕ) (is : is_word_at plain severity place ≡ true) where
+  occurs : OccursAt plain (word_of severity) place
+  occurs = word_occurs plain severity place is
+
+  -- A word ends with a colon.
+  has_colon : Passes (is_byte colon) plain (place + (length (word_of severity) - 1))
+  has_colon = eq-eqb (slice_index plain (place + (length (word_of severity) - 1))) colon
+      (occurs.reads (length (word_of severity) - 1) (let some = some_letters severity in omega (arith, some)) ∙ last_is_colon severity)
+
+  -- It has no other one.
+  only_colon : (k : ℕ) → place ≤ k → k + 1 < place + length (word_of severity) → Passes (is_byte colon) plain k → ⊥
+  only_colon k low high passes =
+      let same : place + (k - place) ≡ k = omega (arith, low) in
+      let below : k - place < length (word_of severity) - 1 = omega (arith, low, high) in
+      passes_inside colon (letters severity) (k - place) (let count = count_letters severity in omega (arith, low, high, count))
+      (subst (λ byte. is_byte colon byte ≡ true)
+      (ap (slice_index plain) (sym same) ∙ occurs.reads (k - place) (omega (arith, below))
+      ∙ sym (get_or-take (length (word_of severity) - 1) (word_of severity) (k - place) 0 below)) passes)
+      (no_colon severity)
 
 pub no_colon_no_word : (plain : List ℕ) → HasNo colon plain → word_place plain ≡ None
-no_colon_no_word plain free = place_nowhere plain (λ place. by place (severity_at plain place) refl)
-  where
-    by : (place : ℕ) (found : Option Severity) → severity_at plain place ≡ found → severity_at plain place ≡ None
-    by place None is = is
-    by place (Some severity) is =
-        absurd (no_word plain severity place free (has_word plain severity place (Warning ∷ Error ∷ FatalError ∷ []) is))
+no_colon_no_word plain free = place_nowhere plain (λ place. no_severity plain place all_severities (λ severity.
+    false_from_ne_true (is_word_at plain severity place) (λ is.
+    passes_inside colon plain (place + (length (word_of severity) - 1))
+    (let fits = word_fits plain severity place is in let some = some_letters severity in omega (arith, fits, some))
+    (has_colon plain severity place is) free)))
 
--- The first word of all severities.
-abbrev all_severities : List Severity
-all_severities = Warning ∷ Error ∷ FatalError ∷ []
+-- ---- the first word
 
-pub place_of_first : (plain : List ℕ) (found : Option (ℕ × Severity)) → IsFirstOf all_severities plain found
-    → option_map (λ (one : ℕ × Severity). one.0) found ≡ word_place plain
-place_of_first plain None first = sym (place_nowhere plain first)
-place_of_first plain (Some one) first = sym (place_found plain one.0 one.1 first.0 first.1)
+-- Each word ends after this byte.
+abbrev pub EndAfter : List ℕ → ℕ → Type 0
+EndAfter plain from = (severity : Severity) (place : ℕ) → is_word_at plain severity place ≡ true
+    → from < place + length (word_of severity)
 
-pub severity_of_first : (plain : List ℕ) (found : Option (ℕ × Severity)) → IsFirstOf all_severities plain found
-    → IfSome found (λ (one : ℕ × Severity). severity_at plain one.0 ≡ Some one.1)
-severity_of_first plain None first = tt
-severity_of_first plain (Some one) first = first.0
+pub end_after_start : (plain : List ℕ) → EndAfter plain 0
+end_after_start plain severity place is = let some = some_letters severity in omega (arith, some)
 
-pub range_of_first : (plain : List ℕ) (found : Option (ℕ × Severity)) → IsFirstOf all_severities plain found
-    → IfSome found (λ (one : ℕ × Severity). one.0 + length (word_of one.1) ≤ length plain)
-range_of_first plain None first = tt
-range_of_first plain (Some one) first = word_fits plain one.1 one.0 (has_word plain one.1 one.0 all_severities first.0)
+module _ (plain left : List ℕ) (from : ℕ) (left_is : left ≡ drop from plain) (few : from ≤ length plain) (after : EndAfter plain from) where
+  size : length left + from ≡ length plain
+  size = let same = ap length left_is ∙ length-drop from plain in omega (arith, same, few)
+
+  byte_is : (k : ℕ) → slice_index left k ≡ slice_index plain (from + k)
+  byte_is k = ap (λ (bytes : List ℕ). get_or bytes k 0) left_is ∙ get_or-drop from plain k 0
+
+  -- The place of a word's colon in the bytes that are left.
+  abbrev colon_of : Severity → ℕ → ℕ
+  colon_of severity place = place + length (word_of severity) - 1 - from
+
+  colon_fits : (severity : Severity) (place : ℕ) → is_word_at plain severity place ≡ true → colon_of severity place < length left
+  colon_fits severity place is =
+      let fits = word_fits plain severity place is in let later = after severity place is in omega (arith, fits, later, size)
+
+  colon_passes : (severity : Severity) (place : ℕ) → is_word_at plain severity place ≡ true
+      → Passes (is_byte colon) left (colon_of severity place)
+  colon_passes severity place is =
+      let later = after severity place is in let some = some_letters severity in
+      let same : from + colon_of severity place ≡ place + (length (word_of severity) - 1) = omega (arith, later, some) in
+      subst (λ byte. is_byte colon byte ≡ true)
+      (sym (byte_is (colon_of severity place) ∙ ap (slice_index plain) same)) (has_colon plain severity place is)
+
+  -- No colon is left.
+  module _ (nowhere : Nowhere (Passes (is_byte colon) left) 0 (length left)) where
+    none_left : (place : ℕ) → severity_at plain place ≡ None
+    none_left place = no_severity plain place all_severities (λ severity.
+        false_from_ne_true (is_word_at plain severity place) (λ is.
+        nowhere (colon_of severity place) zero-le (colon_fits severity place is) (colon_passes severity place is)))
+
+    pub place_none : None ≡ word_place plain
+    place_none = sym (place_nowhere plain none_left)
+
+  -- The next colon.
+  module _ (at : ℕ) (found : NoneBefore (Passes (is_byte colon) left) 0 (length left) at × Passes (is_byte colon) left at) where
+    pub end_fits : from + at + 1 ≤ length plain
+    end_fits = let below = found.0.high in omega (arith, below, size)
+
+    ends_from : (severity : Severity) (place : ℕ) → is_word_at plain severity place ≡ true
+        → from + at + 1 ≤ place + length (word_of severity)
+    ends_from severity place is = ⊎_elim
+        (λ (sooner : colon_of severity place < at).
+        absurd (found.0.before (colon_of severity place) zero-le sooner (colon_passes severity place is)))
+        (λ (later : at ≤ colon_of severity place). let after = after severity place is in omega (arith, later, after))
+        (cases_lt (colon_of severity place) at)
+
+    -- A word that ends later begins after the colon.
+    begins_later : (severity : Severity) (place : ℕ) → is_word_at plain severity place ≡ true
+        → from + at + 1 < place + length (word_of severity) → from + at + 1 ≤ place
+    begins_later severity place is later = ⊎_elim
+        (λ (sooner : place < from + at + 1).
+        absurd (only_colon plain severity place is (from + at) (omega (arith, sooner)) (omega (arith, later))
+        (subst (λ byte. is_byte colon byte ≡ true) (byte_is at) found.1)))
+        (λ (behind : from + at + 1 ≤ place). behind)
+        (cases_lt place (from + at + 1))
+
+    ends_here_or_later : (severity : Severity) (place : ℕ) → is_word_at plain severity place ≡ true → place < from + at + 1
+        → place + length (word_of severity) ≡ from + at + 1
+    ends_here_or_later severity place is below = ⊎_elim
+        (λ (later : from + at + 1 < place + length (word_of severity)).
+        let behind = begins_later severity place is later in absurd (omega (arith, behind, below)))
+        (λ (here : place + length (word_of severity) ≤ from + at + 1).
+        let from_here = ends_from severity place is in omega (arith, here, from_here))
+        (cases_lt (from + at + 1) (place + length (word_of severity)))
+
+    pub none_here : ((severity : Severity) (place : ℕ) → ¬ IsWordBefore plain (from + at + 1) severity place)
+        → EndAfter plain (from + at + 1)
+    none_here none severity place is = ⊎_elim
+        (λ (later : from + at + 1 < place + length (word_of severity)). later)
+        (λ (here : place + length (word_of severity) ≤ from + at + 1). let from_here = ends_from severity place is in
+        absurd (none severity place (is, omega (arith, here, from_here))))
+        (cases_lt (from + at + 1) (place + length (word_of severity)))
+
+    module _ (one : ℕ × Severity) (first : IsFirstBefore plain (from + at + 1) (Some one)) where
+      one_below : one.0 < from + at + 1
+      one_below = let some = some_letters one.1 in let ends = first.0.1 in omega (arith, some, ends)
+
+      pub severity_found : severity_at plain one.0 ≡ Some one.1
+      severity_found = only_severity plain one.0 one.1 first.0.0 (λ severity is.
+          let same = ends_here_or_later severity one.0 is one_below in let ends = first.0.1 in omega (arith, same, ends))
+
+      none_sooner : (place : ℕ) → place < one.0 → severity_at plain place ≡ None
+      none_sooner place below = no_severity plain place all_severities (λ severity.
+          false_from_ne_true (is_word_at plain severity place) (λ is.
+          let behind = first.1 severity place (is, ends_here_or_later severity place is (omega (arith, below, one_below))) in
+          omega (arith, below, behind)))
+
+      pub place_is : Some one.0 ≡ word_place plain
+      place_is = sym (place_found plain one.0 one.1 severity_found none_sooner)
+
+      pub range_is : one.0 + length (word_of one.1) ≤ length plain
+      range_is = word_fits plain one.1 one.0 first.0.0
+
+-- ---- the words that end before a byte
+
+-- The word that ends before `end` is the bytes there, and may begin there.
+module _ (plain word : List ℕ) (end : ℕ) (severity : Severity) (place : ℕ) (same : word ≡ word_of severity)
+    (is : IsWordBefore plain end severity place) where
+  place_of_end : end - length word ≡ place
+  place_of_end = let ends = is.1 in let size = ap length same in omega (arith, ends, size)
+
+  size_of_word : end - (end - length word) ≡ length (word_of severity)
+  size_of_word = let ends = is.1 in let size = ap length same in omega (arith, ends, size)
+
+  abbrev is_copy : ℕ → ℕ → List ℕ → Bool
+  is_copy size at letters = bytes_eq (take size (drop at plain)) letters
+
+  pub has_letters : is_copy (end - (end - length word)) (end - length word) word ≡ true
+  has_letters = ap (λ n. is_copy n (end - length word) word) size_of_word
+      ∙ ap (λ n. is_copy (length (word_of severity)) n word) place_of_end
+      ∙ ap (λ (letters : List ℕ). is_copy (length (word_of severity)) place letters) same
+      ∙ (and_parts _ _ (and_parts (occurs_at plain (word_of severity) place) (starts_well plain place)
+      (and_parts (occurs_at plain (word_of severity) place && starts_well plain place)
+      (ends_well plain (place + length (word_of severity))) is.0).0).0).1
+
+  pub begins_well : starts_well plain (end - length word) ≡ true
+  begins_well = ap (starts_well plain) place_of_end
+      ∙ (and_parts (occurs_at plain (word_of severity) place) (starts_well plain place)
+      (and_parts (occurs_at plain (word_of severity) place && starts_well plain place)
+      (ends_well plain (place + length (word_of severity))) is.0).0).1

@@ -1,4 +1,6 @@
-ghost use Rattle.std.specs.Prelude.{◌≡◌, None, Some, IfNone, IfOk, IfSome, ◌+◌, drop, length, option_map};
+ghost use Rattle.std.specs.Prelude.{◌≡◌, false, None, Some, IfNone, IfOk, IfSome, ◌+◌, drop, length, option_map};
+ghost use Rattle.std.specs.List.{AllByRecursion};
+ghost use Rattle.redo_line.specs.Lines.{ended};
 ghost use Rattle.redo_diagnostics.specs.Diagnostic.{diagnostic_from, diagnostic_of, parts_in, place_of, word_of};
 
 use crate::flag::split_flag;
@@ -8,7 +10,7 @@ use crate::plain::push_plain;
 use crate::severity::Severity;
 use crate::text::Text;
 use crate::word::{find_word, word_of};
-use memchr::memchr;
+use memchr::{memchr, memmem};
 use redo_html::ESCAPE;
 use std::alloc::{AllocError, Global};
 use std::marker::Model;
@@ -138,6 +140,23 @@ pub fn read_diagnostic(alloc: Global, line: &[u8]) -> Result<Option<Diagnostic>,
     let mut plain = Vec::new(alloc);
     push_plain(line, &mut plain)?;
     read_plain(alloc, &plain)
+}
+
+/// Returns true unless none of these lines is a diagnostic. Each line ends with a line feed. It allocates nothing, and takes much less time
+/// than [`read_diagnostic`] for each line.
+pub fn may_have_diagnostic(lines: &[u8]) -> bool
+    ensures { result ≡ false → AllByRecursion (λ line. diagnostic_of line ≡ None) (ended lines.now) }
+{
+    if memchr(b':', lines).is_none() {
+        return false;
+    }
+    if memchr(ESCAPE, lines).is_some() {
+        return true;
+    }
+    if memmem::find(lines, b"warning:").is_some() {
+        return true;
+    }
+    memmem::find(lines, b"error:").is_some()
 }
 
 // Returns the diagnostic of a line without colours and links.

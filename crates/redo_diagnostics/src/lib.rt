@@ -7,11 +7,14 @@
 //!
 //! - Colours and links are the sequences that `redo_html` defines. So the bytes that count are those that a page shows. A link without
 //!   an end is none, and counts.
-//! - Each word is searched in the whole line, and the first one that is found counts. The definition tests each place.
+//! - A word ends with its only colon, so the code looks for a word only before each colon. The definition tests each place.
+//!   [`may_have_diagnostic`] rules out many lines at once.
 //! - A key always has a colon and a space after its origin, even if the origin is empty: `warning: x` has the key `: warning: x`.
 //!   Otherwise `warning:y warning: z` and `warning: warning: z` would have the same key.
 //! - What precedes the word doesn't count without a colon. It names no file and no program, and is often a number that changes: of a
 //!   step (`[ 3%] warning: x`), or of a row that a compiler quotes.
+//! - Pages use wider definitions, by which people miss less. `redo_outline` counts each line with `warning:`, such as `x.c:3:warning: y`.
+//!   `redo_page` also takes lines of shells, tests and make for causes. Neither copies a line to remove its colours.
 #![tactic(auto)]
 
 mod counts;
@@ -26,8 +29,9 @@ mod text;
 mod word;
 
 pub use counts::KeyCounts;
-pub use diagnostic::{Diagnostic, Place, read_diagnostic};
+pub use diagnostic::{Diagnostic, Place, may_have_diagnostic, read_diagnostic};
 pub use laws::{
     colours_and_links_say_nothing, ids_are_distinct, keys_ignore_places, keys_tell_apart,
 };
+pub use plain::push_plain;
 pub use severity::Severity;

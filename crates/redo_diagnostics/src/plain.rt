@@ -6,7 +6,8 @@ use redo_html::{ESCAPE, sequence_size};
 use redo_line::split_at_first;
 use std::alloc::AllocError;
 
-/// Appends a line without colours and links to `plain`: the bytes that are in no sequence.
+/// Appends a line without colours and links to `plain`: the bytes that are in no sequence. The only error is that an allocation failed; a
+/// part of the line may then have been appended.
 pub fn push_plain(line: &[u8], plain: &mut Vec<u8>) -> Result<(), AllocError>
     ensures { OnOk result (plain.new.items ≡ plain.old.items ++ plain_line line.now) }
 {

@@ -1,12 +1,11 @@
 //! The word of a diagnostic.
-ghost use Rattle.std.specs.Prelude.{◌≡◌, ◌+◌, ◌-◌, ◌≤◌, ◌==◌, ◌&&◌, ◌||◌, ℕ, true, List, [], ◌∷◌, ◌++◌, length, get_or, IfSome, option_map};
-ghost use Rattle.memchr.specs.Find.{IsFirst};
+ghost use Rattle.std.specs.Prelude.{◌≡◌, ◌+◌, ◌-◌, ◌≤◌, ◌==◌, ◌||◌, true, length, get_or, IfSome, option_map};
 ghost use Rattle.redo_line.specs.Record.{space};
 ghost use Rattle.redo_diagnostics.specs.Diagnostic as spec;
-ghost use Rattle.redo_diagnostics.specs.Private.Words.{IsFirstOf};
+ghost use Rattle.redo_diagnostics.specs.Private.Words.{IsFirstBefore, IsPlaceBefore};
 
 use crate::severity::Severity;
-use memchr::memmem::Finder;
+use memchr::memchr;
 
 /// Returns the bytes of a word.
 pub fn word_of(severity: Severity) -> &'static [u8]
@@ -19,57 +18,74 @@ pub fn word_of(severity: Severity) -> &'static [u8]
     }
 }
 
-/// Returns the first word of a plain line, and its place. It searches the line for each word, and compares single bytes only where one
-/// occurs.
+/// Returns the first word of a plain line, and its place. It looks for words only before colons: each word ends with its only colon,
+/// so a word that ends with a later colon begins later.
 pub fn find_word(plain: &[u8]) -> Option<(usize, Severity)>
     ensures place { option_map (λ found. found.0) result ≡ spec.word_place plain.now }
     ensures severity { IfSome result (λ found. spec.severity_at plain.now found.0 ≡ Some found.1) }
     ensures range { IfSome result (λ found. found.0 + length (spec.word_of found.1) ≤ length plain.now) }
 {
-    let warning = earlier(plain, Severity::Warning, None);
-    let error = earlier(plain, Severity::Error, warning);
-    earlier(plain, Severity::FatalError, error)
-}
-
-// Returns the first word of this severity, if it is before another word.
-fn earlier(
-    plain: &[u8],
-    severity: Severity,
-    other: Option<(usize, Severity)>,
-) -> Option<(usize, Severity)>
-    ensures { (severities : List Severity) → IsFirstOf severities plain.now other
-        → IsFirstOf (severities ++ severity ∷ []) plain.now result }
-{
-    match (first_of(plain, severity), other) {
-        (Some(place), Some((first, _))) if place < first => Some((place, severity)),
-        (Some(place), None) => Some((place, severity)),
-        _ => other,
-    }
-}
-
-// Returns the first place of the word of this severity.
-fn first_of(plain: &[u8], severity: Severity) -> Option<usize>
-    ensures { IsFirst (λ place. spec.is_word_at plain.now severity place ≡ true) 0 (length plain.now + 1) result }
-{
-    let word = word_of(severity);
-    let finder = Finder::new(word);
     let mut from = 0;
-    'places: while let Some(at) = finder.find(&plain[from..]) {
-        let place = from + at;
-        if is_bounded(plain, place, place + word.len()) {
-            return Some(place);
+    'colons: while let Some(at) = memchr(b':', &plain[from..]) {
+        let end = from + at + 1;
+        if let Some(found) = word_before(plain, end) {
+            return Some(found);
         }
-        from = place + 1;
+        from = end;
     }
     None
 }
 
-// Returns whether bytes begin the line or follow a space, and end the line or are before a space.
-fn is_bounded(plain: &[u8], from: usize, to: usize) -> bool
-    requires to { to ≤ length plain.now }
-    requires from { from ≤ to }
-    ensures { result ≡ ((from == 0 || get_or plain.now (from - 1) 0 == space)
-        && (to == length plain.now || get_or plain.now to 0 == space)) }
+// Returns the first word of those that end before this byte, and its place. The longest one begins first.
+fn word_before(plain: &[u8], end: usize) -> Option<(usize, Severity)>
+    requires { end ≤ length plain.now }
+    ensures { IsFirstBefore plain.now end result }
 {
-    (from == 0 || plain[from - 1] == b' ') && (to == plain.len() || plain[to] == b' ')
+    if !may_end(plain, end) {
+        return None;
+    }
+    if let Some(place) = place_before(plain, end, Severity::FatalError) {
+        return Some((place, Severity::FatalError));
+    }
+    if let Some(place) = place_before(plain, end, Severity::Warning) {
+        return Some((place, Severity::Warning));
+    }
+    match place_before(plain, end, Severity::Error) {
+        Some(place) => Some((place, Severity::Error)),
+        None => None,
+    }
+}
+
+// Returns the place of the word of this severity, if it ends before this byte. This byte must be a space, if there is one.
+fn place_before(plain: &[u8], end: usize, severity: Severity) -> Option<usize>
+    requires range { end ≤ length plain.now }
+    requires ends { (end == length plain.now || get_or plain.now end 0 == space) ≡ true }
+    ensures { IsPlaceBefore plain.now end severity result }
+{
+    let word = word_of(severity);
+    if end < word.len() {
+        return None;
+    }
+    let place = end - word.len();
+    if &plain[place..end] == word && may_begin(plain, place) {
+        Some(place)
+    } else {
+        None
+    }
+}
+
+// Returns whether a word may begin here: it begins the line or follows a space.
+fn may_begin(plain: &[u8], place: usize) -> bool
+    requires { place ≤ length plain.now }
+    ensures { result ≡ (place == 0 || get_or plain.now (place - 1) 0 == space) }
+{
+    place == 0 || plain[place - 1] == b' '
+}
+
+// Returns whether a word may end before this byte: it ends the line or is before a space.
+fn may_end(plain: &[u8], end: usize) -> bool
+    requires { end ≤ length plain.now }
+    ensures { result ≡ (end == length plain.now || get_or plain.now end 0 == space) }
+{
+    end == plain.len() || plain[end] == b' '
 }

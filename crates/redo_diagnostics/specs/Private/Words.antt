@@ -1,9 +1,20 @@
--- The first word of some severities.
-use Rattle.std.specs.Prelude.{◌≡◌, ℕ, ◌<◌, List, Option, None, Some, MatchOption}
+-- The words that end at a byte of a plain line.
+use Rattle.std.specs.Prelude.{◌≡◌, ℕ, ◌+◌, ◌≤◌, true, List, Option, length, MatchOption}
 use Rattle.redo_diagnostics.specs.declared.severity.Severity.{Severity}
-use Rattle.redo_diagnostics.specs.Diagnostic.{severity_in}
+use Rattle.redo_diagnostics.specs.Diagnostic.{is_word_at, word_of}
 
--- This is the first place at which a word of these severities is, and the first severity whose word is there; none if there is none.
-abbrev pub IsFirstOf : List Severity → List ℕ → Option (ℕ × Severity) → Type 0
-IsFirstOf severities plain found = MatchOption found ((place : ℕ) → severity_in severities plain place ≡ None)
-    (λ one. (severity_in severities plain one.0 ≡ Some one.1) × ((place : ℕ) → place < one.0 → severity_in severities plain place ≡ None))
+-- The word of this severity is at this place, and ends before this byte.
+abbrev pub IsWordBefore : List ℕ → ℕ → Severity → ℕ → Type 0
+IsWordBefore plain end severity place = (is_word_at plain severity place ≡ true) × (place + length (word_of severity) ≡ end)
+
+-- This is the place of the word of this severity that ends before this byte; none if there is none.
+abbrev pub IsPlaceBefore : List ℕ → ℕ → Severity → Option ℕ → Type 0
+IsPlaceBefore plain end severity found =
+    MatchOption found ((place : ℕ) → ¬ IsWordBefore plain end severity place) (λ place. IsWordBefore plain end severity place)
+
+-- This is the first word of those that end before this byte; none if there is none.
+abbrev pub IsFirstBefore : List ℕ → ℕ → Option (ℕ × Severity) → Type 0
+IsFirstBefore plain end found = MatchOption found
+    ((severity : Severity) (place : ℕ) → ¬ IsWordBefore plain end severity place)
+    (λ one. IsWordBefore plain end one.1 one.0
+    × ((severity : Severity) (place : ℕ) → IsWordBefore plain end severity place → one.0 ≤ place))
