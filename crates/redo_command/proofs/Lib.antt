@@ -1,5 +1,6 @@
 mod ArgumentRows
 mod ExplanationRows
+pub mod FactLemmas
 mod FileLemmas
 pub mod LogLemmas
 mod ProcessRows

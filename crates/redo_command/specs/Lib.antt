@@ -1,4 +1,5 @@
 pub mod Explanation
+pub mod Facts
 pub mod Failure
 pub mod Job
 pub mod LogFile

@@ -21,7 +21,7 @@ use crate::directory::{Shown, find_index};
 use crate::error_keeper::ErrorKeeper;
 use crate::failure::Failure;
 use crate::log_file::{LogFiles, RegularLogFiles};
-use crate::logs::{OpenLog, write_logs};
+use crate::logs::{OpenFacts, OpenLog, write_logs};
 use crate::output::{Output, close_output, create_output};
 use redo_index::Index;
 use redo_line::{Sink, TargetName};
@@ -39,8 +39,8 @@ pub trait Job {
     /// What is known of the logs before the text is written, such as times.
     type Facts: Drop;
 
-    /// Whether these are the facts, from what is known of the log with each number, and the index.
-    ghost are_facts: { Self → (ℕ → Option Stream) → List IndexEntry → Self.Facts → Type 0 };
+    /// Whether these are the facts, from what is known of the log with each number and of the file `facts`, and the index.
+    ghost are_facts: { Self → (ℕ → Option Stream) → Option Stream → List IndexEntry → Self.Facts → Type 0 };
 
     /// The text, from the facts, the logs and the requested targets.
     ghost text: { Self → Self.Facts → List Log → List (List ℕ) → List ℕ };
@@ -67,13 +67,13 @@ pub trait Job {
         ensures { argument_bytes result.now ≡ arguments self.now };
 
     /// Reads the facts. The only error is that an allocation failed.
-    fn read_facts<L: OpenLog>(
+    fn read_facts<L: OpenLog + OpenFacts>(
         &self,
         alloc: Global,
-        logs: &L,
+        files: &L,
         index: &Index,
     ) -> Result<Self::Facts, AllocError>
-        ensures { IfOk result (are_facts self.now (L.known logs.now) index.now) };
+        ensures { IfOk result (are_facts self.now (L.known files.now) (L.known_facts files.now) index.now) };
 
     /// Writes the text, as [`Render::render`] does.
     fn render<W: Sink>(
@@ -118,12 +118,12 @@ impl<J: Job> Render for JobText<'_, J> {
 pub fn write_job<
     T: Threads + Wait + Sync + AllocGlobal,
     J: Job,
-    F: OpenLog,
+    F: OpenLog + OpenFacts,
     S: OpenLog<Log: Send>,
     W: Sink,
 >(rt: &T, job: &J, first: &F, second: &S, index: &Index, out: &mut W) -> Result<(), Failure>
-    ensures written { IsJobWritten (J.are_facts job.now (F.known first.now) index.now) (J.text job.now) (S.known second.now)
-        index.now (J.arguments job.now) (W.written out.old) (W.written out.new) result }
+    ensures written { IsJobWritten (J.are_facts job.now (F.known first.now) (F.known_facts first.now) index.now) (J.text job.now)
+        (S.known second.now) index.now (J.arguments job.now) (W.written out.old) (W.written out.new) result }
     ensures reportable { IfErr result (IsReportable (length index.now) (length (J.arguments job.now))) }
     ensures nonzero_status { IfErr result (λ failure. status_of failure ≢ 0) }
 {
@@ -142,7 +142,8 @@ pub fn write_job<
 }
 
 /// Writes the text of a job: to its output file, or else to `out`. It reads the index and the log files of the job's directory, and
-/// writes what [`write_job`] states, unless the index couldn't be read or memory ran out.
+/// writes what [`write_job`] states, unless the index couldn't be read, the output file couldn't be created or closed, the buffer
+/// couldn't be flushed, or memory ran out.
 ///
 /// Nothing is known of the files, and nothing is stated about the bytes that `out` takes.
 pub fn show_job<
@@ -150,7 +151,7 @@ pub fn show_job<
     J: Job,
     W: Write,
 >(rt: &R, job: &J, out: &mut W) -> Shown
-    ensures shown { IsShownOrNotCreated (IsJobWritten (J.are_facts job.now opaque_logs result.index) (J.text job.now) opaque_logs
+    ensures shown { IsShownOrNotCreated (IsJobWritten (J.are_facts job.now opaque_logs None result.index) (J.text job.now) opaque_logs
         result.index (J.arguments job.now) None None) result.outcome }
     ensures reportable { IfErr result.outcome (IsReportable (length result.index) (length (J.arguments job.now))) }
     ensures nonzero_status { IfErr result.outcome (λ failure. status_of failure ≢ 0) }
@@ -182,7 +183,7 @@ fn show_in_file<R: Files<File: Send> + RandomSource + Threads + Wait + Sync + Al
     job: &J,
     output: Output<'_, R::File>,
 ) -> Shown
-    ensures shown { IsShown (IsJobWritten (J.are_facts job.now opaque_logs result.index) (J.text job.now) opaque_logs
+    ensures shown { IsShown (IsJobWritten (J.are_facts job.now opaque_logs None result.index) (J.text job.now) opaque_logs
         result.index (J.arguments job.now) None None) result.outcome }
     ensures reportable { IfErr result.outcome (IsReportable (length result.index) (length (J.arguments job.now))) }
     ensures nonzero_status { IfErr result.outcome (λ failure. status_of failure ≢ 0) }
@@ -202,7 +203,7 @@ fn show_logs<
     J: Job,
     W: Write,
 >(rt: &R, job: &J, out: &mut W) -> Shown
-    ensures shown { IsShown (IsJobWritten (J.are_facts job.now opaque_logs result.index) (J.text job.now) opaque_logs
+    ensures shown { IsShown (IsJobWritten (J.are_facts job.now opaque_logs None result.index) (J.text job.now) opaque_logs
         result.index (J.arguments job.now) None None) result.outcome }
     ensures reportable { IfErr result.outcome (IsReportable (length result.index) (length (J.arguments job.now))) }
     ensures nonzero_status { IfErr result.outcome (λ failure. status_of failure ≢ 0) }
@@ -229,7 +230,7 @@ fn show_text<R: Files<File: Send> + Threads + Wait + Sync + AllocGlobal, J: Job,
     index: &Index,
     out: &mut W,
 ) -> Result<(), Failure>
-    ensures shown { IsShown (IsJobWritten (J.are_facts job.now opaque_logs index.now) (J.text job.now) opaque_logs
+    ensures shown { IsShown (IsJobWritten (J.are_facts job.now opaque_logs None index.now) (J.text job.now) opaque_logs
         index.now (J.arguments job.now) None None) result }
     ensures reportable { IfErr result (IsReportable (length index.now) (length (J.arguments job.now))) }
     ensures nonzero_status { IfErr result (λ failure. status_of failure ≢ 0) }

@@ -13,6 +13,7 @@ mod buffer;
 mod directory;
 mod error_keeper;
 mod explanation;
+mod facts;
 mod failure;
 mod job;
 mod laws;
@@ -32,11 +33,12 @@ pub use explanation::{
     explain_arguments_as, explain_fault, explain_shown, explanation_as, fault_explanation_as,
     outcome_explanation_as,
 };
+pub use facts::{BuildFacts, read_build_facts, read_log_times, read_recipe_facts};
 pub use failure::{Failure, status};
 pub use job::{Job, show_job, write_job};
 pub use laws::suggestions_are_listed_targets;
 pub use log_file::{LogFile, LogFiles, RegularLogFiles};
-pub use logs::{OpenLog, open_logs, write_logs};
+pub use logs::{OpenFacts, OpenLog, open_logs, write_logs};
 pub use message::fault_line_as;
 pub use names_file::{MAX_BYTES, read_names};
 pub use output::{Output, close_output, create_output};

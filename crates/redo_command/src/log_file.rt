@@ -1,9 +1,9 @@
-ghost use Rattle.std.specs.Prelude.{◌≡◌, ◌↔◌, true, false, IfOk, IfErr, IsOkAnd};
+ghost use Rattle.std.specs.Prelude.{◌≡◌, ◌↔◌, true, false, None, IfOk, IfErr, IsOkAnd};
 ghost use Rattle.std.specs.Fs.{IsFile, file_type};
 ghost use Rattle.std.specs.String.{string_bytes};
-ghost use Rattle.redo_command.specs.Private.Opening.{IsLogFileOf, IsOutOfMemory, log_path};
+ghost use Rattle.redo_command.specs.Private.Opening.{IsLogFileOf, IsOutOfMemory, facts_path, log_path};
 
-use crate::logs::OpenLog;
+use crate::logs::{OpenFacts, OpenLog};
 use itoa::Buffer;
 use redo_line::{Broken, Feed, Reading};
 use std::alloc::{AllocError, Global};
@@ -12,7 +12,7 @@ use std::io::{ErrorKind, Read};
 use std::rt::Files;
 use std::{fs, io};
 
-/// The result of opening the log file of a stream.
+/// The result of opening a log file, or the file `facts`.
 #[derive(Drop)]
 pub enum LogFile<F: Read + Drop> {
     /// The file is open.
@@ -57,9 +57,9 @@ impl<R: Files<File: Send> + AllocGlobal> OpenLog for LogFiles<'_, R> {
     }
 }
 
-/// The log files of a directory that are regular files, or symbolic links to one. Any other log is taken as missing and
-/// isn't opened, because a pipe can be read only once. Such a log and one that can't be opened have no times; if a run reads
-/// them later, it reports the error.
+/// The log files of a directory and its file `facts`, if they are regular files, or symbolic links to one. Any other file is taken as
+/// missing and isn't opened, because a pipe can be read only once. Such a log and one that can't be opened have no times; if a run
+/// reads them later, it reports the error.
 #[derive(Drop)]
 pub struct RegularLogFiles<'a, R> {
     pub rt: &'a R,
@@ -74,12 +74,29 @@ impl<R: Files<File: Send> + AllocGlobal> OpenLog for RegularLogFiles<'_, R> {
     ghost known = { λ files. opaque_logs };
 
     fn open(&self, fid: u32) -> Result<LogFile<R::File>, AllocError> {
-        let path = log_path(self.rt.alloc(), self.dir, fid)?;
-        if is_regular(fs::metadata(self.rt, path.as_str()))? {
-            log_file_of(fs::open(self.rt, path))
-        } else {
-            Ok(LogFile::Missing)
-        }
+        open_regular(self.rt, log_path(self.rt.alloc(), self.dir, fid)?)
+    }
+}
+
+impl<R: Files<File: Send> + AllocGlobal> OpenFacts for RegularLogFiles<'_, R> {
+    type File = LogFile<R::File>;
+
+    ghost known_facts = { λ files. None };
+
+    fn open_facts(&self) -> Result<LogFile<R::File>, AllocError> {
+        open_regular(self.rt, facts_path(self.rt.alloc(), self.dir)?)
+    }
+}
+
+// Opens the file at a path if it is a regular file. Otherwise it is taken as missing.
+fn open_regular<R: Files + AllocGlobal>(
+    rt: &R,
+    path: String,
+) -> Result<LogFile<R::File>, AllocError> {
+    if is_regular(fs::metadata(rt, path.as_str()))? {
+        log_file_of(fs::open(rt, path))
+    } else {
+        Ok(LogFile::Missing)
     }
 }
 
@@ -104,6 +121,13 @@ fn log_path(alloc: Global, dir: &str, fid: u32) -> Result<String, AllocError>
 {
     let mut number = Buffer::new();
     [dir, "/log.", number.format(fid)].concat(alloc)
+}
+
+// Returns the path of the file `facts`.
+fn facts_path(alloc: Global, dir: &str) -> Result<String, AllocError>
+    ensures { IfOk result (λ path. string_bytes path ≡ facts_path dir.now) }
+{
+    format!(in alloc; "{dir}/facts")
 }
 
 // Returns the `LogFile`, from the result of opening its file. By the kind of the error, it is missing exactly if opening found no

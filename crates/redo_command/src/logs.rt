@@ -32,6 +32,19 @@ pub trait OpenLog {
         ensures { IfOk result (λ log. Gives (known self.now fid) (Self.Log.contents log)) };
 }
 
+/// Opens the file `facts` of a directory.
+pub trait OpenFacts {
+    /// A reader of the file.
+    type File: Feed;
+
+    /// The known stream of the file, as [`OpenLog`] has it of a log.
+    ghost known_facts: { Self → Option Stream };
+
+    /// Opens the file. The only error is that an allocation failed.
+    fn open_facts(&self) -> Result<Self::File, AllocError>
+        ensures { IfOk result (λ file. Gives (known_facts self.now) (Self.File.contents file)) };
+}
+
 /// Opens the logs of all targets, in the order of the index.
 ///
 /// One thread opens 3,000 files in 4 ms. Two or four threads would take 57 to 75 ms: whenever the table of open files grows, the

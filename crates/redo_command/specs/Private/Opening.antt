@@ -16,6 +16,10 @@ use Rattle.redo_run.specs.declared.run_fault.RunFault.TheVariants as run
 abbrev pub names_path : List ℕ → List ℕ
 names_path dir = dir ++ codes "/names"
 
+-- The path of the file `facts`.
+abbrev pub facts_path : List ℕ → List ℕ
+facts_path dir = dir ++ codes "/facts"
+
 -- The path of the log file with this number.
 abbrev pub log_path : List ℕ → ℕ → List ℕ
 log_path dir number = dir ++ codes "/log." ++ decimal number

@@ -10,6 +10,6 @@ returns-clause-shown g c = inr (c.write_job-outcome.result, c.write_job-outcome.
 pub returns-in_err-buffer-clause-shown : goal.returns-in_err-buffer-clause-shown
 returns-in_err-buffer-clause-shown g c =
     is_memory_failure
-    (IsJobWritten (g.J.Job.are_facts c.args.job.now opaque_logs c.args.index.now) (g.J.Job.text c.args.job.now) opaque_logs c.args.index.now
-    (g.J.Job.arguments c.args.job.now) None None)
+    (IsJobWritten (g.J.Job.are_facts c.args.job.now opaque_logs None c.args.index.now) (g.J.Job.text c.args.job.now) opaque_logs
+    c.args.index.now (g.J.Job.arguments c.args.job.now) None None)
     c.from_residual.result c.from_residual.ensures.1
