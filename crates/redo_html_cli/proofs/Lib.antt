@@ -1,2 +1,1 @@
 mod RequestRows
-mod Results

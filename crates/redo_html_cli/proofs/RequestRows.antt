@@ -2,6 +2,7 @@
 use Rattle.std.proofs.Common.{◌≡◌, ℕ, Bool, true, false, List, [], ◌∷◌, ◌++◌, Option, None, Some, length, replicate, refl}
 use Rattle.std.specs.Prelude.{codes}
 use Rattle.std.specs.List.{AllByRecursion}
+use Rattle.redo_facts.specs.Facts.{RecipeFacts, nothing}
 use Rattle.redo_html_args.specs.Job.{PageParts}
 use Rattle.redo_html_cli.specs.Request.{request_for}
 use Rattle.redo_page.specs.Page.{Request}
@@ -14,6 +15,9 @@ record Row : Type 0 where
 
 abbrev times : List Times
 times = record { began = Some 1600000000000; ended = Some 1600000001000 } ∷ record { began = None; ended = None } ∷ []
+
+abbrev recipes : List RecipeFacts
+recipes = record { has_log = true; directory = Some (codes "x"); commands = []; usage = None } ∷ nothing ∷ []
 
 -- `redo-log-html --dir d --title t --output f --senders 5 a`, and these options.
 abbrev row : Option (List ℕ) → List ℕ → Bool → Bool → ℕ → List Times → Row
@@ -38,6 +42,7 @@ row title title_is unchanged debug_locks max_bytes times = record {
         debug_locks = debug_locks;
         max_bytes = max_bytes;
         times = times;
+        recipes = recipes;
       };
 }
 
@@ -51,7 +56,7 @@ rows =
     ∷ row None [] false false 18446744073709551615 times
     ∷ []
 
-these_requests : AllByRecursion (λ r. request_for r.job r.times ≡ r.request) rows
+these_requests : AllByRecursion (λ r. request_for r.job r.times recipes ≡ r.request) rows
 these_requests = (refl, (refl, (refl, (refl, (refl, tt)))))
 
 -- A long title, a long directory, and the times of 301 targets.
@@ -73,6 +78,6 @@ long_job = record {
   targets = [];
 }
 
-long_request : (length (request_for long_job many_times).title ≡ 1001) × (length (request_for long_job many_times).dir ≡ 5001)
-    × (length (request_for long_job many_times).times ≡ 301)
+long_request : (length (request_for long_job many_times []).title ≡ 1001) × (length (request_for long_job many_times []).dir ≡ 5001)
+    × (length (request_for long_job many_times []).times ≡ 301)
 long_request = (refl, refl, refl)

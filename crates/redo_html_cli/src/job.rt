@@ -1,15 +1,13 @@
 ghost use Rattle.std.specs.Prelude.{◌≡◌, true, None};
 ghost use Rattle.redo_page.specs.Page.{page_html, request_of};
-ghost use Rattle.redo_html_cli.specs.Times.{AreTimesOfLogs};
+ghost use Rattle.redo_command.specs.Facts.{AreBuildFacts};
 ghost use Rattle.redo_html_cli.specs.Request.{request_for, title_for};
 
-use crate::times::read_log_times;
-use redo_command::{Index, Job, OpenLog};
+use redo_command::{BuildFacts, Index, Job, OpenFacts, OpenLog, read_build_facts};
 use redo_html_args::PageJob;
 use redo_line::{Sink, TargetName};
 use redo_logs::LogTable;
 use redo_page::{PageRequest, write_page};
-use redo_times::Times;
 use redo_view::FormFault;
 use std::alloc::{AllocError, Global};
 use std::marker::Model;
@@ -17,18 +15,18 @@ use std::marker::Model;
 /// The capacity of the mailbox. It is no option, and `--senders` is one, although no byte of a page depends on either.
 const CAPACITY: u32 = 64;
 
-/// A job whose text is a page of the requested targets. Its facts are when the targets began and ended.
+/// A job whose text is a page of the requested targets.
 #[derive(Drop)]
 pub struct HtmlJob {
     pub job: PageJob,
 }
 
 impl Job for HtmlJob {
-    type Facts = Vec<Times>;
+    type Facts = BuildFacts;
 
-    ghost are_facts = { λ html known index times. AreTimesOfLogs known index times.items };
+    ghost are_facts = { λ html logs file index facts. AreBuildFacts logs file index facts };
 
-    ghost text = { λ html times. page_html (request_for html.job times.items) };
+    ghost text = { λ html facts. page_html (request_for html.job facts.times.items facts.recipes.items) };
 
     ghost arguments = { λ html. html.job.targets };
 
@@ -52,30 +50,30 @@ impl Job for HtmlJob {
         self.job.targets()
     }
 
-    fn read_facts<L: OpenLog>(
+    fn read_facts<L: OpenLog + OpenFacts>(
         &self,
         alloc: Global,
-        logs: &L,
+        files: &L,
         index: &Index,
-    ) -> Result<Vec<Times>, AllocError> {
-        read_log_times(alloc, logs, index)
+    ) -> Result<BuildFacts, AllocError> {
+        read_build_facts(alloc, files, index)
     }
 
     fn render<W: Sink>(
         &self,
-        times: &Vec<Times>,
+        facts: &BuildFacts,
         alloc: Global,
         table: &LogTable,
         requested: &[TargetName],
         out: &mut W,
     ) -> Result<(), FormFault> {
-        write_page(alloc, table, &request_for(&self.job, times), requested, out)
+        write_page(alloc, table, &request_for(&self.job, facts), requested, out)
     }
 }
 
-// Returns what the page of a job is asked. `times` are the times of all targets.
-fn request_for<'a>(job: &'a PageJob, times: &'a [Times]) -> PageRequest<'a>
-    ensures { request_of result ≡ request_for job.entry.now times.entry.now }
+// Returns what the page of a job is asked.
+fn request_for<'a>(job: &'a PageJob, facts: &'a BuildFacts) -> PageRequest<'a>
+    ensures { request_of result ≡ request_for job.entry.now facts.entry.now.times.items facts.entry.now.recipes.items }
 {
     PageRequest {
         title: title_of(job),
@@ -83,7 +81,8 @@ fn request_for<'a>(job: &'a PageJob, times: &'a [Times]) -> PageRequest<'a>
         unchanged: job.unchanged(),
         debug_locks: job.debug_locks(),
         max_bytes: job.max_bytes(),
-        times,
+        times: &facts.times,
+        recipes: &facts.recipes,
     }
 }
 

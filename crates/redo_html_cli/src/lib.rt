@@ -6,7 +6,6 @@
 
 mod job;
 mod program;
-mod times;
 
 pub use job::HtmlJob;
 pub use program::HtmlProgram;

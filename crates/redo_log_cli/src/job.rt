@@ -2,7 +2,7 @@ ghost use Rattle.std.specs.Prelude.{⊤, true, None};
 ghost use Rattle.redo_view.specs.Expansion.{expansion};
 
 use redo_args::Job;
-use redo_command::{Index, OpenLog};
+use redo_command::{Index, OpenFacts, OpenLog};
 use redo_line::{Sink, TargetName};
 use redo_logs::LogTable;
 use redo_view::{FormFault, PlainText, Render};
@@ -18,7 +18,7 @@ pub struct TextJob {
 impl redo_command::Job for TextJob {
     type Facts = ();
 
-    ghost are_facts = { λ text known index facts. ⊤ };
+    ghost are_facts = { λ text logs file index facts. ⊤ };
 
     ghost text = { λ text facts logs requested. expansion logs text.job.options requested };
 
@@ -44,10 +44,10 @@ impl redo_command::Job for TextJob {
         self.job.targets()
     }
 
-    fn read_facts<L: OpenLog>(
+    fn read_facts<L: OpenLog + OpenFacts>(
         &self,
         _alloc: Global,
-        _logs: &L,
+        _files: &L,
         _index: &Index,
     ) -> Result<(), AllocError> {
         Ok(())
