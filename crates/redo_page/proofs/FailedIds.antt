@@ -5,6 +5,7 @@ use Rattle.std.specs.List.{flat_map, list_all}
 use Rattle.std.proofs.lemmas.Bool.{and_from, and_parts, eq-eqb, lt-ltb, or_left, or_right}
 use Rattle.std.proofs.lemmas.Grind.{flat_map-append}
 use Rattle.std.proofs.lemmas.List.{append_assoc, append-nil}
+use Rattle.redo_facts.specs.Facts.{RecipeFacts}
 use Rattle.redo_logs.specs.Logs.{Log}
 use Rattle.redo_html.specs.declared.markup.Markup.TheVariants as markup
 use Rattle.redo_html.specs.declared.style.Style.{Style}
@@ -21,9 +22,11 @@ use Rattle.redo_page.specs.Excerpt.Stretch.{Shown, LeftOut}
 use Rattle.redo_units.specs.Durations.{duration_words}
 use Rattle.redo_page.specs.Article.{article_of, article_parts, article_took, cause_of_node, cause_parts, max_path, nothing_parts, output_line_parts, output_parts, path_parts, printed_by, whole_parts}
 use Rattle.redo_page.specs.Failed.{positions_where}
+use Rattle.redo_page.specs.Recipe.{recipe_at}
 use Rattle.redo_page.specs.Laws.{is_among}
 use Rattle.redo_page.specs.Tree.{articles, is_root_failure, root_failures, root_failures_from, is_short, max_articles, node_at}
 use Rattle.redo_page.proofs.FailedOrder.{sort-passes}
+use Rattle.redo_page.proofs.RecipeLemmas.{recipe_bare}
 use Rattle.redo_page.proofs.Ids.{Bare, Refer, badge_bare, bare_refers, bare_then, link_refers, refer_each, same_refer, then_refer, words_bare}
 
 -- ---- positions
@@ -201,8 +204,9 @@ module _ (count : ℕ) (listed : List ℕ) where
         by false true = whole_refers (printed_by logs node)
         by false false = excerpt_refers position (printed_by logs node) below
 
+  module _ (logs : List Log) (nodes : List Node) (recipes : List RecipeFacts) where
     article_refers : (position : ℕ) → nat_lt position count ≡ true
-        → Refer count listed (article_parts logs nodes position) [] (position ∷ [])
+        → Refer count listed (article_parts logs nodes recipes position) [] (position ∷ [])
     unfolding article_parts article_of
     article_refers position below =
         let node = node_at nodes position in
@@ -215,13 +219,14 @@ module _ (count : ℕ) (listed : List ℕ) where
           article_took_bare node.took,
           path_bare logs nodes
               (max_path logs nodes) node.parent,
+          recipe_bare (recipe_at recipes node.number),
         ))
         (then_refer {parts = MarkupPart (markup.Article position) ∷ []}
         (record { target_ids_are = refl; article_ids_are = refl; target_links_lead = refl; article_links_lead = refl; sections_are = refl })
-        (then_refer (in_tree_refers position PLACE_IN_TREE.now below) (output_refers position node below)))
+        (then_refer (in_tree_refers position PLACE_IN_TREE.now below) (output_refers logs nodes position node below)))
 
     pub articles_refer : (positions : List ℕ) → AreBelow count positions
-        → Refer count listed (flat_map (article_parts logs nodes) positions) [] positions
+        → Refer count listed (flat_map (article_parts logs nodes recipes) positions) [] positions
     articles_refer [] below = bare_refers [] refl
     articles_refer (position ∷ positions) below =
         let parts = and_parts (nat_lt position count) (list_all (λ number. nat_lt number count) positions) below in

@@ -6,6 +6,7 @@ use Rattle.std.proofs.lemmas.Bool.{and_parts, not-true}
 use Rattle.std.proofs.lemmas.Grind.{flat_map-append}
 use Rattle.std.proofs.lemmas.List.{append-nil}
 use Rattle.redo_line.specs.Lines.{with_line_feed}
+use Rattle.redo_facts.specs.Facts.{RecipeFacts}
 use Rattle.redo_logs.specs.Logs.{Log}
 use Rattle.redo_html.specs.declared.markup.Markup.TheVariants as markup
 use Rattle.redo_html.specs.declared.style.Style.{Style}
@@ -19,9 +20,11 @@ use Rattle.redo_page.specs.Errors.{is_error}
 use Rattle.redo_page.specs.Excerpt.{emphasized_if, excerpt_parts, in_tree_parts}
 use Rattle.redo_page.specs.Article.{article_of, article_parts, max_path, nothing_parts, output_line_parts, output_parts, printed_by, whole_parts}
 use Rattle.redo_page.specs.Laws.{log_bytes, log_text}
+use Rattle.redo_page.specs.Recipe.{recipe_at}
 use Rattle.redo_page.specs.Tree.{is_short, node_at}
 use Rattle.redo_page.proofs.Ids.{badge_bare}
 use Rattle.redo_page.proofs.FailedIds.{article_took_bare, path_bare}
+use Rattle.redo_page.proofs.RecipeLemmas.{recipe_bare}
 use Rattle.redo_page.proofs.TreeLines.{same_text}
 
 emphasized_text : (condition : Bool) (parts : List Part) → log_bytes (emphasized_if condition parts) ≡ log_bytes parts
@@ -60,13 +63,14 @@ unfolding in_tree_parts
 in_tree_text position text = refl
 
 -- An article with a short output shows it as it is.
-pub article_text : (logs : List Log) (nodes : List Node) (position : ℕ) → is_short (node_at nodes position) ≡ true
-    → log_bytes (article_parts logs nodes position) ≡ flat_map with_line_feed (printed_by logs (node_at nodes position))
+pub article_text : (logs : List Log) (nodes : List Node) (recipes : List RecipeFacts) (position : ℕ)
+    → is_short (node_at nodes position) ≡ true
+    → log_bytes (article_parts logs nodes recipes position) ≡ flat_map with_line_feed (printed_by logs (node_at nodes position))
 unfolding article_parts article_of
-article_text logs nodes position short =
+article_text logs nodes recipes position short =
     let node = node_at nodes position in
     let link = in_tree_parts position PLACE_IN_TREE.now in
-    same_text (article_parts logs nodes position) (MarkupPart (markup.Article position) ∷ (link ++ output_parts logs position node))
+    same_text (article_parts logs nodes recipes position) (MarkupPart (markup.Article position) ∷ (link ++ output_parts logs position node))
     (simp (
       flat_map-append,
       append-nil,
@@ -74,6 +78,7 @@ article_text logs nodes position short =
       article_took_bare node.took,
       path_bare logs nodes
           (max_path logs nodes) node.parent,
+      recipe_bare (recipe_at recipes node.number),
     ))
     ∙ flat_map-append log_text link (output_parts logs position node)
     ∙ ap (λ t. t ++ log_bytes (output_parts logs position node)) (in_tree_text position PLACE_IN_TREE.now)

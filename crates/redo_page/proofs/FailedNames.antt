@@ -1,9 +1,10 @@
 -- The names of targets in the sections before the tree.
-use Rattle.std.proofs.Common.{◌≡◌, ℕ, Bool, true, false, List, [], ◌∷◌, ◌++◌, Option, None, Some, refl, sym, ◌∙◌, ap, subst, inl, inr}
+use Rattle.std.proofs.Common.{◌≡◌, ℕ, ◌*◌, Bool, true, false, List, [], ◌∷◌, ◌++◌, Option, None, Some, refl, sym, ◌∙◌, ap, subst, inl, inr}
 use Rattle.std.specs.Prelude.{◌==◌, ◌||◌, ◌&&◌, length, map, not, take, if◌then◌else◌}
 use Rattle.std.specs.List.{AllByRecursion, flat_map, list_all}
 use Rattle.std.proofs.lemmas.Bool.{and_parts}
 use Rattle.std.proofs.lemmas.List.{append_assoc}
+use Rattle.redo_facts.specs.declared.statement.Usage.{Usage}
 use Rattle.redo_logs.specs.Logs.{Log}
 use Rattle.redo_html.specs.declared.markup.Markup.{Markup}
 use Rattle.redo_html.specs.declared.markup.Markup.TheVariants as markup
@@ -14,7 +15,7 @@ use Rattle.redo_html.specs.Parts.Part.{ChartPart, LogPart, MarkupPart, TextPart,
 use Rattle.redo_html.specs.Style.{plain_style}
 use Rattle.redo_line.specs.Lines.{with_line_feed}
 use Rattle.redo_outline.specs.declared.node.Node.{Node}
-use Rattle.redo_outline.specs.Facts.{target_at}
+use Rattle.redo_outline.specs.Facts.{saturated, target_at}
 use Rattle.redo_page.specs.declared.labels.TheConstants.{AND, COUNT_NOT_CLOSED, FAILED_WITH_THESE, IN_ITS_LOG, MORE_IN_TREE, MORE_FAILED, MORE_LINE, MORE_LINES, PLACE_IN_TREE, WHAT_FAILED}
 use Rattle.redo_page.specs.declared.failed.TheConstants.{DEPENDENTS, LIST, OTHERS, UNCLOSED}
 use Rattle.redo_page.specs.declared.scope.Count.{Count}
@@ -22,9 +23,9 @@ use Rattle.redo_page.specs.declared.scope.Count.TheVariants.{All, Unlisted, Valu
 use Rattle.redo_page.specs.declared.scope.Listed.{Listed}
 use Rattle.redo_page.specs.declared.scope.Listed.TheVariants as listed
 use Rattle.redo_page.specs.declared.scope.Measure.{Measure}
-use Rattle.redo_page.specs.declared.scope.Measure.TheVariants.{Duration}
+use Rattle.redo_page.specs.declared.scope.Measure.TheVariants.{Duration, Memory}
 use Rattle.redo_page.specs.declared.scope.Rows.{Rows}
-use Rattle.redo_page.specs.declared.scope.Rows.TheVariants.{Longest, Warned}
+use Rattle.redo_page.specs.declared.scope.Rows.TheVariants.{Longest, LongestAlone, MostMemory, Warned}
 use Rattle.redo_page.specs.declared.scope.Test.{Test}
 use Rattle.redo_page.specs.declared.scope.Test.TheVariants.{HasAny, HasFailed, HasSeveral, HasUnlisted}
 use Rattle.redo_page.specs.declared.template.Around.TheVariants.{If, Unless, Each, EachTarget, EachOf}
@@ -36,8 +37,9 @@ use Rattle.redo_page.specs.Excerpt.{Stretch, cut_to, emphasized_if, error_positi
 use Rattle.redo_page.specs.Excerpt.Stretch.{Shown, LeftOut}
 use Rattle.redo_page.specs.Article.{article_of, article_parts, article_took, cause_of_node, cause_parts, max_path, nothing_parts, output_line_parts, output_parts, path_parts, printed_by, whole_parts}
 use Rattle.redo_page.specs.Failed.{failed_parts}
-use Rattle.redo_page.specs.Laws.{BeginWith, IsList, IsRow, TellsItsTarget, list_item, target_name}
+use Rattle.redo_page.specs.Laws.{BeginWith, IsList, IsRow, KnownRecipes, TellsItsTarget, list_item, target_name}
 use Rattle.redo_page.specs.Scope.{View, count_of, holds, max_rows, measure_words, positions_of, row_name, row_view, rows_of, target_view}
+use Rattle.redo_page.specs.Recipe.{recipe_at, recipe_parts}
 use Rattle.redo_page.specs.Targets.{badge_parts, linked_parts, name_parts, parts_if, plural}
 use Rattle.redo_page.specs.Template.{Block, Template, block_parts, parts_of_item, parts_of_items, nothing, template_parts}
 use Rattle.redo_page.specs.Timeline.{facts_drawing, timeline_if, timeline_parts}
@@ -46,27 +48,37 @@ use Rattle.redo_page.specs.Words.{word_part, words_parts}
 use Rattle.redo_page.proofs.FailedIds.{article_took_bare, path_bare}
 use Rattle.redo_page.proofs.Ids.{Bare, badge_bare, bare_each, is_reference, is_section, word_bare}
 use Rattle.redo_page.proofs.NameLemmas.{Tells, article_link_tells, bare_tell, calm_tell, is_calm, is_calm_tag, linked_tells, log_link_tells, none_tell, place_link_tells, target_link_tells, tell_each, tell_if, then_tell}
+use Rattle.redo_page.proofs.RecipeLemmas.{recipe_bare}
 use Rattle.redo_page.proofs.TemplateIds.{Place, began_bare, body_bare, is_row, none_refer, only_known, only_tag}
 use Rattle.redo_page.proofs.TemplateIds.Place.{Outside, Failing, InTargets, InRows, InList}
 use Rattle.redo_summary.specs.declared.rank.Rank.{Rank}
+use Rattle.redo_summary.specs.Laws.{HasTimeAlone}
 use Rattle.redo_summary.specs.Summary.{is_timed}
+use Rattle.redo_summary.specs.Usage.{usage_at}
 use Rattle.redo_summary.specs.Window.{cut}
+use Rattle.redo_timeline.specs.Alone.{alone}
 use Rattle.redo_timeline.specs.declared.span.Window.{Window}
 use Rattle.redo_units.specs.Durations.{duration_words}
+use Rattle.redo_units.specs.Sizes.{size_words}
 
-module _ (logs : List Log) (nodes : List Node) where
+-- What a view knows of recipes.
+abbrev pub known_in : View → KnownRecipes
+known_in view = record { facts = view.recipes; spans = view.facts.recipes }
+
+module _ (recipes : KnownRecipes) (logs : List Log) (nodes : List Node) where
   abbrev Telling : List Part → Type 0
-  Telling parts = Tells logs nodes parts
+  Telling parts = Tells recipes logs nodes parts
 
   tag_tells : (tag : Markup) → is_calm (MarkupPart tag) ≡ true → Telling (MarkupPart tag ∷ [])
-  tag_tells tag calm = record { before = λ rest tell. (calm_tell logs nodes (MarkupPart tag ∷ []) (rw calm refl)).before rest tell }
+  tag_tells tag calm = record { before = λ rest tell. (calm_tell recipes logs nodes (MarkupPart tag ∷ []) (rw calm refl)).before rest tell }
 
   -- ---- outputs
 
   emphasized_tells : (condition : Bool) {parts : List Part} → Telling parts → Telling (emphasized_if condition parts)
   emphasized_tells true tells =
-      then_tell logs nodes {parts = MarkupPart markup.Emphasis ∷ []} (bare_tell logs nodes _ refl)
-      (then_tell logs nodes tells (bare_tell logs nodes (MarkupPart markup.EndEmphasis ∷ []) refl))
+      then_tell recipes logs nodes {parts = MarkupPart markup.Emphasis ∷ []}
+      (bare_tell recipes logs nodes _ refl)
+      (then_tell recipes logs nodes tells (bare_tell recipes logs nodes (MarkupPart markup.EndEmphasis ∷ []) refl))
   emphasized_tells false tells = tells
 
   excerpt_line_tells : (line : List ℕ) → Telling (excerpt_line_parts line)
@@ -78,42 +90,44 @@ module _ (logs : List Log) (nodes : List Node) where
   left_out_tells : (position left_out : ℕ) → Telling (left_out_parts position left_out)
   unfolding left_out_parts in_tree_parts
   left_out_tells position left_out =
-      then_tell logs nodes
+      then_tell recipes logs nodes
       {parts = MarkupPart markup.CutParagraph ∷ NumberPart left_out ∷ TextPart (plural left_out MORE_LINE.now MORE_LINES.now) ∷ []}
-      (bare_tell logs nodes _ refl)
-      (then_tell logs nodes
+      (bare_tell recipes logs nodes _ refl)
+      (then_tell recipes logs nodes
       {parts = MarkupPart (markup.TargetLink position) ∷ TextPart IN_ITS_LOG.now ∷ MarkupPart markup.EndLink ∷ []}
-      (log_link_tells logs nodes position) (bare_tell logs nodes (MarkupPart markup.EndParagraph ∷ []) refl))
+      (log_link_tells recipes logs nodes position) (bare_tell recipes logs nodes (MarkupPart markup.EndParagraph ∷ []) refl))
 
   stretch_tells : (position : ℕ) (stretch : Stretch) → Telling (stretch_parts position stretch)
   stretch_tells position (Shown lines) =
-      then_tell logs nodes {parts = MarkupPart markup.Pre ∷ []} (bare_tell logs nodes _ refl)
-      (then_tell logs nodes (tell_each logs nodes excerpt_line_parts excerpt_line_tells lines)
-      (bare_tell logs nodes (MarkupPart markup.EndPre ∷ []) refl))
+      then_tell recipes logs nodes {parts = MarkupPart markup.Pre ∷ []}
+      (bare_tell recipes logs nodes _ refl)
+      (then_tell recipes logs nodes (tell_each recipes logs nodes excerpt_line_parts excerpt_line_tells lines)
+      (bare_tell recipes logs nodes (MarkupPart markup.EndPre ∷ []) refl))
   stretch_tells position (LeftOut left_out) = left_out_tells position left_out
 
   excerpt_tells : (position : ℕ) (lines : List (List ℕ)) → Telling (excerpt_parts position lines)
   unfolding excerpt_parts
   excerpt_tells position lines =
-      tell_each logs nodes (stretch_parts position) (stretch_tells position)
+      tell_each recipes logs nodes (stretch_parts position) (stretch_tells position)
       (stretches_from (is_kept (length lines) (error_position lines)) 0 lines)
 
   lines_tell : (style : Style) (lines : List (List ℕ)) → Telling (output_line_parts style lines)
-  lines_tell style [] = none_tell logs nodes
+  lines_tell style [] = none_tell recipes logs nodes
   lines_tell style (line ∷ lines) =
-      then_tell logs nodes
+      then_tell recipes logs nodes
       (emphasized_tells (is_error line) {parts = LogPart style (with_line_feed line) ∷ []} (record { before = λ rest tell. (tt, tell) }))
       (lines_tell (style_after style (with_line_feed line)) lines)
 
   whole_tells : (lines : List (List ℕ)) → Telling (whole_parts lines)
   unfolding whole_parts
   whole_tells lines =
-      then_tell logs nodes {parts = MarkupPart markup.Pre ∷ []} (bare_tell logs nodes _ refl)
-      (then_tell logs nodes (lines_tell plain_style lines) (bare_tell logs nodes (MarkupPart markup.EndPre ∷ []) refl))
+      then_tell recipes logs nodes {parts = MarkupPart markup.Pre ∷ []}
+      (bare_tell recipes logs nodes _ refl)
+      (then_tell recipes logs nodes (lines_tell plain_style lines) (bare_tell recipes logs nodes (MarkupPart markup.EndPre ∷ []) refl))
 
   nothing_tells : (node : Node) → Telling (nothing_parts node)
   unfolding nothing_parts
-  nothing_tells node = bare_tell logs nodes (nothing_parts node) refl
+  nothing_tells node = bare_tell recipes logs nodes (nothing_parts node) refl
 
   output_tells : (position : ℕ) (node : Node) → Telling (output_parts logs position node)
   unfolding output_parts
@@ -128,7 +142,7 @@ module _ (logs : List Log) (nodes : List Node) where
 
   cause_tells : (line : Option (List ℕ)) → Telling (cause_parts line)
   unfolding cause_parts
-  cause_tells None = none_tell logs nodes
+  cause_tells None = none_tell recipes logs nodes
   cause_tells (Some line) = record { before = λ rest tell. (tt, (tt, (tt, (tt, tell)))) }
 
   cause_of_node_tells : (node : Node) → Telling (cause_of_node logs node)
@@ -137,7 +151,7 @@ module _ (logs : List Log) (nodes : List Node) where
 
   -- ---- articles
 
-  article_tells : (position : ℕ) → Telling (article_parts logs nodes position)
+  article_tells : (position : ℕ) → Telling (article_parts logs nodes recipes.facts position)
   unfolding article_parts article_of in_tree_parts
   article_tells position =
       let node = node_at nodes position in
@@ -145,16 +159,20 @@ module _ (logs : List Log) (nodes : List Node) where
       let heading = MarkupPart markup.EndTitle3 ∷ MarkupPart markup.MetaParagraph ∷ article_took node.took in
       let path = path_parts logs nodes (max_path logs nodes) node.parent in
       let link = MarkupPart (markup.TargetLink position) ∷ TextPart PLACE_IN_TREE.now ∷ MarkupPart markup.EndLink ∷ [] in
-      let output = output_parts logs position node ++ MarkupPart markup.EndArticle ∷ [] in
-      let all = then_tell logs nodes {parts = MarkupPart markup.Title3 ∷ name} (bare_tell logs nodes _ refl)
-      (then_tell logs nodes (bare_tell logs nodes (badge_parts node.status) (badge_bare node.status))
-      (then_tell logs nodes {parts = MarkupPart markup.EndTitle3 ∷ MarkupPart markup.MetaParagraph ∷ []} (bare_tell logs nodes _ refl)
-      (then_tell logs nodes (bare_tell logs nodes (article_took node.took) (article_took_bare node.took))
-      (then_tell logs nodes (bare_tell logs nodes path (path_bare logs nodes (max_path logs nodes) node.parent))
-      (then_tell logs nodes {parts = link} (place_link_tells logs nodes position)
-      (then_tell logs nodes {parts = MarkupPart markup.EndParagraph ∷ []} (bare_tell logs nodes _ refl)
-      (then_tell logs nodes (output_tells position node)
-      (bare_tell logs nodes (MarkupPart markup.EndArticle ∷ []) refl)))))))) in
+      let recipe = recipe_parts (recipe_at recipes.facts node.number) in
+      let output = recipe ++ (output_parts logs position node ++ MarkupPart markup.EndArticle ∷ []) in
+      let all = then_tell recipes logs nodes {parts = MarkupPart markup.Title3 ∷ name} (bare_tell recipes logs nodes _ refl)
+      (then_tell recipes logs nodes (bare_tell recipes logs nodes (badge_parts node.status) (badge_bare node.status))
+      (then_tell recipes logs nodes {parts = MarkupPart markup.EndTitle3 ∷ MarkupPart markup.MetaParagraph ∷ []}
+      (bare_tell recipes logs nodes _ refl)
+      (then_tell recipes logs nodes (bare_tell recipes logs nodes (article_took node.took) (article_took_bare node.took))
+      (then_tell recipes logs nodes (bare_tell recipes logs nodes path (path_bare logs nodes (max_path logs nodes) node.parent))
+      (then_tell recipes logs nodes {parts = link} (place_link_tells recipes logs nodes position)
+      (then_tell recipes logs nodes {parts = MarkupPart markup.EndParagraph ∷ []}
+      (bare_tell recipes logs nodes _ refl)
+      (then_tell recipes logs nodes (bare_tell recipes logs nodes recipe (recipe_bare (recipe_at recipes.facts node.number)))
+      (then_tell recipes logs nodes (output_tells position node)
+      (bare_tell recipes logs nodes (MarkupPart markup.EndArticle ∷ []) refl))))))))) in
       record {
         before = λ rest tell. (
           (output ++ rest, split name (badge_parts node.status) (article_took node.took) path output rest),
@@ -176,10 +194,10 @@ module _ (logs : List Log) (nodes : List Node) where
 
 module _ (view : View) where
   abbrev TellingOf : List Part → Type 0
-  TellingOf parts = Tells view.logs view.nodes parts
+  TellingOf parts = Tells (known_in view) view.logs view.nodes parts
 
   calm : (parts : List Part) → list_all is_calm parts ≡ true → TellingOf parts
-  calm parts is = calm_tell view.logs view.nodes parts is
+  calm parts is = calm_tell (known_in view) view.logs view.nodes parts is
 
   -- Each link tells its target.
   abbrev LinksTell : (ℕ → Markup) → Type 0
@@ -190,13 +208,15 @@ module _ (view : View) where
       → TellingOf (list_item view.logs view.nodes link causes position)
   item_tells_target link causes tells position =
       let node = node_at view.nodes position in
-      then_tell view.logs view.nodes {parts = MarkupPart markup.Item ∷ []} (calm _ refl)
-      (then_tell view.logs view.nodes
+      then_tell (known_in view) view.logs view.nodes {parts = MarkupPart markup.Item ∷ []} (calm _ refl)
+      (then_tell (known_in view) view.logs view.nodes
       {parts = MarkupPart (link position) ∷ (name_parts (target_name view.logs view.nodes position) ++ MarkupPart markup.EndLink ∷ [])}
       (tells position)
-      (then_tell view.logs view.nodes (bare_tell view.logs view.nodes (badge_parts node.status) (badge_bare node.status))
-      (then_tell view.logs view.nodes
-      (tell_if view.logs view.nodes causes (cause_tells view.logs view.nodes (cause_of (printed_by view.logs node))))
+      (then_tell (known_in view) view.logs view.nodes
+      (bare_tell (known_in view) view.logs view.nodes (badge_parts node.status) (badge_bare node.status))
+      (then_tell (known_in view) view.logs view.nodes
+      (tell_if (known_in view) view.logs view.nodes causes
+      (cause_tells (known_in view) view.logs view.nodes (cause_of (printed_by view.logs node))))
       (calm (MarkupPart markup.EndItem ∷ []) refl))))
 
   rows_split : (rows others rest : List Part)
@@ -205,15 +225,16 @@ module _ (view : View) where
 
   -- A list of targets, and the parts after it.
   list_then : (link : ℕ → Markup) (causes : Bool) → LinksTell link → (list : Markup)
-      → ((after : List Part) → IsList view.logs view.nodes link after → TellsItsTarget view.logs view.nodes list after)
+      → ((after : List Part) → IsList view.logs view.nodes link after → TellsItsTarget view.logs view.nodes (known_in view) list after)
       → (positions : List ℕ) (others : List Part) → TellingOf others
       → TellingOf (MarkupPart list
       ∷ (flat_map (list_item view.logs view.nodes link causes) positions ++ (MarkupPart markup.EndOrdered ∷ others)))
   list_then link causes tells list says positions others more =
       let rows = flat_map (list_item view.logs view.nodes link causes) positions in
-      let all = then_tell view.logs view.nodes
-      (tell_each view.logs view.nodes (list_item view.logs view.nodes link causes) (item_tells_target link causes tells) positions)
-      (then_tell view.logs view.nodes {parts = MarkupPart markup.EndOrdered ∷ []} (calm _ refl) more) in
+      let all = then_tell (known_in view) view.logs view.nodes
+      (tell_each (known_in view) view.logs view.nodes (list_item view.logs view.nodes link causes)
+      (item_tells_target link causes tells) positions)
+      (then_tell (known_in view) view.logs view.nodes {parts = MarkupPart markup.EndOrdered ∷ []} (calm _ refl) more) in
       record {
         before = λ rest tell. (
           says ((rows ++ (MarkupPart markup.EndOrdered ∷ others)) ++ rest)
@@ -231,8 +252,9 @@ module _ (view : View) where
   list_tells : TellingOf (in_list LIST)
   unfolding cause_of_node
   list_tells =
-      list_then (λ position. markup.OutputLink position) true (article_link_tells view.logs view.nodes) markup.Ordered (λ after is. inl is)
-      (listed_of listed.Articles) [] (none_tell view.logs view.nodes)
+      list_then (λ position. markup.OutputLink position) true (article_link_tells (known_in view) view.logs view.nodes) markup.Ordered
+      (λ after is. inl is)
+      (listed_of listed.Articles) [] (none_tell (known_in view) view.logs view.nodes)
 
   -- How many targets aren't listed, and the end of more targets.
   abbrev unlisted : Listed → List Part
@@ -245,23 +267,24 @@ module _ (view : View) where
 
   more_end_tells : (these : Listed) → TellingOf (more_end these)
   more_end_tells these =
-      then_tell view.logs view.nodes {parts = parts_if (holds view (HasUnlisted these)) (unlisted these)}
-      (tell_if view.logs view.nodes (holds view (HasUnlisted these)) (calm (unlisted these) refl))
+      then_tell (known_in view) view.logs view.nodes {parts = parts_if (holds view (HasUnlisted these)) (unlisted these)}
+      (tell_if (known_in view) view.logs view.nodes (holds view (HasUnlisted these)) (calm (unlisted these) refl))
       (calm (MarkupPart markup.EndDetails ∷ []) refl)
 
   more_tell : (list : Markup) (causes : Bool)
       → ((after : List Part) → IsList view.logs view.nodes (λ position. markup.TargetLink position) after
-      → TellsItsTarget view.logs view.nodes list after)
+      → TellsItsTarget view.logs view.nodes (known_in view) list after)
       → (these : Listed) (heading : List ℕ)
       → TellingOf (MarkupPart markup.MoreDetails ∷ MarkupPart markup.Summary ∷ NumberPart (count_of view (All these)) ∷ TextPart heading
       ∷ MarkupPart markup.EndSummary ∷ MarkupPart list
       ∷ (flat_map (list_item view.logs view.nodes (λ position. markup.TargetLink position) causes) (listed_of these)
       ++ (MarkupPart markup.EndOrdered ∷ more_end these)))
   more_tell list causes says these heading =
-      then_tell view.logs view.nodes
+      then_tell (known_in view) view.logs view.nodes
       {parts = MarkupPart markup.MoreDetails ∷ MarkupPart markup.Summary ∷ NumberPart (count_of view (All these)) ∷ TextPart heading
       ∷ MarkupPart markup.EndSummary ∷ []} (calm _ refl)
-      (list_then (λ position. markup.TargetLink position) causes (target_link_tells view.logs view.nodes) list says (listed_of these)
+      (list_then (λ position. markup.TargetLink position) causes (target_link_tells (known_in view) view.logs view.nodes) list says
+      (listed_of these)
       (more_end these) (more_end_tells these))
 
   others_tell : TellingOf (in_list OTHERS)
@@ -278,31 +301,35 @@ module _ (view : View) where
   unfolding failed_parts
   failed_tells =
       let some = λ (test : Test) (parts : List Part) (tells : TellingOf parts).
-      tell_if view.logs view.nodes (holds view test) {parts = parts} tells in
-      then_tell view.logs view.nodes
-      (tell_if view.logs view.nodes (holds view HasFailed)
-      (then_tell view.logs view.nodes
+      tell_if (known_in view) view.logs view.nodes (holds view test) {parts = parts} tells in
+      then_tell (known_in view) view.logs view.nodes
+      (tell_if (known_in view) view.logs view.nodes (holds view HasFailed)
+      (then_tell (known_in view) view.logs view.nodes
       {parts = MarkupPart markup.FailedSection ∷ MarkupPart markup.FailedHeading ∷ TextPart WHAT_FAILED.now ∷ MarkupPart markup.EndHeading
       ∷ []} (calm _ refl)
-      (then_tell view.logs view.nodes (some (HasSeveral listed.Articles) (in_list LIST) list_tells)
-      (then_tell view.logs view.nodes
-      (tell_each view.logs view.nodes (article_parts view.logs view.nodes) (article_tells view.logs view.nodes)
+      (then_tell (known_in view) view.logs view.nodes (some (HasSeveral listed.Articles) (in_list LIST) list_tells)
+      (then_tell (known_in view) view.logs view.nodes
+      (tell_each (known_in view) view.logs view.nodes (article_parts view.logs view.nodes view.recipes)
+      (article_tells (known_in view) view.logs view.nodes)
       (positions_of view listed.Articles))
-      (then_tell view.logs view.nodes (some (HasAny listed.Others) (in_list OTHERS) others_tell)
-      (then_tell view.logs view.nodes (some (HasAny listed.Dependents) (in_list DEPENDENTS) dependents_tell)
-      (then_tell view.logs view.nodes (some (HasAny listed.Unclosed) (in_list UNCLOSED) unclosed_tell)
+      (then_tell (known_in view) view.logs view.nodes (some (HasAny listed.Others) (in_list OTHERS) others_tell)
+      (then_tell (known_in view) view.logs view.nodes (some (HasAny listed.Dependents) (in_list DEPENDENTS) dependents_tell)
+      (then_tell (known_in view) view.logs view.nodes (some (HasAny listed.Unclosed) (in_list UNCLOSED) unclosed_tell)
       (calm (MarkupPart markup.EndSection ∷ []) refl))))))))
-      (none_tell view.logs view.nodes)
+      (none_tell (known_in view) view.logs view.nodes)
 
 -- ---- templates
 
--- The value of a row is how long its target took, or how many warnings it has.
-abbrev pub IsValueOf : Rows → Node → ℕ → Type 0
-IsValueOf Longest node value = (took : ℕ) × (node.took ≡ Some took) × (value ≡ cut took)
-IsValueOf Warned node value = value ≡ node.warnings
+-- The value of a row is how long its target took or was the only one that ran, how much memory its recipe had, or how many warnings it has.
+abbrev pub IsValueOf : KnownRecipes → Rows → Node → Rank → Type 0
+IsValueOf recipes Longest node rank = (took : ℕ) × (node.took ≡ Some took) × (rank.value ≡ cut took)
+IsValueOf recipes LongestAlone node rank = HasTimeAlone recipes.spans rank
+IsValueOf recipes MostMemory node rank =
+    (usage : Usage) × (usage_at recipes.facts node.number ≡ Some usage) × (rank.value ≡ usage.peak_kb)
+IsValueOf recipes Warned node rank = rank.value ≡ node.warnings
 
 abbrev IsRank : View → Rows → Rank → Type 0
-IsRank view rows rank = IsValueOf rows (node_at view.nodes rank.position) rank.value
+IsRank view rows rank = IsValueOf (known_in view) rows (node_at view.nodes rank.position) rank
 
 abbrev pub HasValues : View → Type 0
 HasValues view = (rows : Rows) → AllByRecursion (IsRank view rows) (rows_of view rows)
@@ -310,7 +337,8 @@ HasValues view = (rows : Rows) → AllByRecursion (IsRank view rows) (rows_of vi
 -- In a row, a view has the target at the row's position, and its value.
 abbrev IsNamedRow : Place → View → Type 0
 IsNamedRow (InRows rows) view =
-    (node_at view.nodes view.rank.position ≡ view.node) × IsValueOf rows (node_at view.nodes view.rank.position) view.rank.value
+    (node_at view.nodes view.rank.position ≡ view.node)
+    × IsValueOf (known_in view) rows (node_at view.nodes view.rank.position) view.rank
 IsNamedRow Failing view = ⊥
 IsNamedRow (InList these) view = ⊥
 IsNamedRow place view = Unit {0}
@@ -332,6 +360,10 @@ ends_cell tag = false
 abbrev is_duration : Measure → Bool
 is_duration Duration = true
 is_duration measure = false
+
+abbrev is_memory : Measure → Bool
+is_memory Memory = true
+is_memory measure = false
 
 abbrev is_count : Count → Bool
 is_count Value = true
@@ -364,6 +396,8 @@ module _ {T B : Type 0} where
 
   abbrev is_value : Rows → Item T B → Bool
   is_value Longest (item.Measure measure) = is_duration measure
+  is_value LongestAlone (item.Measure measure) = is_duration measure
+  is_value MostMemory (item.Measure measure) = is_memory measure
   is_value Warned (item.Number count) = is_count count
   is_value rows item = false
 
@@ -392,7 +426,7 @@ template_rows = block_rows (block_rows (block_rows (block_rows none_refer))) Out
 -- The parts of a template for the build of a view.
 pub record TellsOfViews {B : Type 0} (parts : B → View → List Part) (only : Place → B → Bool) : Type 0 where
   pub tells : (place : Place) (block : B) → only place block ≡ true → (view : View) → HasValues view → IsNamedRow place view
-      → Tells view.logs view.nodes (parts block view)
+      → Tells (known_in view) view.logs view.nodes (parts block view)
 
 -- A tag outside of loops is a link or an id of a section, or none.
 tag_calm : (place : Place) (view : View) → IsNamedRow place view → (tag : Markup) → only_tag place tag ≡ true → is_row tag ≡ false
@@ -510,6 +544,8 @@ module _ {T B : Type 0} (text_of : T → List ℕ) (inner : B → View → List 
 
   abbrev value_parts : Rows → List Part
   value_parts Longest = words_parts (duration_words view.rank.value)
+  value_parts LongestAlone = words_parts (duration_words view.rank.value)
+  value_parts MostMemory = words_parts (size_words (saturated (view.rank.value * 1024)))
   value_parts Warned = NumberPart view.rank.value ∷ []
 
   value_sound : (rows : Rows) (item : Item T B) → is_value rows item ≡ true → value_parts rows ≡ shown item
@@ -519,12 +555,26 @@ module _ {T B : Type 0} (text_of : T → List ℕ) (inner : B → View → List 
           → words_parts (duration_words view.rank.value) ≡ words_parts (measure_words view measure)
       by Duration is = refl
       by measure is = absurd (cc)
+  value_sound LongestAlone (item.Measure measure) is = by measure is
+    where
+      by : (measure : Measure) → is_duration measure ≡ true
+          → words_parts (duration_words view.rank.value) ≡ words_parts (measure_words view measure)
+      by Duration is = refl
+      by measure is = absurd (cc)
+  value_sound MostMemory (item.Measure measure) is = by measure is
+    where
+      by : (measure : Measure) → is_memory measure ≡ true
+          → words_parts (size_words (saturated (view.rank.value * 1024))) ≡ words_parts (measure_words view measure)
+      by Memory is = refl
+      by measure is = absurd (cc)
   value_sound Warned (item.Number count) is = by count is
     where
       by : (count : Count) → is_count count ≡ true → NumberPart view.rank.value ∷ [] ≡ NumberPart (count_of view count) ∷ []
       by Value is = refl
       by count is = absurd (cc)
   value_sound Longest item is = absurd (cc)
+  value_sound LongestAlone item is = absurd (cc)
+  value_sound MostMemory item is = absurd (cc)
   value_sound Warned item is = absurd (cc)
 
   abbrev value_step : Rows → Step
@@ -541,8 +591,16 @@ module _ {T B : Type 0} (text_of : T → List ℕ) (inner : B → View → List 
       ++ (MarkupPart markup.EndLink ∷ (badge_parts node.status
       ++ (MarkupPart markup.EndRowHeading ∷ MarkupPart markup.NumberCell ∷ (value ++ MarkupPart markup.EndCell ∷ [])))))
 
+  -- The row of the node at a position.
+  abbrev row_at : ℕ → List Part → List Part
+  row_at position value =
+      MarkupPart (markup.TargetLink position)
+      ∷ (name_parts (target_name view.logs view.nodes position)
+      ++ (MarkupPart markup.EndLink ∷ (badge_parts (node_at view.nodes position).status
+      ++ (MarkupPart markup.EndRowHeading ∷ MarkupPart markup.NumberCell ∷ (value ++ MarkupPart markup.EndCell ∷ [])))))
+
   row_shown : (rows : Rows) (items : List (Item T B)) → begin_row (InRows rows) items ≡ true → IsNamedRow (InRows rows) view
-      → (rest : List Part) → IsRow view.logs view.nodes (all_shown items ++ rest)
+      → (rest : List Part) → IsRow view.logs view.nodes (known_in view) (all_shown items ++ rest)
   row_shown rows items is row rest = by rows row.1 (rows_begin rows (steps_shown (row_steps rows) items is))
     where
       rows_begin : (rows : Rows) → BeginWith (steps_parts (row_steps rows)) (all_shown items)
@@ -553,9 +611,9 @@ module _ {T B : Type 0} (text_of : T → List ℕ) (inner : B → View → List 
             sym (append_assoc (row_of view.node (value_parts rows)) begins.0 rest) ∙ ap (λ (t : List Part). t ++ rest) begins.1,
           )
 
-      by : (rows : Rows) → IsValueOf rows (node_at view.nodes view.rank.position) view.rank.value
+      by : (rows : Rows) → IsValueOf (known_in view) rows (node_at view.nodes view.rank.position) view.rank
           → BeginWith (row_of (node_at view.nodes view.rank.position) (value_parts rows)) (all_shown items ++ rest)
-          → IsRow view.logs view.nodes (all_shown items ++ rest)
+          → IsRow view.logs view.nodes (known_in view) (all_shown items ++ rest)
       by Longest value begins =
           inl (
             view.rank.position,
@@ -564,37 +622,56 @@ module _ {T B : Type 0} (text_of : T → List ℕ) (inner : B → View → List 
             subst (λ (n : ℕ). BeginWith (row_of (node_at view.nodes view.rank.position) (words_parts (duration_words n)))
                 (all_shown items ++ rest)) value.2 begins,
           )
+      by LongestAlone value begins =
+          inr (inr (inr (
+            value.0,
+            value.1,
+            subst (λ (position : ℕ). BeginWith (row_at position (words_parts (duration_words (cut (alone view.facts.recipes value.0)))))
+                (all_shown items ++ rest)) (sym value.2)
+                (subst (λ (n : ℕ). BeginWith (row_at view.rank.position (words_parts (duration_words n))) (all_shown items ++ rest)) value.3
+                begins),
+          )))
+      by MostMemory value begins =
+          inr (inr (inl (
+            view.rank.position,
+            value.0,
+            value.1,
+            subst (λ (n : ℕ). BeginWith (row_of (node_at view.nodes view.rank.position) (words_parts (size_words (saturated (n * 1024)))))
+                (all_shown items ++ rest)) value.2 begins,
+          )))
       by Warned value begins =
-          inr (
+          inr (inl (
             view.rank.position,
             subst (λ (n : ℕ). BeginWith (row_of (node_at view.nodes view.rank.position) (NumberPart n ∷ [])) (all_shown items ++ rest))
                 value begins,
-          )
+          ))
 
 module _ {B : Type 0} (inner : B → View → List Part) (only : Place → B → Bool) (inner_tells : TellsOfViews inner only)
     (view : View) (values : HasValues view) where
   abbrev Here : List Part → Type 0
-  Here parts = Tells view.logs view.nodes parts
+  Here parts = Tells (known_in view) view.logs view.nodes parts
 
   bare : (parts : List Part) → Bare parts → Here parts
-  bare parts is = bare_tell view.logs view.nodes parts is
+  bare parts is = bare_tell (known_in view) view.logs view.nodes parts is
 
   ranks_tell : (rows : Rows) (block : B) → only (InRows rows) block ≡ true → (all ranks : List Rank)
       → AllByRecursion (IsRank view rows) ranks → Here (flat_map (λ rank. inner block (row_view view all rank)) ranks)
-  ranks_tell rows block is all [] have = none_tell view.logs view.nodes
+  ranks_tell rows block is all [] have = none_tell (known_in view) view.logs view.nodes
   ranks_tell rows block is all (rank ∷ ranks) have =
-      then_tell view.logs view.nodes
+      then_tell (known_in view) view.logs view.nodes
       (inner_tells.tells (InRows rows) block is (row_view view all rank) values (refl, have.0)) (ranks_tell rows block is all ranks have.1)
 
   targets_tell : (block : B) → only InTargets block ≡ true → (nodes : List Node)
       → Here (flat_map (λ node. inner block (target_view view node)) nodes)
-  targets_tell block is [] = none_tell view.logs view.nodes
+  targets_tell block is [] = none_tell (known_in view) view.logs view.nodes
   targets_tell block is (node ∷ nodes) =
-      then_tell view.logs view.nodes (inner_tells.tells InTargets block is (target_view view node) values tt) (targets_tell block is nodes)
+      then_tell (known_in view) view.logs view.nodes (inner_tells.tells InTargets block is (target_view view node) values tt)
+      (targets_tell block is nodes)
 
   item_tells : {T : Type 0} (text_of : T → List ℕ) (place : Place) (item : Item T B) → only_known only place item ≡ true
       → is_heading item ≡ false → IsNamedRow place view → Here (parts_of_item text_of inner view item)
-  item_tells text_of place (item.Tag tag) is plain row = tag_tells view.logs view.nodes tag (tag_calm place view row tag is plain)
+  item_tells text_of place (item.Tag tag) is plain row =
+      tag_tells (known_in view) view.logs view.nodes tag (tag_calm place view row tag is plain)
   item_tells text_of place item.Body is plain row = bare _ (body_bare view.verdict)
   item_tells text_of place item.TabTitle is plain row = bare _ refl
   item_tells text_of place item.StyleSheet is plain row = bare _ refl
@@ -607,7 +684,7 @@ module _ {B : Type 0} (inner : B → View → List Part) (only : Place → B →
   item_tells text_of place (item.Measure measure) is plain row = bare _ (bare_each word_part word_bare (measure_words view measure))
   item_tells text_of place item.Name is plain row = bare _ refl
   item_tells text_of (InRows rows) item.Link is plain row =
-      linked_tells view.logs view.nodes (Some view.rank.position) (row_name view)
+      linked_tells (known_in view) view.logs view.nodes (Some view.rank.position) (row_name view)
       (ap (λ (node : Node). target_at view.logs node.number) row.0)
   item_tells text_of Outside item.Link is plain row = absurd (cc)
   item_tells text_of InTargets item.Link is plain row = absurd (cc)
@@ -618,16 +695,17 @@ module _ {B : Type 0} (inner : B → View → List Part) (only : Place → B →
   item_tells text_of InTargets item.ArticleLink is plain row = absurd (cc)
   item_tells text_of (InRows rows) item.ArticleLink is plain row = absurd (cc)
   item_tells text_of (InList these) item.ArticleLink is plain row = absurd row
-  item_tells text_of place item.Cause is plain row = cause_of_node_tells view.logs view.nodes view.node
+  item_tells text_of place item.Cause is plain row = cause_of_node_tells (known_in view) view.logs view.nodes view.node
   item_tells text_of place item.Articles is plain row =
-      tell_each view.logs view.nodes (article_parts view.logs view.nodes) (article_tells view.logs view.nodes)
+      tell_each (known_in view) view.logs view.nodes (article_parts view.logs view.nodes view.recipes)
+      (article_tells (known_in view) view.logs view.nodes)
       (positions_of view listed.Articles)
   item_tells text_of place item.Badge is plain row = bare _ (badge_bare view.node.status)
   item_tells text_of place item.Meter is plain row = bare _ refl
   item_tells text_of place (item.In (If test) block) is plain row =
-      tell_if view.logs view.nodes (holds view test) (inner_tells.tells place block is view values row)
+      tell_if (known_in view) view.logs view.nodes (holds view test) (inner_tells.tells place block is view values row)
   item_tells text_of place (item.In (Unless test) block) is plain row =
-      tell_if view.logs view.nodes (not (holds view test)) (inner_tells.tells place block is view values row)
+      tell_if (known_in view) view.logs view.nodes (not (holds view test)) (inner_tells.tells place block is view values row)
   item_tells text_of place (item.In (Each rows) block) is plain row =
       ranks_tell rows block is (rows_of view rows) (rows_of view rows) (values rows)
   item_tells text_of place (item.In EachTarget block) is plain row = targets_tell block is view.nodes
@@ -639,7 +717,7 @@ module _ {B : Type 0} (inner : B → View → List Part) (only : Place → B →
 
   items_tell : {T : Type 0} (text_of : T → List ℕ) (place : Place) (items : List (Item T B))
       → only_rows only place items ≡ true → IsNamedRow place view → Here (parts_of_items text_of inner view items)
-  items_tell text_of place [] is row = none_tell view.logs view.nodes
+  items_tell text_of place [] is row = none_tell (known_in view) view.logs view.nodes
   items_tell text_of place (item ∷ items) is row =
       let known = and_parts (only_known only place item) ((not (is_heading item) || begin_row place items) && only_rows only place items)
       is in
@@ -647,7 +725,7 @@ module _ {B : Type 0} (inner : B → View → List Part) (only : Place → B →
       by (is_heading item) refl known.0 rows.0 (items_tell text_of place items rows.1 row)
     where
       here : (place : Place) → begin_row place items ≡ true → IsNamedRow place view → (rest : List Part)
-          → IsRow view.logs view.nodes (parts_of_items text_of inner view items ++ rest)
+          → IsRow view.logs view.nodes (known_in view) (parts_of_items text_of inner view items ++ rest)
       here (InRows rows) is row rest = row_shown text_of inner view rows items is row rest
       here Outside is row rest = absurd (cc)
       here Failing is row rest = absurd row
@@ -661,7 +739,7 @@ module _ {B : Type 0} (inner : B → View → List Part) (only : Place → B →
           subst (λ (parts : List Part). Here (parts ++ parts_of_items text_of inner view items))
           (heading_shown text_of inner view item heading)
           (record { before = λ rest tell. (here place begins row rest, more.before rest tell) })
-      by false plain known begins more = then_tell view.logs view.nodes (item_tells text_of place item known plain row) more
+      by false plain known begins more = then_tell (known_in view) view.logs view.nodes (item_tells text_of place item known plain row) more
 
 block_tells : {B : Type 0} (inner : B → View → List Part) (only : Place → B → Bool) → TellsOfViews inner only
     → TellsOfViews (block_parts inner) (block_rows only)
@@ -670,23 +748,23 @@ block_tells inner only inner_tells = record {
 }
 
 nothing_tells_any : TellsOfViews nothing none_refer
-nothing_tells_any = record { tells = λ place block is view values row. none_tell view.logs view.nodes }
+nothing_tells_any = record { tells = λ place block is view values row. none_tell (known_in view) view.logs view.nodes }
 
 pub template_tells : (template : Template) → template_rows template ≡ true → (view : View) → HasValues view
-    → Tells view.logs view.nodes (template_parts template view)
+    → Tells (known_in view) view.logs view.nodes (template_parts template view)
 template_tells template is view values =
     (block_tells _ _ (block_tells _ _ (block_tells _ _ (block_tells nothing none_refer nothing_tells_any)))).tells
     Outside template is view values tt
 
 -- ---- the timeline
 
-pub timeline_tells : (view : View) → HasValues view → Tells view.logs view.nodes (timeline_parts view)
+pub timeline_tells : (view : View) → HasValues view → Tells (known_in view) view.logs view.nodes (timeline_parts view)
 timeline_tells view values = by view.facts.window
   where
-    by : (window : Option Window) → Tells view.logs view.nodes (timeline_if view window)
-    by None = none_tell view.logs view.nodes
+    by : (window : Option Window) → Tells (known_in view) view.logs view.nodes (timeline_if view window)
+    by None = none_tell (known_in view) view.logs view.nodes
     by (Some window) =
-        tell_if view.logs view.nodes (is_timed view.facts)
-        (then_tell view.logs view.nodes (template_tells START refl view values)
-        (then_tell view.logs view.nodes {parts = ChartPart (facts_drawing view.logs view.nodes view.facts window) ∷ []}
-        (calm_tell view.logs view.nodes _ refl) (template_tells END refl view values)))
+        tell_if (known_in view) view.logs view.nodes (is_timed view.facts)
+        (then_tell (known_in view) view.logs view.nodes (template_tells START refl view values)
+        (then_tell (known_in view) view.logs view.nodes {parts = ChartPart (facts_drawing view.logs view.nodes view.facts window) ∷ []}
+        (calm_tell (known_in view) view.logs view.nodes _ refl) (template_tells END refl view values)))

@@ -1,6 +1,7 @@
 -- The elements of articles and causes nest.
 use Rattle.std.proofs.Common.{ℕ, zero, suc, Bool, true, false, List, [], ◌∷◌, Option, None, Some, refl}
 use Rattle.std.specs.Prelude.{◌==◌, length, if◌then◌else◌}
+use Rattle.redo_facts.specs.Facts.{RecipeFacts}
 use Rattle.redo_logs.specs.Logs.{Log}
 use Rattle.redo_html.specs.declared.style.Style.{Style}
 use Rattle.redo_html.specs.Lines.{style_after}
@@ -15,8 +16,10 @@ use Rattle.redo_page.specs.Excerpt.{Stretch, cut_to, emphasized_if, error_positi
 use Rattle.redo_page.specs.Excerpt.Stretch.{Shown, LeftOut}
 use Rattle.redo_units.specs.Durations.{duration_words}
 use Rattle.redo_page.specs.Article.{article_of, article_parts, article_took, cause_of_node, cause_parts, max_path, nothing_parts, output_line_parts, output_parts, path_parts, printed_by, whole_parts}
+use Rattle.redo_page.specs.Recipe.{recipe_at}
 use Rattle.redo_page.specs.Tree.{is_short, node_at}
 use Rattle.redo_page.proofs.Nesting.{Nest, nest_each, then_lead, joined}
+use Rattle.redo_page.proofs.RecipeLemmas.{recipe_nests}
 use Rattle.redo_page.proofs.TargetNesting.{badge_nests, words_nest}
 
 in_tree_nests : (position : ℕ) (text : List ℕ) → Nest (in_tree_parts position text)
@@ -94,7 +97,8 @@ module _ (logs : List Log) (nodes : List Node) where
   path_nests (suc levels) (Some position) =
       then_lead (path_nests levels (node_at nodes position).parent) (record { leads = λ around tags. refl })
 
-  pub article_nests : (position : ℕ) → Nest (article_parts logs nodes position)
+module _ (logs : List Log) (nodes : List Node) (recipes : List RecipeFacts) where
+  pub article_nests : (position : ℕ) → Nest (article_parts logs nodes recipes position)
   unfolding article_parts article_of
   article_nests position =
       let node = node_at nodes position in
@@ -103,8 +107,9 @@ module _ (logs : List Log) (nodes : List Node) where
           joined,
           (badge_nests node.status).leads,
           (article_took_nests node.took).leads,
-          (path_nests (max_path logs nodes) node.parent).leads,
+          (path_nests logs nodes (max_path logs nodes) node.parent).leads,
           (in_tree_nests position PLACE_IN_TREE.now).leads,
+          (recipe_nests (recipe_at recipes node.number)).leads,
           (output_nests logs position node).leads,
         );
       }

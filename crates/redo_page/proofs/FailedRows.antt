@@ -27,6 +27,7 @@ use Rattle.redo_page.specs.Failed.{is_dependent_failure, failed_parts, is_unclos
 use Rattle.redo_page.specs.declared.failed.TheConstants.{DEPENDENTS, OTHERS, UNCLOSED}
 use Rattle.redo_page.specs.Laws.{target_links}
 use Rattle.redo_page.specs.Page.{build_view}
+use Rattle.redo_page.specs.Recipe.{commands_parts, recipe_parts}
 use Rattle.redo_page.specs.Scope.{View}
 use Rattle.redo_page.specs.Template.{Block, block_parts, nothing}
 use Rattle.redo_units.specs.Durations.{duration_words}
@@ -72,7 +73,7 @@ html parts = flat_map part_html parts
 
 -- The view of some targets, for a page without times.
 abbrev view : List Log → List Node → View
-view some nodes = build_view [] [] [] some nodes
+view some nodes = build_view [] [] [] [] some nodes
     (record {
       window = None;
       took = 0;
@@ -84,6 +85,7 @@ view some nodes = build_view [] [] [] some nodes
       warnings = 0;
       bytes = 0;
       longest = [];
+      alone = [];
       warned = [];
     })
 
@@ -114,7 +116,7 @@ one_failure :
     (codes "<section id=\"failed\" aria-labelledby=\"h-failed\"><h2 id=\"h-failed\">What failed</h2><article id=\"f1\"><h3><bdi>b</bdi> <strong class=\"x\">exit 1</strong></h3><p class=\"meta\"><bdi>all</bdi>"
     ++ then (codes "<a href=\"#t1\">its place in the tree</a></p><pre>\ncc b.c\n<em>b.c:1: error: x\n</em></pre></article><details class=\"more\"><summary>1 failed because of these</summary><ol class=\"list\"><li><a href=\"#t0\"><bdi>all</bdi></a> <strong class=\"x\">exit 3</strong></li></ol></details></section>"))
     ≡ true
-unfolding failed_parts cause_of_node cause_parts cut_to begins_with article_parts article_of path_parts output_parts whole_parts in_tree_parts symbols_after first_symbol symbol_len is_sequence sequence_len sequence_numbers first_code_point code_point_len is_unprintable notation unprintable_text number_text encode_utf8 digits html_from
+unfolding failed_parts cause_of_node cause_parts cut_to begins_with article_parts article_of recipe_parts commands_parts path_parts output_parts whole_parts in_tree_parts symbols_after first_symbol symbol_len is_sequence sequence_len sequence_numbers first_code_point code_point_len is_unprintable notation unprintable_text number_text encode_utf8 digits html_from
 one_failure = refl
 
 -- Below the article, there is a list of those above, and then one of unfinished targets.
@@ -123,7 +125,7 @@ one_unclosed :
     (codes "<section id=\"failed\" aria-labelledby=\"h-failed\"><h2 id=\"h-failed\">What failed</h2><article id=\"f1\"><h3><bdi>b</bdi> <strong class=\"x\">exit 1</strong></h3><p class=\"meta\"><bdi>all</bdi>"
     ++ then (codes "<a href=\"#t1\">its place in the tree</a></p><pre>\ncc b.c\n<em>b.c:1: error: x\n</em></pre></article><details class=\"more\"><summary>1 failed because of these</summary><ol class=\"list\"><li><a href=\"#t0\"><bdi>all</bdi></a> <strong class=\"x\">exit 3</strong></li></ol></details><details class=\"more\"><summary>1 unfinished</summary><ol class=\"list\"><li><a href=\"#t2\"><bdi>d</bdi></a> <strong class=\"o\">unfinished</strong></li></ol></details></section>"))
     ≡ true
-unfolding failed_parts cause_of_node cause_parts cut_to begins_with article_parts article_of path_parts output_parts whole_parts in_tree_parts symbols_after first_symbol symbol_len is_sequence sequence_len sequence_numbers first_code_point code_point_len is_unprintable notation unprintable_text number_text encode_utf8 digits html_from
+unfolding failed_parts cause_of_node cause_parts cut_to begins_with article_parts article_of recipe_parts commands_parts path_parts output_parts whole_parts in_tree_parts symbols_after first_symbol symbol_len is_sequence sequence_len sequence_numbers first_code_point code_point_len is_unprintable notation unprintable_text number_text encode_utf8 digits html_from
 one_unclosed = refl
 
 -- ---- lists
@@ -184,14 +186,14 @@ eleven_failures :
     (codes "<ol class=\"list\">" ++ (outputs (range_with_len 0 10)
     ++ (articles (range_with_len 0 10) ++ codes "<details class=\"more\"><ol class=\"list\" start=\"11\">")))
     ≡ true
-unfolding failed_parts article_parts article_of path_parts output_parts nothing_parts in_tree_parts cause_of_node cause_parts number_text digits
+unfolding failed_parts article_parts article_of recipe_parts commands_parts path_parts output_parts nothing_parts in_tree_parts cause_of_node cause_parts number_text digits
 eleven_failures = refl
 
 ten_failures :
     bytes_eq (marks (failed logs (cs 10)))
     (codes "<ol class=\"list\">" ++ (outputs (range_with_len 0 10) ++ articles (range_with_len 0 10)))
     ≡ true
-unfolding failed_parts article_parts article_of path_parts output_parts nothing_parts in_tree_parts cause_of_node cause_parts number_text digits
+unfolding failed_parts article_parts article_of recipe_parts commands_parts path_parts output_parts nothing_parts in_tree_parts cause_of_node cause_parts number_text digits
 ten_failures = refl
 
 -- Ten targets that printed nothing, then one that printed an error, then another one that printed nothing.
@@ -217,7 +219,7 @@ twelve_failures :
     ++ (flat_map article (range_with_len 0 10)
     ++ codes "<details class=\"more\"><summary>2 more that failed</summary><ol class=\"list\" start=\"11\"><li><a href=\"#t10\"><bdi>b</bdi></a> <strong class=\"x\">exit 1</strong> <code>b.c:1: error: x</code></li><li><a href=\"#t11\"><bdi>c</bdi></a> <strong class=\"x\">exit 2</strong></li></ol></details></section>"))))
     ≡ true
-unfolding failed_parts cause_of_node cause_parts cut_to begins_with article_parts article_of path_parts output_parts nothing_parts in_tree_parts symbols_after first_symbol symbol_len is_sequence sequence_len sequence_numbers first_code_point code_point_len is_unprintable notation unprintable_text number_text encode_utf8 digits html_from
+unfolding failed_parts cause_of_node cause_parts cut_to begins_with article_parts article_of recipe_parts commands_parts path_parts output_parts nothing_parts in_tree_parts symbols_after first_symbol symbol_len is_sequence sequence_len sequence_numbers first_code_point code_point_len is_unprintable notation unprintable_text number_text encode_utf8 digits html_from
 twelve_failures = refl
 
 abbrev items_of : Part → List Part
@@ -354,11 +356,11 @@ took_are = (refl, refl)
 
 -- It precedes the path.
 article_begins :
-    bytes_eq (html (take 22 (article_parts logs (node 0 None None 0 2 true ∷ record b { took = Some 61000 } ∷ []) 1)))
+    bytes_eq (html (take 22 (article_parts logs (node 0 None None 0 2 true ∷ record b { took = Some 61000 } ∷ []) [] 1)))
     (codes "<article id=\"f1\"><h3><bdi>b</bdi> <strong class=\"x\">exit 1</strong></h3><p class=\"meta\">1 min 01 s " ++ 0xC2 ∷ 0xB7
     ∷ codes " <bdi>all</bdi>")
     ≡ true
-unfolding article_parts article_of path_parts output_parts whole_parts in_tree_parts duration_words symbols_after first_symbol symbol_len is_sequence sequence_len sequence_numbers first_code_point code_point_len is_unprintable notation unprintable_text number_text encode_utf8 digits html_from
+unfolding article_parts article_of recipe_parts commands_parts path_parts output_parts whole_parts in_tree_parts duration_words symbols_after first_symbol symbol_len is_sequence sequence_len sequence_numbers first_code_point code_point_len is_unprintable notation unprintable_text number_text encode_utf8 digits html_from
 article_begins = refl
 
 -- ---- paths
@@ -379,13 +381,13 @@ short_path = refl
 
 -- The path to the article of a target at the end of a long path begins with `…`.
 long_path :
-    bytes_eq (html (article_parts logs chain 5))
+    bytes_eq (html (article_parts logs chain [] 5))
     (codes "<article id=\"f5\"><h3><bdi>b</bdi> <strong class=\"o\">unfinished</strong></h3><p class=\"meta\">"
     ++ (0xE2 ∷ 0x80 ∷ 0xA6
     ∷ then (codes "<bdi>b</bdi>" ++ then (codes "<bdi>c</bdi>" ++ then (codes "<bdi>d</bdi>" ++ then (codes "<bdi>all</bdi>"
     ++ then (codes "<a href=\"#t5\">its place in the tree</a></p><p class=\"quiet\">It printed nothing that was captured.</p></article>")))))))
     ≡ true
-unfolding article_parts article_of path_parts output_parts nothing_parts in_tree_parts symbols_after first_symbol symbol_len is_sequence sequence_len sequence_numbers first_code_point code_point_len is_unprintable notation unprintable_text number_text encode_utf8 digits html_from
+unfolding article_parts article_of recipe_parts commands_parts path_parts output_parts nothing_parts in_tree_parts symbols_after first_symbol symbol_len is_sequence sequence_len sequence_numbers first_code_point code_point_len is_unprintable notation unprintable_text number_text encode_utf8 digits html_from
 long_path = refl
 
 no_path : path_parts logs chain 4 None ≡ []

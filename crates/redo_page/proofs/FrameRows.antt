@@ -107,13 +107,14 @@ facts window took recipes marks = record {
   warnings = 0;
   bytes = 0;
   longest = [];
+  alone = [];
   warned = [];
 }
 
 -- A page that was asked to have this title.
 abbrev view : List ℕ → List Node → Facts → View
 view title nodes facts =
-    record (build_view title (codes "d") (codes "c") logs nodes facts) { heading = codes "h"; tab = codes "tab" }
+    record (build_view title (codes "d") (codes "c") [] logs nodes facts) { heading = codes "h"; tab = codes "tab" }
 
 head_is :
     (head_parts (view (codes "t") (begun ∷ []) (facts None 0 0 0))

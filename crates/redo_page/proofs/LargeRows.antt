@@ -24,7 +24,7 @@ use Rattle.redo_page.specs.declared.scope.Listed.{Listed}
 use Rattle.redo_page.specs.declared.scope.Count.TheVariants.{All, Unlisted, Targets, Roots, Dependents, Warnings, Most, Unknown, Known, Value}
 use Rattle.redo_page.specs.declared.scope.Listed.TheVariants as listed
 use Rattle.redo_page.specs.declared.scope.Listed.TheVariants.{Articles, Others, Unclosed}
-use Rattle.redo_page.specs.declared.scope.Measure.TheVariants.{Took, Sum, Duration}
+use Rattle.redo_page.specs.declared.scope.Measure.TheVariants.{Took, Sum, Processor, Duration, Memory}
 use Rattle.redo_page.specs.declared.scope.Test.TheVariants.{HasDependents, HasKnown, HasMarks, HasCallers}
 use Rattle.redo_page.specs.declared.verdict.Verdict.TheVariants.{Failed}
 use Rattle.redo_page.specs.Command.{command, is_safe}
@@ -46,6 +46,7 @@ use Rattle.redo_summary.specs.declared.rank.Rank.{Rank}
 use Rattle.redo_timeline.specs.declared.span.Span.{Span}
 use Rattle.redo_view.specs.declared.event.Opening.TheVariants.{OpenedBefore, OpensHere}
 use Rattle.redo_units.specs.Durations.{duration_words}
+use Rattle.redo_units.specs.Sizes.{size_words}
 use Rattle.redo_units.specs.Words.{decimal_text, words_text}
 
 -- ---- the heading
@@ -145,11 +146,12 @@ facts callers marks = record {
   warnings = 123456;
   bytes = 0;
   longest = [];
+  alone = [];
   warned = [];
 }
 
 abbrev view : Facts → View
-view facts = record (build_view [] [] [] [] (replicate 12345 no_node) facts) {
+view facts = record (build_view [] [] [] [] [] (replicate 12345 no_node) facts) {
   roots = replicate 12346 0;
   dependents = replicate 12347 0;
   unclosed = replicate 12348 0;
@@ -170,6 +172,23 @@ large_lists :
     (bytes_eq (each_list (λ these. All these)) (10 ∷ 12336 ∷ 12347 ∷ 12348 ∷ []) ≡ true)
     × (bytes_eq (each_list (λ these. Unlisted these)) (0 ∷ 12136 ∷ 12147 ∷ 12148 ∷ []) ≡ true)
 large_lists = (refl, refl)
+
+-- 2^54 - 1 kilobytes of 1,024 bytes have less than 2^64 bytes. More are cut.
+memory_sizes :
+    map (λ value. words_text (measure_words (record (view (facts 0 0)) { rank = record { value = value; position = 0 } }) Memory))
+    (1 ∷ 9766 ∷ 999999999999999 ∷ 18014398509481983 ∷ 20000000000000000 ∷ [])
+    ≡ codes "1.0 kB" ∷ codes "10.0 MB" ∷ codes "1023999999.9 GB" ∷ codes "18446744073.7 GB" ∷ codes "18446744073.7 GB" ∷ []
+unfolding size_words decimal_text digits
+memory_sizes = refl
+
+-- A week of processor time, and none.
+processor_times :
+    map
+    (λ time. words_text (measure_words (record (view (facts 0 0)) { usage = record { processor = time; memory = [] } }) Processor))
+    (Some 604800000 ∷ Some 0 ∷ [])
+    ≡ codes "168 h 00 min" ∷ codes "0.00 s" ∷ []
+unfolding duration_words decimal_text digits
+processor_times = refl
 
 -- A week, a day and an hour, and a day.
 long_durations : map (λ measure. words_text (measure_words (view (facts 0 0)) measure)) (Took ∷ Sum ∷ Duration ∷ [])

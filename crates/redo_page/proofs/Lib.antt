@@ -39,6 +39,9 @@ mod PageTags
 mod PartLemmas
 mod PartLoops
 mod PrintedLemmas
+mod RecipeLemmas
+mod RecipeParts
+mod RecipeRows
 mod RedLemmas
 mod ShownLemmas
 mod StackLemmas

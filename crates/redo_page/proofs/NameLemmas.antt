@@ -11,7 +11,7 @@ use Rattle.redo_html.specs.Parts.Part.{MarkupPart, TextPart}
 use Rattle.redo_logs.specs.Logs.{Log}
 use Rattle.redo_outline.specs.declared.node.Node.{Node}
 use Rattle.redo_page.specs.declared.labels.TheConstants.{IN_ITS_LOG, PLACE_IN_TREE, SHOWN_ABOVE}
-use Rattle.redo_page.specs.Laws.{TellsItsTarget, target_name}
+use Rattle.redo_page.specs.Laws.{KnownRecipes, TellsItsTarget, target_name}
 use Rattle.redo_page.specs.Targets.{linked_parts, name_parts, parts_if}
 use Rattle.redo_page.proofs.Ids.{Bare, reference, references}
 
@@ -42,9 +42,9 @@ pub from_here : (Holds : List Part → Type 0) (before : List Part) (part : Part
 from_here Holds [] part after all = all.0
 from_here Holds (other ∷ before) part after all = from_here Holds before part after all.1
 
-module _ (logs : List Log) (nodes : List Node) where
+module _ (recipes : KnownRecipes) (logs : List Log) (nodes : List Node) where
   abbrev pub TellHere : List Part → Type 0
-  TellHere (MarkupPart tag ∷ after) = TellsItsTarget logs nodes tag after
+  TellHere (MarkupPart tag ∷ after) = TellsItsTarget logs nodes recipes tag after
   TellHere parts = Unit {0}
 
   abbrev pub Tell : List Part → Type 0

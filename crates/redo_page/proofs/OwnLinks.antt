@@ -1,6 +1,6 @@
 -- The links of an article lead to the log of its target.
 use Rattle.std.proofs.Common.{◌≡◌, ℕ, Bool, true, false, List, [], ◌∷◌, ◌++◌, length, refl, ◌∙◌, ap}
-use Rattle.std.specs.Prelude.{◌==◌, codes, if◌then◌else◌}
+use Rattle.std.specs.Prelude.{◌==◌, if◌then◌else◌}
 use Rattle.std.specs.List.{flat_map, list_all}
 use Rattle.std.proofs.lemmas.Bool.{and_from, eq-eqb}
 use Rattle.std.proofs.lemmas.List.Folds.{list_all-append}
@@ -12,6 +12,7 @@ use Rattle.redo_html.specs.Parts.{Part}
 use Rattle.redo_html.specs.Parts.Part.{MarkupPart, LogPart, TextPart}
 use Rattle.redo_html.specs.Style.{plain_style}
 use Rattle.redo_line.specs.Lines.{with_line_feed}
+use Rattle.redo_facts.specs.Facts.{RecipeFacts}
 use Rattle.redo_logs.specs.Logs.{Log}
 use Rattle.redo_outline.specs.declared.node.Node.{Node}
 use Rattle.redo_page.specs.declared.labels.TheConstants.{PLACE_IN_TREE}
@@ -20,12 +21,14 @@ use Rattle.redo_page.specs.Errors.{is_error}
 use Rattle.redo_page.specs.Excerpt.{Stretch, cut_to, emphasized_if, error_position, excerpt_line_end, excerpt_line_parts, excerpt_parts, in_tree_parts, is_kept, left_out_parts, max_excerpt_line, stretch_parts, stretches_from}
 use Rattle.redo_page.specs.Excerpt.Stretch.{Shown, LeftOut}
 use Rattle.redo_page.specs.Laws.{target_link, target_links}
+use Rattle.redo_page.specs.Recipe.{recipe_at, recipe_parts}
 use Rattle.redo_page.specs.Targets.{badge_parts, name_parts}
 use Rattle.redo_page.specs.Tree.{is_short, node_at}
 use Rattle.redo_page.proofs.FailedIds.{article_took_bare, path_bare}
 use Rattle.redo_page.proofs.Ids.{Bare, badge_bare, same_found, target_link_part}
+use Rattle.redo_page.proofs.RecipeLemmas.{recipe_bare}
 
-module _ (logs : List Log) (nodes : List Node) (position : ℕ) where
+module _ (logs : List Log) (nodes : List Node) (recipes : List RecipeFacts) (position : ℕ) where
   -- Each link to a log in these parts leads to this position.
   abbrev Own : List Part → Type 0
   Own parts = list_all (λ number. number == position) (target_links parts) ≡ true
@@ -100,12 +103,13 @@ module _ (logs : List Log) (nodes : List Node) (position : ℕ) where
       by false true = whole_own (printed_by logs node)
       by false false = excerpt_own (printed_by logs node)
 
-  article_of_own : (node : Node) → Own (article_of logs nodes position node)
+  article_of_own : (node : Node) → Own (article_of logs nodes recipes position node)
   unfolding article_of
   article_of_own node =
       let levels = max_path logs nodes in
       let output = output_parts logs position node ++ MarkupPart markup.EndArticle ∷ [] in
-      let link = in_tree_parts position PLACE_IN_TREE.now ++ MarkupPart markup.EndParagraph ∷ output in
+      let recipe = recipe_parts (recipe_at recipes node.number) in
+      let link = in_tree_parts position PLACE_IN_TREE.now ++ MarkupPart markup.EndParagraph ∷ (recipe ++ output) in
       let path = path_parts logs nodes levels node.parent ++ link in
       let took = article_took node.took ++ path in
       let name = name_parts (name_of logs node) in
@@ -115,9 +119,11 @@ module _ (logs : List Log) (nodes : List Node) (position : ℕ) where
       (own_then (article_took node.took) path (own_bare (article_took node.took) (article_took_bare node.took))
       (own_then (path_parts logs nodes levels node.parent) link
       (own_bare (path_parts logs nodes levels node.parent) (path_bare logs nodes levels node.parent))
-      (own_then (in_tree_parts position PLACE_IN_TREE.now) (MarkupPart markup.EndParagraph ∷ output) (in_tree_own PLACE_IN_TREE.now)
-      (own_then (output_parts logs position node) (MarkupPart markup.EndArticle ∷ []) (output_own node) refl)))))
+      (own_then (in_tree_parts position PLACE_IN_TREE.now) (MarkupPart markup.EndParagraph ∷ (recipe ++ output))
+      (in_tree_own PLACE_IN_TREE.now)
+      (own_then recipe output (own_bare recipe (recipe_bare (recipe_at recipes node.number)))
+      (own_then (output_parts logs position node) (MarkupPart markup.EndArticle ∷ []) (output_own node) refl))))))
 
-  pub article_links_are_own : Own (article_parts logs nodes position)
+  pub article_links_are_own : Own (article_parts logs nodes recipes position)
   unfolding article_parts
   article_links_are_own = article_of_own (node_at nodes position)

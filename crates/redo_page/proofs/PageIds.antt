@@ -4,6 +4,7 @@ use Rattle.std.specs.Prelude.{◌==◌, ◌||◌, ◌&&◌, nat_lt, length, take
 use Rattle.std.specs.List.{flat_map, list_all}
 use Rattle.std.proofs.lemmas.Bool.{and_from, and_parts, eqb-false, lt-ltb, ltb-true}
 use Rattle.std.proofs.lemmas.List.{append-nil, length-map}
+use Rattle.redo_facts.specs.Facts.{RecipeFacts}
 use Rattle.redo_logs.specs.Logs.{Log}
 use Rattle.redo_html.specs.declared.markup.Markup.{Markup}
 use Rattle.redo_html.specs.declared.markup.Markup.TheVariants.{FailedLink, FailedSection, SummaryLink, SummarySection, TimelineLink, TreeLink, TreeSection, Title1, DescriptionList}
@@ -20,7 +21,7 @@ use Rattle.redo_page.specs.declared.frame.TheConstants.{FOOTER, HEAD, HEADER}
 use Rattle.redo_page.specs.declared.scope.Listed.TheVariants.{Articles, Others, Dependents, Unclosed}
 use Rattle.redo_page.specs.declared.scope.Listed.{Listed}
 use Rattle.redo_page.specs.declared.scope.Rows.{Rows}
-use Rattle.redo_page.specs.declared.scope.Rows.TheVariants.{Longest, Warned}
+use Rattle.redo_page.specs.declared.scope.Rows.TheVariants.{Longest, LongestAlone, MostMemory, Warned}
 use Rattle.redo_page.specs.declared.summary.TheConstants.{SECTION}
 use Rattle.redo_page.specs.Failed.{failed_parts, is_dependent_failure, is_unclosed}
 use Rattle.redo_page.specs.Frame.{footer_parts}
@@ -42,6 +43,8 @@ use Rattle.redo_page.proofs.TreeIds.{nodes_counted, tree_refers}
 use Rattle.redo_summary.specs.Laws.{AreOfNodes, AreRanksBelow}
 use Rattle.redo_page.specs.Timeline.{has_timeline}
 use Rattle.redo_summary.specs.Summary.{Facts, is_timed, summary_of}
+use Rattle.redo_summary.specs.Usage.{usage_of}
+use Rattle.redo_timeline.specs.declared.span.Span.{Span}
 use Rattle.redo_timeline.specs.declared.span.Window.{Window}
 use Rattle.redo_times.specs.declared.times.Times.{Times}
 use Rattle.redo_view.specs.Event.{Event}
@@ -171,9 +174,14 @@ module _ (view : View) where
       by false true (Some window) = refl
       by false false (Some window) = refl
 
--- The times of shown targets lead to positions of nodes.
+-- The times of shown targets, and the recipes with the most memory, lead to positions of nodes.
 abbrev pub HavePositions : Type 0
 HavePositions = (nodes : List Node) (times : List Times) → AreOfNodes nodes (summary_of nodes times)
+
+abbrev pub HavePositionsOfMemory : Type 0
+HavePositionsOfMemory =
+    (nodes : List Node) (facts : List RecipeFacts) (recipes : List Span)
+    → AreRanksBelow (length nodes) (usage_of nodes facts recipes).memory
 
 -- No log is left out of the tree.
 abbrev pub KeepLogs : Type 0
@@ -187,7 +195,8 @@ outline_counted request logs requested =
     length-map (outline_of logs events) (with_times (map run_times request.times))
     ∙ nodes_counted logs (target_status logs events) None 0 (contents_of events)
 
-module _ (have : HavePositions) (lead : BarsLead) (keep : KeepLogs) (request : Request) (logs : List Log) (requested : List (List ℕ)) where
+module _ (have : HavePositions) (memory : HavePositionsOfMemory) (lead : BarsLead) (keep : KeepLogs) (request : Request) (logs : List Log)
+    (requested : List (List ℕ)) where
   abbrev parts : List Part
   parts = page_parts request logs requested
 
@@ -213,6 +222,12 @@ module _ (have : HavePositions) (lead : BarsLead) (keep : KeepLogs) (request : R
       by : (timed : Bool) → AreRanksBelow (length nodes) (if timed then facts.longest else [])
       by true = positions.longest
       by false = tt
+  rows_below positions LongestAlone = by (is_timed facts && nat_lt 1 facts.most)
+    where
+      by : (shown : Bool) → AreRanksBelow (length nodes) (if shown then facts.alone else [])
+      by true = positions.alone
+      by false = tt
+  rows_below positions MostMemory = memory nodes request.recipes facts.recipes
   rows_below positions Warned = positions.warned
 
   lists_below : (these : Listed) → list_all (is_listed (length nodes) (articles nodes) these) (positions_of view these) ≡ true

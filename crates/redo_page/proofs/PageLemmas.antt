@@ -22,6 +22,7 @@ use Rattle.redo_page.specs.Private.PageTexts.{AreTexts}
 use Rattle.redo_page.specs.Scope.{View}
 use Rattle.redo_page.specs.Tree.{no_node, root_failures}
 use Rattle.redo_summary.specs.Summary.{Facts, summary_of}
+use Rattle.redo_summary.specs.Usage.{UsageFacts, usage_of}
 
 -- ---- stages
 
@@ -74,7 +75,7 @@ next_stage before middle after first second done wrote more =
 -- ---- the parts of templates
 
 module _ (request : Request) (options : Options) (logs : List Log) (requested : List (List ℕ)) (nodes : List Node) (texts : Texts)
-    (facts : Facts) (roots dependents unclosed : List ℕ) where
+    (facts : Facts) (usage : UsageFacts) (roots dependents unclosed : List ℕ) where
   abbrev pub view_with : View
   view_with = record {
     title = request.title;
@@ -85,7 +86,9 @@ module _ (request : Request) (options : Options) (logs : List Log) (requested : 
     command = texts.command.items;
     logs = logs;
     nodes = nodes;
+    recipes = request.recipes;
     facts = facts;
+    usage = usage;
     roots = roots;
     dependents = dependents;
     unclosed = unclosed;
@@ -95,19 +98,22 @@ module _ (request : Request) (options : Options) (logs : List Log) (requested : 
   }
 
   pub view_is : options ≡ options_of request → nodes ≡ page_outline request logs requested → facts ≡ summary_of nodes request.times
-      → AreTexts request options requested nodes texts → roots ≡ root_failures nodes
-      → dependents ≡ positions_where is_dependent_failure 0 nodes → unclosed ≡ positions_where is_unclosed 0 nodes
-      → view_with ≡ page_view request logs requested
-  view_is options_are nodes_are facts_are are roots_are dependents_are unclosed_are =
+      → usage ≡ usage_of nodes request.recipes facts.recipes → AreTexts request options requested nodes texts
+      → roots ≡ root_failures nodes → dependents ≡ positions_where is_dependent_failure 0 nodes
+      → unclosed ≡ positions_where is_unclosed 0 nodes → view_with ≡ page_view request logs requested
+  view_is options_are nodes_are facts_are usage_is are roots_are dependents_are unclosed_are =
+      let used : usage ≡ usage_of nodes request.recipes (summary_of nodes request.times).recipes =
+      usage_is ∙ ap (λ (known : Facts). usage_of nodes request.recipes known.recipes) facts_are in
       (λ i. record view_with {
         verdict = are.verdict i;
         heading = are.heading i;
         tab = are.title i;
         command = are.command i;
         facts = facts_are i;
+        usage = used i;
         roots = roots_are i;
         dependents = dependents_are i;
         unclosed = unclosed_are i;
       })
-      ∙ (λ i. build_view request.title request.dir (command request.dir (options_are i) requested) logs (nodes_are i)
+      ∙ (λ i. build_view request.title request.dir (command request.dir (options_are i) requested) request.recipes logs (nodes_are i)
       (summary_of (nodes_are i) request.times))

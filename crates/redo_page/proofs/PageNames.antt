@@ -1,9 +1,10 @@
 -- The names of targets in the whole page.
 use Rattle.std.proofs.Common.{◌≡◌, ℕ, zero, suc, ◌+◌, Bool, true, false, List, [], ◌∷◌, ◌++◌, Option, None, Some, map, refl, sym, ◌∙◌, ap, subst}
-use Rattle.std.specs.Prelude.{slice_get, if◌then◌else◌}
+use Rattle.std.specs.Prelude.{◌&&◌, nat_lt, slice_get, if◌then◌else◌}
 use Rattle.std.specs.List.{AllByRecursion}
 use Rattle.std.proofs.lemmas.List.{append-nil, map-append}
 use Rattle.std.proofs.lemmas.Option.{same_Some}
+use Rattle.redo_facts.specs.Facts.{RecipeFacts}
 use Rattle.redo_logs.specs.Logs.{Log, log_number}
 use Rattle.redo_view.specs.Event.{Event}
 use Rattle.redo_html.specs.declared.markup.Markup.{Markup}
@@ -16,22 +17,24 @@ use Rattle.redo_outline.specs.Facts.{target_status}
 use Rattle.redo_outline.specs.Outline.{log_count, nodes_of, outline_of, times_at, with_times}
 use Rattle.redo_page.specs.declared.frame.TheConstants.{FOOTER, HEAD, HEADER}
 use Rattle.redo_page.specs.declared.summary.TheConstants.{SECTION}
-use Rattle.redo_page.specs.Laws.{IsOfTarget, TellsItsTarget}
+use Rattle.redo_page.specs.Laws.{IsOfTarget, KnownRecipes, TellsItsTarget, page_recipes}
 use Rattle.redo_page.specs.Limits.{tree_limits}
-use Rattle.redo_page.specs.Page.{Request, options_of, page_contents, page_events, page_facts, page_outline, page_parts, page_view, run_times, top_parts}
+use Rattle.redo_page.specs.Page.{Request, options_of, page_contents, page_events, page_facts, page_outline, page_parts, page_usage, page_view, run_times, top_parts}
 use Rattle.redo_page.specs.Scope.{View}
 use Rattle.redo_page.specs.Summary.{summary_parts}
 use Rattle.redo_page.specs.Tree.{node_at}
-use Rattle.redo_page.specs.declared.scope.Rows.TheVariants.{Longest, Warned}
-use Rattle.redo_page.proofs.FailedNames.{HasValues, IsValueOf, failed_tells, template_tells, timeline_tells}
+use Rattle.redo_page.specs.declared.scope.Rows.TheVariants.{Longest, LongestAlone, MostMemory, Warned}
+use Rattle.redo_page.proofs.FailedNames.{HasValues, IsValueOf, failed_tells, known_in, template_tells, timeline_tells}
 use Rattle.redo_page.proofs.NameLemmas.{Tell, TellHere, Tells, from_here, then_tell}
 use Rattle.redo_page.proofs.OpeningLemmas.{AreNamed, ArePlaced, contents_named, nodes_placed, same_placed, target_named, timed_node, trim_named, trim_placed}
 use Rattle.redo_page.proofs.TreeNames.{event_name, tree_tells}
 use Rattle.redo_page.specs.Frame.{footer_parts}
 use Rattle.redo_summary.specs.declared.rank.Rank.{Rank}
-use Rattle.redo_summary.specs.Laws.{HasDuration, HasWarnings}
+use Rattle.redo_summary.specs.Laws.{HasDuration, HasMemory, HasTimeAlone, HasWarnings}
 use Rattle.redo_summary.specs.Summary.{is_timed, summary_of}
 use Rattle.redo_summary.specs.Targets.{duration_of, times_of}
+use Rattle.redo_summary.specs.Usage.{usage_of}
+use Rattle.redo_timeline.specs.declared.span.Span.{Span}
 use Rattle.redo_times.specs.declared.times.Times.{Times}
 
 -- ---- nodes
@@ -76,19 +79,23 @@ module _ (logs : List Log) (events : List Event) (times : List Times) where
 
 -- ---- parts
 
-top_tells : (view : View) → HasValues view → Tells view.logs view.nodes (top_parts view)
+top_tells : (view : View) → HasValues view → Tells (known_in view) view.logs view.nodes (top_parts view)
 unfolding top_parts summary_parts
 top_tells view values =
-    then_tell view.logs view.nodes (template_tells HEAD refl view values)
-    (then_tell view.logs view.nodes (template_tells HEADER refl view values)
-    (then_tell view.logs view.nodes (failed_tells view) (template_tells SECTION refl view values)))
+    then_tell (known_in view) view.logs view.nodes (template_tells HEAD refl view values)
+    (then_tell (known_in view) view.logs view.nodes (template_tells HEADER refl view values)
+    (then_tell (known_in view) view.logs view.nodes (failed_tells view) (template_tells SECTION refl view values)))
 
 -- ---- rows of tables
 
 -- The values of the ranks are of nodes: the law of the summary.
 pub record RanksHaveValues : Type 0 where
   pub longest : (nodes : List Node) (times : List Times) → AllByRecursion (HasDuration nodes times) (summary_of nodes times).longest
+  pub alone : (nodes : List Node) (times : List Times)
+      → AllByRecursion (HasTimeAlone (summary_of nodes times).recipes) (summary_of nodes times).alone
   pub warned : (nodes : List Node) (times : List Times) → AllByRecursion (HasWarnings nodes) (summary_of nodes times).warned
+  pub memory : (nodes : List Node) (facts : List RecipeFacts) (recipes : List Span)
+      → AllByRecursion (HasMemory nodes facts) (usage_of nodes facts recipes).memory
 
 found : (nodes : List Node) (position : ℕ) (node : Node) → slice_get nodes position ≡ Some node → node ≡ node_at nodes position
 found [] position node is = absurd (cc)
@@ -104,6 +111,9 @@ holds_at P (other ∷ nodes) (suc position) node is all = holds_at P nodes posit
 module _ (request : Request) (logs : List Log) (requested : List (List ℕ)) where
   abbrev nodes : List Node
   nodes = page_outline request logs requested
+
+  abbrev recipes : KnownRecipes
+  recipes = page_recipes request logs requested
 
   abbrev events : List Event
   events = page_events request logs requested
@@ -125,14 +135,23 @@ module _ (request : Request) (logs : List Log) (requested : List (List ℕ)) whe
       (append-nil (outline_of logs events))))
 
   module _ (ranks : RanksHaveValues) where
-    duration_at : (rank : Rank) → HasDuration nodes request.times rank → IsValueOf Longest (node_at nodes rank.position) rank.value
+    duration_at : (rank : Rank) → HasDuration nodes request.times rank
+        → IsValueOf recipes Longest (node_at nodes rank.position) rank
     duration_at rank (node, is, took, known, value) =
-        subst (λ (n : Node). IsValueOf Longest n rank.value) (found nodes rank.position node is)
+        subst (λ (n : Node). IsValueOf recipes Longest n rank) (found nodes rank.position node is)
         (took, (holds_at (IsOfTarget logs events request.times) nodes rank.position node is page_targets).took ∙ known, value)
 
-    warnings_at : (rank : Rank) → HasWarnings nodes rank → IsValueOf Warned (node_at nodes rank.position) rank.value
+    alone_at : (rank : Rank) → HasTimeAlone recipes.spans rank → IsValueOf recipes LongestAlone (node_at nodes rank.position) rank
+    alone_at rank has = has
+
+    memory_at : (rank : Rank) → HasMemory nodes request.recipes rank
+        → IsValueOf recipes MostMemory (node_at nodes rank.position) rank
+    memory_at rank (node, is, usage, known, value) =
+        subst (λ (n : Node). IsValueOf recipes MostMemory n rank) (found nodes rank.position node is) (usage, known, value)
+
+    warnings_at : (rank : Rank) → HasWarnings nodes rank → IsValueOf recipes Warned (node_at nodes rank.position) rank
     warnings_at rank (node, is, value) =
-        subst (λ (n : Node). IsValueOf Warned n rank.value) (found nodes rank.position node is) value
+        subst (λ (n : Node). IsValueOf recipes Warned n rank) (found nodes rank.position node is) value
 
     each : {P Q : Rank → Type 0} → ((rank : Rank) → P rank → Q rank) → (all : List Rank) → AllByRecursion P all → AllByRecursion Q all
     each so [] have = tt
@@ -141,28 +160,40 @@ module _ (request : Request) (logs : List Log) (requested : List (List ℕ)) whe
     values : HasValues (page_view request logs requested)
     values Longest = by (is_timed (page_facts request logs requested))
       where
-        by : (timed : Bool) → AllByRecursion (λ (rank : Rank). IsValueOf Longest (node_at nodes rank.position) rank.value)
+        by : (timed : Bool) → AllByRecursion (λ (rank : Rank). IsValueOf recipes Longest (node_at nodes rank.position) rank)
             (if timed then (page_facts request logs requested).longest else [])
         by true = each duration_at (page_facts request logs requested).longest (ranks.longest nodes request.times)
         by false = tt
+    values LongestAlone = by (is_timed (page_facts request logs requested) && nat_lt 1 (page_facts request logs requested).most)
+      where
+        by : (shown : Bool) → AllByRecursion (λ (rank : Rank). IsValueOf recipes LongestAlone (node_at nodes rank.position) rank)
+            (if shown then (page_facts request logs requested).alone else [])
+        by true = each alone_at (page_facts request logs requested).alone (ranks.alone nodes request.times)
+        by false = tt
+    values MostMemory = each memory_at (page_usage request logs requested).memory
+        (ranks.memory nodes request.recipes (page_facts request logs requested).recipes)
     values Warned = each warnings_at (page_facts request logs requested).warned (ranks.warned nodes request.times)
 
-  page_tells : RanksHaveValues → Tells logs nodes (page_parts request logs requested)
+  page_tells : RanksHaveValues → Tells recipes logs nodes (page_parts request logs requested)
   unfolding page_parts footer_parts
   page_tells ranks =
       let view = page_view request logs requested in
       let limits = tree_limits logs (options_of request) nodes request.max_bytes in
-      then_tell logs nodes (top_tells view (values ranks))
-      (then_tell logs nodes
-      (then_tell logs nodes (timeline_tells view (values ranks))
-      (tree_tells logs (options_of request) nodes (page_contents request logs requested) (trim_named limits logs [] shown named)
+      then_tell recipes logs nodes (top_tells view (values ranks))
+      (then_tell recipes logs nodes
+      (then_tell recipes logs nodes (timeline_tells view (values ranks))
+      (tree_tells recipes logs (options_of request) nodes (page_contents request logs requested)
+      (trim_named limits logs [] shown named)
       page_placed))
       (template_tells FOOTER refl view (values ranks)))
 
-  all_tell : RanksHaveValues → Tell logs nodes (page_parts request logs requested)
-  all_tell ranks = subst (Tell logs nodes) (append-nil (page_parts request logs requested)) ((page_tells ranks).before [] tt)
+  all_tell : RanksHaveValues → Tell recipes logs nodes (page_parts request logs requested)
+  all_tell ranks =
+      subst (Tell recipes logs nodes) (append-nil (page_parts request logs requested))
+      ((page_tells ranks).before [] tt)
 
   pub page_names : RanksHaveValues → (before : List Part) (tag : Markup) (after : List Part)
-      → before ++ (MarkupPart tag ∷ after) ≡ page_parts request logs requested → TellsItsTarget logs nodes tag after
+      → before ++ (MarkupPart tag ∷ after) ≡ page_parts request logs requested → TellsItsTarget logs nodes recipes tag after
   page_names ranks before tag after is =
-      from_here (TellHere logs nodes) before (MarkupPart tag) after (subst (Tell logs nodes) (sym is) (all_tell ranks))
+      from_here (TellHere recipes logs nodes) before (MarkupPart tag) after
+      (subst (Tell recipes logs nodes) (sym is) (all_tell ranks))

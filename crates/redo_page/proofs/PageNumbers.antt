@@ -1,6 +1,6 @@
 -- The heading and the summary of a page.
 use Rattle.std.proofs.Common.{◌≡◌, ℕ, Bool, true, false, List, [], ◌∷◌, ◌++◌, refl, sym, ◌∙◌, ap, subst}
-use Rattle.std.specs.Prelude.{◌==◌, drop, is_some, length, nat_lt, not, if◌then◌else◌}
+use Rattle.std.specs.Prelude.{◌==◌, drop, is_some, length, nat_lt, not, unwrap_or, if◌then◌else◌}
 use Rattle.std.specs.List.{flat_map, list_any}
 use Rattle.std.proofs.lemmas.Grind.{flat_map-append}
 use Rattle.std.proofs.lemmas.List.{append_assoc, append-nil}
@@ -12,14 +12,14 @@ use Rattle.redo_html.specs.Parts.Part.{MarkupPart, TextPart, NumberPart}
 use Rattle.redo_html.specs.Shown.{number_text}
 use Rattle.redo_outline.specs.declared.node.Node.{Node}
 use Rattle.redo_page.specs.declared.frame.TheConstants.{HEADER}
-use Rattle.redo_page.specs.declared.labels.TheConstants.{AND_COUNT, AT_MOST, AT_ONCE, DEPENDENT, FAILED, FAILED_SIGN, LOGS, MADE_BY, MADE_SIGN, OF, PROGRAM, SUM_OF_TIMES, SUMMARY, TARGETS, TARGETS_FAILED, TARGETS_MADE, TARGETS_UNFINISHED, TARGET_FAILED, TARGET_MADE, TARGET_UNFINISHED, TOOK, UNFINISHED_SIGN, WARNED_LINES}
+use Rattle.redo_page.specs.declared.labels.TheConstants.{AND_COUNT, AT_MOST, AT_ONCE, DEPENDENT, FAILED, FAILED_SIGN, LOGS, MADE_BY, MADE_SIGN, OF, PROCESSOR_TIME, PROGRAM, SUM_OF_TIMES, SUMMARY, TARGETS, TARGETS_FAILED, TARGETS_MADE, TARGETS_UNFINISHED, TARGET_FAILED, TARGET_MADE, TARGET_UNFINISHED, TOOK, UNFINISHED_SIGN, WARNED_LINES}
 use Rattle.redo_page.specs.declared.summary.TheConstants.{SECTION}
 use Rattle.redo_page.specs.declared.verdict.Verdict.{Verdict}
 use Rattle.redo_page.specs.declared.verdict.Verdict.TheVariants.{Failed, Unfinished, Made}
 use Rattle.redo_page.specs.Failed.{failed_parts, is_dependent_failure, positions_where}
 use Rattle.redo_page.specs.Frame.{footer_parts, head_parts, header_parts}
 use Rattle.redo_page.specs.Laws.{IsPartOf, IsRead, end_shown, heading_shown, heading_with, number_of, requested_shown, root_count, summary_shown, tile, took_shown}
-use Rattle.redo_page.specs.Page.{Request, body_parts, heading_of, options_of, page_facts, page_html, page_outline, page_parts, page_view, top_parts}
+use Rattle.redo_page.specs.Page.{Request, body_parts, heading_of, options_of, page_facts, page_html, page_outline, page_parts, page_usage, page_view, top_parts}
 use Rattle.redo_page.specs.Scope.{View}
 use Rattle.redo_page.specs.Summary.{summary_parts}
 use Rattle.redo_page.specs.Targets.{parts_if}
@@ -29,6 +29,7 @@ use Rattle.redo_page.specs.Words.{words_parts}
 use Rattle.redo_page.specs.Tree.{root_failures}
 use Rattle.redo_page.proofs.PagePartLemmas.{part_earlier, part_later}
 use Rattle.redo_summary.specs.Summary.{Facts, is_timed}
+use Rattle.redo_summary.specs.Usage.{UsageFacts}
 use Rattle.redo_units.specs.Durations.{duration_words}
 use Rattle.redo_units.specs.Sizes.{size_words, tenths_words}
 
@@ -72,15 +73,15 @@ before_tiles =
     MarkupPart markup.SummarySection ∷ MarkupPart markup.SummaryHeading ∷ TextPart SUMMARY.now ∷ MarkupPart markup.EndHeading ∷ []
 
 -- The tiles of the summary, and the parts before and after them.
-abbrev in_tiles : Part → Part → Part → List Part → List Part → List Part → List Part → List Part → List Part
-in_tiles targets roots warnings dependents size took timed rest =
+abbrev in_tiles : Part → Part → Part → List Part → List Part → List Part → List Part → List Part → List Part → List Part
+in_tiles targets roots warnings dependents size took timed processor rest =
     before_tiles
     ++ ((MarkupPart markup.DescriptionList
     ∷ ((tile TARGETS.now (targets ∷ [])
     ++ (tile FAILED.now (roots ∷ dependents)
     ++ (tile WARNED_LINES.now (warnings ∷ [])
     ++ (tile LOGS.now size
-    ++ (took ++ timed)))))
+    ++ (took ++ (timed ++ processor))))))
     ++ MarkupPart markup.EndDescriptionList ∷ []))
     ++ rest)
 
@@ -90,22 +91,24 @@ ends_tile value others rest =
     let end = MarkupPart markup.EndDescription ∷ MarkupPart markup.EndDiv ∷ [] in
     append_assoc (value ++ end) others rest ∙ append_assoc value end (others ++ rest)
 
-tiles_are : (targets roots warnings : Part) (dependents size took timed rest : List Part)
-    → in_tiles targets roots warnings dependents size took timed rest
+tiles_are : (targets roots warnings : Part) (dependents size took timed processor rest : List Part)
+    → in_tiles targets roots warnings dependents size took timed processor rest
     ≡ before_tiles
     ++ (MarkupPart markup.DescriptionList
     ∷ term_of TARGETS.now (targets ∷ ended (term_of FAILED.now (roots ∷ (dependents ++ ended (term_of WARNED_LINES.now (warnings
-    ∷ ended (term_of LOGS.now (size ++ ended (took ++ (timed ++ (MarkupPart markup.EndDescriptionList ∷ rest))))))))))))
-tiles_are targets roots warnings dependents size took timed rest =
+    ∷ ended (term_of LOGS.now (size ++ ended (took ++ (timed ++ (processor ++ (MarkupPart markup.EndDescriptionList ∷ rest)))))))))))))
+tiles_are targets roots warnings dependents size took timed processor rest =
     let after = MarkupPart markup.EndDescriptionList ∷ rest in
-    let last = tile WARNED_LINES.now (warnings ∷ []) ++ (tile LOGS.now size ++ (took ++ timed)) in
+    let last = tile WARNED_LINES.now (warnings ∷ []) ++ (tile LOGS.now size ++ (took ++ (timed ++ processor))) in
     ap (λ (t : List Part). before_tiles ++ (MarkupPart markup.DescriptionList ∷ t))
     (append_assoc (tile TARGETS.now (targets ∷ []) ++ (tile FAILED.now (roots ∷ dependents) ++ last))
     (MarkupPart markup.EndDescriptionList ∷ []) rest
     ∙ ap (λ (t : List Part). term_of TARGETS.now (targets ∷ ended (term_of FAILED.now (roots ∷ t))))
     (ends_tile dependents last after
     ∙ ap (λ (t : List Part). dependents ++ ended (term_of WARNED_LINES.now (warnings ∷ ended (term_of LOGS.now t))))
-    (ends_tile size (took ++ timed) after ∙ ap (λ (t : List Part). size ++ ended t) (append_assoc took timed after))))
+    (ends_tile size (took ++ (timed ++ processor)) after
+    ∙ ap (λ (t : List Part). size ++ ended t)
+    (append_assoc took (timed ++ processor) after ∙ ap (λ (t : List Part). took ++ t) (append_assoc timed processor after)))))
 
 timed_are : (sum at : List Part) (most : Part)
     → tile SUM_OF_TIMES.now sum ++ tile AT_ONCE.now (at ++ TextPart AT_MOST.now ∷ most ∷ [])
@@ -124,7 +127,10 @@ module _ (request : Request) (logs : List Log) (requested : List (List ℕ)) whe
   abbrev facts : Facts
   facts = page_facts request logs requested
 
-  summary_has : IsPartOf (summary_shown nodes facts) (summary_parts view)
+  abbrev usage : UsageFacts
+  usage = page_usage request logs requested
+
+  summary_has : IsPartOf (summary_shown nodes facts usage) (summary_parts view)
   unfolding summary_parts
   summary_has =
       let size = words_parts (size_words facts.bytes) in
@@ -135,16 +141,18 @@ module _ (request : Request) (logs : List Log) (requested : List (List ℕ)) whe
       let dependent_count = length (positions_where is_dependent_failure 0 nodes) in
       let dependents = parts_if (not (dependent_count == 0))
       (TextPart AND_COUNT.now ∷ NumberPart dependent_count ∷ TextPart DEPENDENT.now ∷ []) in
-      let rest = parts_of_items (λ text. text.now) (block_parts (block_parts (block_parts nothing))) view (drop 21 SECTION.now) in
+      let rest = parts_of_items (λ text. text.now) (block_parts (block_parts (block_parts nothing))) view (drop 22 SECTION.now) in
       let timed = parts_if (is_timed facts) (term_of SUM_OF_TIMES.now (sum ++ ended (term_of AT_ONCE.now
       (at ++ (TextPart AT_MOST.now ∷ NumberPart facts.most ∷ ended []))))) in
+      let processor = parts_if (is_some usage.processor)
+      (tile PROCESSOR_TIME.now (words_parts (duration_words (unwrap_or usage.processor 0)))) in
       record {
         before = before_tiles;
         after = rest;
         splits =
             ap (λ (parts : List Part). in_tiles (NumberPart (length nodes)) roots (NumberPart facts.warnings) dependents size took
-            (parts_if (is_timed facts) parts) rest) (timed_are sum at (NumberPart facts.most))
-            ∙ tiles_are (NumberPart (length nodes)) roots (NumberPart facts.warnings) dependents size took timed rest;
+            (parts_if (is_timed facts) parts) processor rest) (timed_are sum at (NumberPart facts.most))
+            ∙ tiles_are (NumberPart (length nodes)) roots (NumberPart facts.warnings) dependents size took timed processor rest;
       }
 
   abbrev title : List Part
@@ -202,10 +210,10 @@ module _ (request : Request) (logs : List Log) (requested : List (List ℕ)) whe
       header_has_part (heading_shown nodes)
       (subst (λ (heading : List Part). IsPartOf heading (header_parts view)) (heading_is nodes) (header_has view))
 
-  page_has_summary : IsPartOf (summary_shown nodes facts) (page_parts request logs requested)
+  page_has_summary : IsPartOf (summary_shown nodes facts usage) (page_parts request logs requested)
   unfolding top_parts
   page_has_summary =
-      page_has (summary_shown nodes facts)
+      page_has (summary_shown nodes facts usage)
       (part_later (head_parts view)
       (part_later (header_parts view) (part_later (failed_parts view) summary_has)))
 
@@ -236,8 +244,8 @@ module _ (request : Request) (logs : List Log) (requested : List (List ℕ)) whe
     pub heading_read : IsRead (heading_shown nodes) request logs requested
     heading_read = part_read (heading_shown nodes) page_has_heading
 
-    pub summary_read : IsRead (summary_shown nodes facts) request logs requested
-    summary_read = part_read (summary_shown nodes facts) page_has_summary
+    pub summary_read : IsRead (summary_shown nodes facts usage) request logs requested
+    summary_read = part_read (summary_shown nodes facts usage) page_has_summary
 
     pub names_read : IsRead (flat_map (requested_shown logs) nodes) request logs requested
     names_read = part_read (flat_map (requested_shown logs) nodes) (header_has_part (flat_map (requested_shown logs) nodes) header_names)

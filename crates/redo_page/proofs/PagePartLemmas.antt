@@ -87,7 +87,8 @@ module _ (view : View) where
   after_list part = after_title (part_later (parts_if (holds view (HasSeveral Articles)) (in_list LIST)) part)
 
   after_articles : {inner : List Part} → IsPartOf inner (after view 6) → IsPartOf inner (after view 0)
-  after_articles part = after_list (part_later (flat_map (article_parts view.logs view.nodes) (positions_of view Articles)) part)
+  after_articles part =
+      after_list (part_later (flat_map (article_parts view.logs view.nodes view.recipes) (positions_of view Articles)) part)
 
   after_others : {inner : List Part} → IsPartOf inner (after view 7) → IsPartOf inner (after view 0)
   after_others part = after_articles (part_later (parts_if (holds view (HasAny Others)) (in_list OTHERS)) part)
@@ -158,11 +159,12 @@ module _ (view : View) where
   any these some = ap not (ne_eqb (length (positions_of view these)) 0 (λ none. omega (arith, none, some)))
 
 top_has_article : (view : View) (position : ℕ) → is_among (take max_articles view.roots) position ≡ true
-    → IsPartOf (article_parts view.logs view.nodes position) (top_parts view)
+    → IsPartOf (article_parts view.logs view.nodes view.recipes position) (top_parts view)
 top_has_article view position among =
     section_in_top view (has_failed view.roots among)
     (after_list view
-    (part_earlier (after view 6) (part_among (article_parts view.logs view.nodes) (positions_of view Articles) position among)))
+    (part_earlier (after view 6)
+    (part_among (article_parts view.logs view.nodes view.recipes) (positions_of view Articles) position among)))
   where
     has_failed : (roots : List ℕ) → is_among (take max_articles roots) position ≡ true → 0 < length roots
     has_failed [] is = absurd (cc)

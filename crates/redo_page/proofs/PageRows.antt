@@ -4,6 +4,7 @@ use Rattle.std.specs.Fmt.{digits}
 use Rattle.std.specs.List.{filter, flat_map, starts_with}
 use Rattle.std.specs.Prelude.{bytes_eq, codes, nat_eq, sum_by, take, if◌then◌else◌}
 use Rattle.std.proofs.lemmas.List.{append_assoc}
+use Rattle.redo_facts.specs.Facts.{RecipeFacts}
 use Rattle.redo_line.specs.declared.entry.Entry.{Entry}
 use Rattle.redo_line.specs.declared.entry.Entry.TheVariants.{Text, Mention, Closing}
 use Rattle.redo_line.specs.declared.entry.How.TheVariants.{Made}
@@ -31,9 +32,10 @@ use Rattle.redo_page.specs.Errors.{begins_with}
 use Rattle.redo_page.specs.Failed.{failed_parts}
 use Rattle.redo_page.specs.Command.{is_safe}
 use Rattle.redo_page.specs.Frame.{footer_parts}
+use Rattle.redo_page.specs.Recipe.{commands_parts, recipe_parts}
 use Rattle.redo_page.specs.Summary.{summary_parts}
 use Rattle.redo_page.specs.Laws.{article_ids, article_links, log_bytes, positioned_lines, BeginWith, IsList, list_item}
-use Rattle.redo_page.specs.Page.{Request, body_parts, options_of, page_contents, page_events, page_facts, page_html, page_outline, page_parts, page_view, request_of, run_times, top_parts, tree_contents}
+use Rattle.redo_page.specs.Page.{Request, body_parts, options_of, page_contents, page_events, page_facts, page_html, page_outline, page_parts, page_usage, page_view, request_of, run_times, top_parts, tree_contents}
 use Rattle.redo_timeline.specs.declared.span.Window.{Window}
 use Rattle.redo_units.specs.Dates as dates
 use Rattle.redo_units.specs.Durations.{duration_words}
@@ -56,6 +58,10 @@ name text rest = tag markup.Bdi ∷ words text ∷ tag markup.EndBdi ∷ rest
 abbrev is_text : Part → Bool
 is_text (TextPart text) = true
 is_text part = false
+
+abbrev text_bytes : Part → List ℕ
+text_bytes (TextPart text) = text
+text_bytes part = []
 
 abbrev begins_row : Part → Bool
 begins_row (MarkupPart markup.RowHeading) = true
@@ -123,6 +129,7 @@ request title unchanged locks = record {
   debug_locks = locks;
   max_bytes = 0;
   times = [];
+  recipes = [];
 }
 
 abbrev at : {A : Type 0} → List A → Bor (List A)
@@ -132,6 +139,9 @@ at items = record { ref_ptr = (0, 0); now = items }
 abbrev begun : Times
 begun = record { began = Some 7; ended = None }
 
+abbrev known : RecipeFacts
+known = record { has_log = true; directory = Some (codes "x"); commands = []; usage = None }
+
 requests_are :
     (request_of (record {
       title = at (codes "t");
@@ -140,6 +150,7 @@ requests_are :
       debug_locks = false;
       max_bytes = 0;
       times = at [];
+      recipes = at [];
     }) ≡ request (codes "t") true false)
     × (request_of (record {
       title = at [];
@@ -148,9 +159,14 @@ requests_are :
       debug_locks = true;
       max_bytes = 5;
       times = at (begun ∷ []);
+      recipes = at (known ∷ []);
     })
-    ≡ record (request [] false true) { max_bytes = 5; times = begun ∷ [] })
+    ≡ record (request [] false true) { max_bytes = 5; times = begun ∷ []; recipes = known ∷ [] })
 requests_are = (refl, refl)
+
+-- What is known of recipes reaches the page.
+recipes_are : (page_view (record (request [] false false) { recipes = known ∷ [] }) [] []).recipes ≡ known ∷ []
+recipes_are = refl
 
 options_are :
     (options_of (request [] true false)
@@ -257,10 +273,25 @@ facts_are :
       warnings = 0;
       bytes = 2;
       longest = record { value = 1800; position = 1 } ∷ [];
+      alone = record { value = 1800; position = 1 } ∷ [];
       warned = [];
     }
 unfolding show_log show_log_within
 facts_are = refl
+
+abbrev used : ℕ → ℕ → ℕ → RecipeFacts
+used user system peak = record known { usage = Some (record { user_ms = user; system_ms = system; peak_kb = peak }) }
+
+abbrev with_usage : Request
+with_usage = record timed { recipes = used 9 9 9000 ∷ used 30 5 2000 ∷ [] }
+
+-- The first target ran the second one, so its usage includes the usage of the second one.
+usage_is :
+    (page_usage with_usage made (codes "a" ∷ []) ≡ record { processor = Some 35; memory = record { value = 2000; position = 1 } ∷ [] })
+    × ((page_view with_usage made (codes "a" ∷ [])).usage ≡ record { processor = Some 35; memory = record { value = 2000; position = 1 } ∷ [] })
+    × (page_usage timed made (codes "a" ∷ []) ≡ record { processor = None; memory = [] })
+unfolding show_log show_log_within
+usage_is = (refl, refl, refl)
 
 -- ---- contents
 
@@ -389,7 +420,7 @@ failed_page :
     ∷ tag markup.NoteItem ∷ tag (markup.OutputLink 0) ∷ words (codes "What it printed is shown above") ∷ tag markup.EndLink
     ∷ tag markup.EndItem ∷ tag markup.EndUnordered ∷ tag markup.EndDetails ∷ tag markup.EndItem
     ∷ footer (NumberPart 1 ∷ words (codes " log in ") ∷ end (codes "redo-log -r -u --debug-locks --dir=d a"))))))))))))))
-unfolding page_parts top_parts summary_parts size_words footer_parts failed_parts article_parts article_of path_parts in_tree_parts output_parts whole_parts begins_with is_safe number_text digits show_log show_log_within
+unfolding page_parts top_parts summary_parts size_words footer_parts failed_parts article_parts article_of recipe_parts commands_parts path_parts in_tree_parts output_parts whole_parts begins_with is_safe number_text digits show_log show_log_within
 failed_page = refl
 
 -- The parts of these pages in short: where each section begins, the title, the first words, and the command.
@@ -417,7 +448,7 @@ failed_milestones :
     flat_map milestone (page_parts (request [] true true) failed (codes "a" ∷ []))
     ≡ markup.Head ∷ markup.Header ∷ markup.Nav ∷ markup.Main ∷ markup.FailedSection ∷ markup.SummarySection ∷ markup.TreeSection
     ∷ markup.Footer ∷ markup.EndHtml ∷ []
-unfolding page_parts top_parts summary_parts size_words footer_parts failed_parts article_parts article_of path_parts in_tree_parts output_parts whole_parts begins_with is_safe number_text digits show_log show_log_within
+unfolding page_parts top_parts summary_parts size_words footer_parts failed_parts article_parts article_of recipe_parts commands_parts path_parts in_tree_parts output_parts whole_parts begins_with is_safe number_text digits show_log show_log_within
 failed_milestones = refl
 
 -- Two targets that failed. The second one ended first.
@@ -432,7 +463,7 @@ both_ended = record (request [] false false) { times = begun ∷ ran 17958292110
 failures_in_order :
     (article_ids (page_parts both_ended both_failed (codes "a" ∷ [])) ≡ 2 ∷ 1 ∷ [])
     × (article_links (page_parts both_ended both_failed (codes "a" ∷ [])) ≡ 2 ∷ 1 ∷ [])
-unfolding page_parts top_parts summary_parts size_words tenths_words duration_words dates.date_text_of dates.date_parts dates.period_of footer_parts failed_parts cause_of_node cause_parts article_parts article_of path_parts in_tree_parts output_parts nothing_parts is_safe number_text digits show_log show_log_within
+unfolding page_parts top_parts summary_parts size_words tenths_words duration_words dates.date_text_of dates.date_parts dates.period_of footer_parts failed_parts cause_of_node cause_parts article_parts article_of recipe_parts commands_parts path_parts in_tree_parts output_parts nothing_parts is_safe number_text digits show_log show_log_within
 failures_in_order = (refl, refl)
 
 -- If most times are known, there is a timeline.
@@ -490,13 +521,13 @@ made_words = refl
 failed_words :
     take 3 (flat_map words_of (page_parts (request [] true true) failed (codes "a" ∷ [])))
     ≡ (0xE2 ∷ 0x9C ∷ 0x97 ∷ []) ∷ codes " " ∷ codes "1 of 1 target failed" ∷ []
-unfolding page_parts top_parts summary_parts size_words footer_parts failed_parts article_parts article_of path_parts in_tree_parts output_parts whole_parts is_safe number_text digits show_log show_log_within
+unfolding page_parts top_parts summary_parts size_words footer_parts failed_parts article_parts article_of recipe_parts commands_parts path_parts in_tree_parts output_parts whole_parts is_safe number_text digits show_log show_log_within
 failed_words = refl
 
 command_is :
     filter (λ text. starts_with nat_eq text (codes "redo-log -r"))
     (flat_map words_of (page_parts (request [] true true) failed (codes "a" ∷ []))) ≡ codes "redo-log -r -u --debug-locks --dir=d a" ∷ []
-unfolding page_parts top_parts summary_parts size_words footer_parts failed_parts article_parts article_of path_parts in_tree_parts output_parts whole_parts begins_with is_safe number_text digits show_log show_log_within
+unfolding page_parts top_parts summary_parts size_words footer_parts failed_parts article_parts article_of recipe_parts commands_parts path_parts in_tree_parts output_parts whole_parts begins_with is_safe number_text digits show_log show_log_within
 command_is = refl
 
 -- A page has the bytes of its parts.

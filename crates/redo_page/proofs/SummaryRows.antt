@@ -1,8 +1,8 @@
 -- Rows of the summary, as the parts that are written. The values are worked out by hand.
 use Rattle.std.proofs.Common.{◌≡◌, ℕ, Bool, true, false, List, [], ◌∷◌, ◌++◌, Option, None, Some, ℤ, pos, replicate, refl}
 use Rattle.std.specs.Fmt.{digits}
-use Rattle.std.specs.List.{flat_map}
-use Rattle.std.specs.Prelude.{codes, take}
+use Rattle.std.specs.List.{flat_map, list_any}
+use Rattle.std.specs.Prelude.{bytes_eq, codes, take}
 use Rattle.redo_html.specs.declared.markup.Markup.{Markup}
 use Rattle.redo_html.specs.declared.markup.Markup.TheVariants as markup
 use Rattle.redo_html.specs.Parts.{Part}
@@ -11,7 +11,7 @@ use Rattle.redo_html.specs.Shown.{number_text}
 use Rattle.redo_logs.specs.declared.log_state.LogState.TheVariants.{Ended}
 use Rattle.redo_logs.specs.Logs.{Log}
 use Rattle.redo_outline.specs.declared.node.Node.{Node}
-use Rattle.redo_page.specs.Scope.{View, known_count, largest_of, meter_of, shown_longest}
+use Rattle.redo_page.specs.Scope.{View, known_count, largest_of, meter_of, shown_alone, shown_longest}
 use Rattle.redo_page.specs.Laws.{heading_shown, requested_shown, summary_shown}
 use Rattle.redo_page.specs.Page.{build_view}
 use Rattle.redo_page.specs.Summary.{summary_parts}
@@ -19,6 +19,7 @@ use Rattle.redo_page.specs.Template.{nothing, tile_end, tile_start}
 use Rattle.redo_page.specs.Words.{word_part, words_parts}
 use Rattle.redo_summary.specs.declared.rank.Rank.{Rank}
 use Rattle.redo_summary.specs.Summary.{Facts}
+use Rattle.redo_summary.specs.Usage.{UsageFacts}
 use Rattle.redo_timeline.specs.declared.span.Span.{Span}
 use Rattle.redo_timeline.specs.declared.span.Window.{Window}
 use Rattle.redo_units.specs.Durations.{duration_words}
@@ -69,6 +70,7 @@ unknown = record {
   warnings = 4;
   bytes = 46099;
   longest = rank 9 0 ∷ [];
+  alone = [];
   warned = [];
 }
 
@@ -88,6 +90,7 @@ known = record {
   warnings = 7;
   bytes = 1;
   longest = rank 60000 2 ∷ rank 5000 1 ∷ [];
+  alone = [];
   warned = rank 8 1 ∷ [];
 }
 
@@ -96,10 +99,21 @@ abbrev few : Facts
 few = record known { callers = []; marks = span 0 ∷ [] }
 
 abbrev view : Facts → View
-view facts = build_view [] [] [] logs nodes facts
+view facts = build_view [] [] [] [] logs nodes facts
 
 abbrev summary : Facts → List Part
 summary facts = summary_parts (view facts)
+
+abbrev unused : UsageFacts
+unused = record { processor = None; memory = [] }
+
+-- 61 s of processor time. The third target had 61,440,000 bytes of memory, and the second one a quarter of that.
+abbrev used : UsageFacts
+used = record { processor = Some 61000; memory = rank 60000 2 ∷ rank 15000 1 ∷ [] }
+
+-- The summary of a build whose recipes used this.
+abbrev summary_with : Facts → UsageFacts → List Part
+summary_with facts usage = summary_parts (record (view facts) { usage = usage })
 
 -- ---- numbers with units
 
@@ -134,6 +148,10 @@ all_tiles rest =
     (tile_of (codes "Logs") (number 1 ∷ words (codes " byte") ∷ words [] ∷ words [] ∷ [])
     (tile_of (codes "Took") (number 1 ∷ words (codes " min ") ∷ number 3 ∷ number 0 ∷ words (codes " s") ∷ []) (timed rest)))))
 
+abbrev processor_tile : List Part → List Part
+processor_tile rest =
+    tile_of (codes "Processor time") (number 1 ∷ words (codes " min ") ∷ number 0 ∷ number 1 ∷ words (codes " s") ∷ []) rest
+
 -- ---- tables
 
 -- In hundredths of a percent, rounded down. Ten thousand times a value is at most 2^64 - 1.
@@ -145,6 +163,14 @@ widths_are :
     × (width 1844674407370955 1 ≡ 18446744073709550000) × (width 1844674407370956 1 ≡ 18446744073709551615)
     × (width 18446744073709551615 18446744073709551615 ≡ 1)
 widths_are = (refl, refl, refl, refl, refl, refl, refl, refl, refl)
+
+-- Nothing is shown of how long recipes were the only ones that ran if no others ran at the same time.
+abbrev alone : Facts
+alone = record known { alone = rank 50000 2 ∷ rank 25000 1 ∷ [] }
+
+alone_are : (shown_alone alone ≡ rank 50000 2 ∷ rank 25000 1 ∷ []) × (shown_alone (record alone { most = 1 }) ≡ [])
+    × (shown_alone (record few { alone = rank 9 0 ∷ [] }) ≡ [])
+alone_are = (refl, refl, refl)
 
 longest_are : (shown_longest unknown ≡ []) × (shown_longest few ≡ []) × (shown_longest known ≡ rank 60000 2 ∷ rank 5000 1 ∷ [])
 longest_are = (refl, refl, refl)
@@ -176,6 +202,22 @@ warned_row rest =
     ∷ tag markup.NumberCell ∷ number 8 ∷ tag markup.EndCell ∷ tag markup.MeterCell ∷ MeterPart 10000 ∷ tag markup.EndCell
     ∷ tag markup.EndTableRow ∷ rest
 
+abbrev large_row : List Part → List Part
+large_row rest =
+    tag markup.TableRow ∷ tag markup.RowHeading ∷ tag (markup.TargetLink 2) ∷ tag markup.Bdi ∷ words (codes "b") ∷ tag markup.EndBdi
+    ∷ tag markup.EndLink
+    ∷ words (codes " ") ∷ tag markup.ExitBadge ∷ words (codes "exit ") ∷ words [] ∷ number 2 ∷ tag markup.EndBadge
+    ∷ tag markup.EndRowHeading
+    ∷ tag markup.NumberCell ∷ number 61 ∷ words (codes ".") ∷ number 4 ∷ words (codes " MB") ∷ tag markup.EndCell
+    ∷ tag markup.MeterCell ∷ MeterPart 10000 ∷ tag markup.EndCell ∷ tag markup.EndTableRow ∷ rest
+
+abbrev small_row : List Part → List Part
+small_row rest =
+    tag markup.TableRow ∷ tag markup.RowHeading ∷ tag (markup.TargetLink 1) ∷ tag markup.Bdi ∷ words (codes "a") ∷ tag markup.EndBdi
+    ∷ tag markup.EndLink ∷ tag markup.EndRowHeading
+    ∷ tag markup.NumberCell ∷ number 15 ∷ words (codes ".") ∷ number 3 ∷ words (codes " MB") ∷ tag markup.EndCell
+    ∷ tag markup.MeterCell ∷ MeterPart 2500 ∷ tag markup.EndCell ∷ tag markup.EndTableRow ∷ rest
+
 abbrev table : List ℕ → List Part → List Part
 table heading rest =
     tag markup.Div ∷ tag markup.Title3 ∷ words heading ∷ tag markup.EndTitle3 ∷ tag markup.Table ∷ tag markup.TableBody ∷ rest
@@ -187,6 +229,12 @@ abbrev both_tables : List Part → List Part
 both_tables rest =
     tag markup.Columns ∷ table (codes "Longest")
     (long_row (short_row (table_end (table (codes "Most warnings") (warned_row (table_end (tag markup.EndDiv ∷ rest)))))))
+
+abbrev all_tables : List Part → List Part
+all_tables rest =
+    tag markup.Columns ∷ table (codes "Longest")
+    (long_row (short_row (table_end (table (codes "Most memory")
+    (large_row (small_row (table_end (table (codes "Most warnings") (warned_row (table_end (tag markup.EndDiv ∷ rest)))))))))))
 
 -- ---- why there is no timeline
 
@@ -222,6 +270,13 @@ summary_is :
 unfolding summary_parts duration_words size_words tenths_words
 summary_is = (refl, refl)
 
+-- The same with what the recipes used.
+summary_with_usage :
+    summary_with known used
+    ≡ section (all_tiles (processor_tile (tag markup.EndDescriptionList ∷ all_tables (tag markup.EndSection ∷ []))))
+unfolding summary_parts duration_words size_words tenths_words
+summary_with_usage = refl
+
 -- The section's heading, and the number of targets, of those that failed, and of those above.
 summary_begins :
     take 22 (summary unknown)
@@ -254,13 +309,28 @@ milestones_are :
 unfolding summary_parts duration_words size_words tenths_words
 milestones_are = (refl, refl, refl, refl, refl, refl)
 
+abbrev usage_milestones : Facts → UsageFacts → List Markup
+usage_milestones facts usage = flat_map milestone (summary_with facts usage)
+
+-- The table of memory needs no other table, and no processor time.
+usage_milestones_are :
+    (usage_milestones known used
+    ≡ markup.EndDescriptionList ∷ markup.Columns ∷ markup.Table ∷ markup.Table ∷ markup.Table ∷ markup.EndSection ∷ [])
+    × (usage_milestones (record known { longest = []; warned = [] }) used
+    ≡ markup.EndDescriptionList ∷ markup.Columns ∷ markup.Table ∷ markup.EndSection ∷ [])
+    × (usage_milestones unknown (record used { processor = None })
+    ≡ markup.EndDescriptionList ∷ markup.Columns ∷ markup.Table ∷ markup.QuietParagraph ∷ markup.EndSection ∷ [])
+    × (usage_milestones unknown (record used { memory = [] }) ≡ markup.EndDescriptionList ∷ markup.QuietParagraph ∷ markup.EndSection ∷ [])
+unfolding summary_parts duration_words size_words tenths_words
+usage_milestones_are = (refl, refl, refl, refl)
+
 abbrev words_of : Part → List (List ℕ)
 words_of (TextPart text) = text ∷ []
 words_of part = []
 
 -- A build of three targets. The times of one are unknown, and no target failed with another one.
 few_words_are :
-    flat_map words_of (summary_parts (build_view [] [] [] (log (codes "a") ∷ []) (node 0 None (Some (pos 1)) false ∷ []) (record few { warned = [] })))
+    flat_map words_of (summary_parts (build_view [] [] [] [] (log (codes "a") ∷ []) (node 0 None (Some (pos 1)) false ∷ []) (record few { warned = [] })))
     ≡ codes "Summary" ∷ codes "Targets" ∷ codes "Failed" ∷ codes "Lines with warning:" ∷ codes "Logs" ∷ codes " byte" ∷ [] ∷ []
     ∷ codes "Took" ∷ codes " min " ∷ codes " s"
     ∷ codes "There is no timeline: the logs of " ∷ codes " of " ∷ codes " targets do not say when they began, or when they ended." ∷ []
@@ -269,7 +339,7 @@ few_words_are = refl
 
 -- A build without known times: 46.0 kB of text.
 no_times_words_are :
-    flat_map words_of (summary_parts (build_view [] [] [] (log (codes "a") ∷ []) (node 0 None (Some (pos 1)) false ∷ []) unknown))
+    flat_map words_of (summary_parts (build_view [] [] [] [] (log (codes "a") ∷ []) (node 0 None (Some (pos 1)) false ∷ []) unknown))
     ≡ codes "Summary" ∷ codes "Targets" ∷ codes "Failed" ∷ codes "Lines with warning:" ∷ codes "Logs" ∷ codes "." ∷ codes " kB"
     ∷ codes "There is no timeline: the logs do not say when the targets ran." ∷ []
 unfolding summary_parts duration_words size_words tenths_words
@@ -283,7 +353,7 @@ values_of part = []
 
 -- 1 target failed, 7 lines have warnings, 1 byte, 1 min 30 s, and the logs of 1 of 3 targets say too little.
 few_values_are :
-    flat_map values_of (summary_parts (build_view [] [] [] (log (codes "a") ∷ []) (node 0 None (Some (pos 1)) false ∷ []) (record few { warned = [] })))
+    flat_map values_of (summary_parts (build_view [] [] [] [] (log (codes "a") ∷ []) (node 0 None (Some (pos 1)) false ∷ []) (record few { warned = [] })))
     ≡ 1 ∷ 1 ∷ 7 ∷ 1 ∷ 1 ∷ 3 ∷ 0 ∷ 1 ∷ 3 ∷ []
 unfolding summary_parts duration_words size_words tenths_words
 few_values_are = refl
@@ -324,6 +394,36 @@ warned_words_are :
 unfolding summary_parts duration_words size_words tenths_words
 warned_words_are = refl
 
+-- As `known_values_are`, and: status 2, 50.0 s, all of the meter; 25.0 s, half of it.
+alone_values_are :
+    flat_map values_of (summary alone)
+    ≡ 3 ∷ 1 ∷ 1 ∷ 7 ∷ 1 ∷ 1 ∷ 3 ∷ 0 ∷ 2 ∷ 0 ∷ 5 ∷ 1 ∷ 3 ∷ 2
+    ∷ 2 ∷ 1 ∷ 0 ∷ 0 ∷ 10000 ∷ 5 ∷ 0 ∷ 0 ∷ 833 ∷ 2 ∷ 50 ∷ 0 ∷ 10000 ∷ 25 ∷ 0 ∷ 5000 ∷ 8 ∷ 10000 ∷ []
+unfolding summary_parts duration_words size_words tenths_words
+alone_values_are = refl
+
+alone_headings_are :
+    (list_any (bytes_eq (codes "Longest alone")) (flat_map words_of (summary alone)) ≡ true)
+    × (list_any (bytes_eq (codes "Longest alone")) (flat_map words_of (summary known)) ≡ false)
+unfolding summary_parts duration_words size_words tenths_words
+alone_headings_are = (refl, refl)
+
+-- 1 min 01 s of processor time. Status 2, 61.4 MB; and 15.3 MB.
+usage_values_are :
+    flat_map values_of (summary_with unknown used)
+    ≡ 3 ∷ 1 ∷ 1 ∷ 4 ∷ 46 ∷ 0 ∷ 1 ∷ 0 ∷ 1 ∷ 2 ∷ 61 ∷ 4 ∷ 10000 ∷ 15 ∷ 3 ∷ 2500 ∷ []
+unfolding summary_parts duration_words size_words tenths_words
+usage_values_are = refl
+
+usage_words_are :
+    flat_map words_of (summary_with unknown used)
+    ≡ codes "Summary" ∷ codes "Targets" ∷ codes "Failed" ∷ codes ", and " ∷ codes " dependent" ∷ codes "Lines with warning:" ∷ codes "Logs"
+    ∷ codes "." ∷ codes " kB" ∷ codes "Processor time" ∷ codes " min " ∷ codes " s"
+    ∷ codes "Most memory" ∷ codes "b" ∷ codes " " ∷ codes "exit " ∷ [] ∷ codes "." ∷ codes " MB" ∷ codes "a" ∷ codes "." ∷ codes " MB"
+    ∷ codes "There is no timeline: the logs do not say when the targets ran." ∷ []
+unfolding summary_parts duration_words size_words tenths_words
+usage_words_are = refl
+
 -- The texts of the heading and of the summary. `E2 9C 97` is a ballot cross.
 heading_is :
     heading_shown nodes
@@ -332,9 +432,11 @@ heading_is :
 unfolding number_text digits
 heading_is = refl
 
-tiles_are : summary_shown nodes known ≡ tag markup.DescriptionList ∷ all_tiles (tag markup.EndDescriptionList ∷ [])
+tiles_are :
+    (summary_shown nodes known unused ≡ tag markup.DescriptionList ∷ all_tiles (tag markup.EndDescriptionList ∷ []))
+    × (summary_shown nodes known used ≡ tag markup.DescriptionList ∷ all_tiles (processor_tile (tag markup.EndDescriptionList ∷ [])))
 unfolding duration_words size_words tenths_words
-tiles_are = refl
+tiles_are = (refl, refl)
 
 -- Only the first target is in no other one.
 requested_are :

@@ -302,7 +302,7 @@ module _ (count : ℕ) (articles : List ℕ) where
     item_refers text_of (InRows rows) item.ArticleLink is row = absurd (cc)
     item_refers text_of place item.Cause is row = refer_at place (cause_of_node_refers count articles view.logs view.node)
     item_refers text_of Failing item.Articles is row =
-        articles_refer count articles view.logs view.nodes (positions_of view listed.Articles) rows_are.2
+        articles_refer count articles view.logs view.nodes view.recipes (positions_of view listed.Articles) rows_are.2
     item_refers text_of Outside item.Articles is row = absurd (cc)
     item_refers text_of InTargets item.Articles is row = absurd (cc)
     item_refers text_of (InRows rows) item.Articles is row = absurd (cc)

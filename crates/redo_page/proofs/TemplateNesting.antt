@@ -194,7 +194,7 @@ module _ {B : Type 0} (inner : B → View → List Part) (opened : B → Open) (
   item_leads text_of item.Badge stack next is = stays stack next (badge_nests view.node.status) is
   item_leads text_of item.Cause stack next is = stays stack next (cause_of_node_nests view.logs view.node) is
   item_leads text_of item.Articles stack next is =
-      stays stack next (nest_each (article_parts view.logs view.nodes) (article_nests view.logs view.nodes)
+      stays stack next (nest_each (article_parts view.logs view.nodes view.recipes) (article_nests view.logs view.nodes view.recipes)
       (positions_of view listed.Articles)) is
   item_leads text_of (item.In around block) stack next is =
       stays stack next (around_nests around block (closed (opened block) stack next is)) (closed_stays (opened block) stack next is)

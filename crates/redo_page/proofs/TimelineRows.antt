@@ -65,6 +65,7 @@ facts window callers recipes marks = record {
   warnings = 0;
   bytes = 0;
   longest = [];
+  alone = [];
   warned = [];
 }
 
@@ -76,7 +77,7 @@ abbrev known : Facts
 known = facts (Some window) (span 0 1000 11000 ∷ []) (span 1 1000 6000 ∷ span 2 2000 11000 ∷ []) []
 
 abbrev view : Facts → View
-view facts = build_view [] [] [] logs nodes facts
+view facts = build_view [] [] [] [] logs nodes facts
 
 -- ---- whether there is a timeline
 

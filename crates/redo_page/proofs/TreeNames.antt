@@ -26,7 +26,7 @@ use Rattle.redo_page.specs.declared.block.Pending.{Pending}
 use Rattle.redo_page.specs.declared.block.Pending.TheVariants as pending
 use Rattle.redo_page.specs.declared.level.Level.{Level}
 use Rattle.redo_page.specs.Blocks.{end_parts, line_parts, line_size, line_start}
-use Rattle.redo_page.specs.Laws.{BeginWith, IsLogHeading, target_name}
+use Rattle.redo_page.specs.Laws.{KnownRecipes, BeginWith, IsLogHeading, target_name}
 use Rattle.redo_page.specs.Targets.{exit_parts, facts_parts, how_parts, name_parts}
 use Rattle.redo_page.specs.Tree.{Build, after_log, after_shown, articles, contents_parts, depth_parts, done_parts, empty_start, flat_start, group_left, group_start, heading_parts, is_empty, is_expanded, is_moved, is_moved_if, is_seen, no_node, item_parts, level_of, log_end, log_start, max_depth, mention_parts, moved_parts, nested_start, node_at, note_parts, opening_parts, opening_position, position_of, position_of_name, request_parts, section_end, section_start, shown_parts, top_level, tree_parts}
 use Rattle.redo_page.proofs.Ids.{Bare, how_bare}
@@ -48,9 +48,9 @@ event_name logs (Mentioned depth pid how name opening) number is names = (name, 
 event_name logs (EntryShown depth entry) number is names = absurd (none-some number is)
 event_name logs (LogEnds depth) number is names = absurd (none-some number is)
 
-module _ (build : Build) where
+module _ (recipes : KnownRecipes) (build : Build) where
   abbrev Telling : List Part → Type 0
-  Telling parts = Tells build.logs build.nodes parts
+  Telling parts = Tells recipes build.logs build.nodes parts
 
   abbrev name_here : ℕ → List ℕ
   name_here position = target_name build.logs build.nodes position
@@ -58,10 +58,10 @@ module _ (build : Build) where
   -- ---- links
 
   number_named : (name : List ℕ) (number : ℕ) → log_number name build.logs ≡ Some number
-      → IsNameAt build.logs build.nodes (position_of build.nodes number) name
+      → IsNameAt recipes build.logs build.nodes (position_of build.nodes number) name
   number_named name number is = by (position_of build.nodes number) refl
     where
-      by : (position : Option ℕ) → position_of build.nodes number ≡ position → IsNameAt build.logs build.nodes position name
+      by : (position : Option ℕ) → position_of build.nodes number ≡ position → IsNameAt recipes build.logs build.nodes position name
       by None found = tt
       by (Some position) found =
           let same : (node_at build.nodes position).number ≡ number =
@@ -70,16 +70,16 @@ module _ (build : Build) where
           ap (target_at build.logs) same ∙ target_named build.logs name number is
 
   opening_named : (name : List ℕ) (opening : Opening) → IsOpeningOf build.logs name opening
-      → IsNameAt build.logs build.nodes (opening_position build opening) name
+      → IsNameAt recipes build.logs build.nodes (opening_position build opening) name
   opening_named name NotOpened names = tt
   opening_named name (OpenedBefore number) names = number_named name number names
   opening_named name (OpensHere number) names = number_named name number names
 
-  done_named : (name : List ℕ) → IsNameAt build.logs build.nodes (position_of_name build name) name
+  done_named : (name : List ℕ) → IsNameAt recipes build.logs build.nodes (position_of_name build name) name
   done_named name = by (log_number name build.logs) refl
     where
       by : (number : Option ℕ) → log_number name build.logs ≡ number
-          → IsNameAt build.logs build.nodes (option_and_then (position_of build.nodes) number) name
+          → IsNameAt recipes build.logs build.nodes (option_and_then (position_of build.nodes) number) name
       by None is = tt
       by (Some number) is = number_named name number is
 
@@ -87,50 +87,50 @@ module _ (build : Build) where
 
   item_tells : (before : Pending) (seen : Bool) {parts : List Part} → Telling parts → Telling (item_parts before seen parts)
   item_tells before true tells =
-      then_tell build.logs build.nodes (bare_tell build.logs build.nodes (end_parts before) (end_bare before)) tells
-  item_tells before false tells = none_tell build.logs build.nodes
+      then_tell recipes build.logs build.nodes (bare_tell recipes build.logs build.nodes (end_parts before) (end_bare before)) tells
+  item_tells before false tells = none_tell recipes build.logs build.nodes
 
   done_tells : (status : ℤ) (name : List ℕ) → Telling (done_parts build status name)
   done_tells status name =
-      then_tell build.logs build.nodes {parts = MarkupPart markup.NoteItem ∷ TextPart NEEDS.now ∷ []}
-      (bare_tell build.logs build.nodes _ refl)
-      (then_tell build.logs build.nodes
-      (linked_tells build.logs build.nodes (position_of_name build name) name (done_named name))
-      (bare_tell build.logs build.nodes (exit_parts status ++ MarkupPart markup.EndItem ∷ []) refl))
+      then_tell recipes build.logs build.nodes {parts = MarkupPart markup.NoteItem ∷ TextPart NEEDS.now ∷ []}
+      (bare_tell recipes build.logs build.nodes _ refl)
+      (then_tell recipes build.logs build.nodes
+      (linked_tells recipes build.logs build.nodes (position_of_name build name) name (done_named name))
+      (bare_tell recipes build.logs build.nodes (exit_parts status ++ MarkupPart markup.EndItem ∷ []) refl))
 
   mention_tells : (how : How) (name : List ℕ) (opening : Opening) → IsOpeningOf build.logs name opening
       → Telling (mention_parts build how name opening)
   mention_tells how name opening names =
-      then_tell build.logs build.nodes {parts = MarkupPart markup.Item ∷ []} (bare_tell build.logs build.nodes _ refl)
-      (then_tell build.logs build.nodes
-      (linked_tells build.logs build.nodes (opening_position build opening) name (opening_named name opening names))
-      (then_tell build.logs build.nodes
-      (bare_tell build.logs build.nodes (how_parts build.options.debug_locks how) (how_bare build.options.debug_locks how))
-      (bare_tell build.logs build.nodes (MarkupPart markup.EndItem ∷ []) refl)))
+      then_tell recipes build.logs build.nodes {parts = MarkupPart markup.Item ∷ []} (bare_tell recipes build.logs build.nodes _ refl)
+      (then_tell recipes build.logs build.nodes
+      (linked_tells recipes build.logs build.nodes (opening_position build opening) name (opening_named name opening names))
+      (then_tell recipes build.logs build.nodes
+      (bare_tell recipes build.logs build.nodes (how_parts build.options.debug_locks how) (how_bare build.options.debug_locks how))
+      (bare_tell recipes build.logs build.nodes (MarkupPart markup.EndItem ∷ []) refl)))
 
   line_tells : (before : Pending) (line : List ℕ) → Telling (line_parts before line)
   line_tells before line =
-      then_tell build.logs build.nodes
-      (bare_tell build.logs build.nodes (line_start before (line_size line)) (line_start_bare before (line_size line)))
+      then_tell recipes build.logs build.nodes
+      (bare_tell recipes build.logs build.nodes (line_start before (line_size line)) (line_start_bare before (line_size line)))
       (record { before = λ rest tell. (tt, tell) })
 
   shown_tells : (level : Level) (before : Pending) (event : Event) → NamesItsLog build.logs event
       → Telling (shown_parts build level before event)
   shown_tells level before (Requested name opening) names =
-      item_tells before true (bare_tell build.logs build.nodes (request_parts name) refl)
+      item_tells before true (bare_tell recipes build.logs build.nodes (request_parts name) refl)
   shown_tells level before (Mentioned depth pid how name opening) names = item_tells before true (mention_tells how name opening names)
   shown_tells level before (EntryShown depth (Text line)) names = by (is_moved_if build level.position)
     where
       by : (moved : Bool) → Telling (if moved then [] else line_parts before line)
-      by true = none_tell build.logs build.nodes
+      by true = none_tell recipes build.logs build.nodes
       by false = line_tells before line
-  shown_tells level before (EntryShown depth (Mention pid how name)) names = none_tell build.logs build.nodes
+  shown_tells level before (EntryShown depth (Mention pid how name)) names = none_tell recipes build.logs build.nodes
   shown_tells level before (EntryShown depth (Done pid status name)) names =
       item_tells before (is_seen build level (EntryShown depth (Done pid status name))) (done_tells status name)
-  shown_tells level before (EntryShown depth (Closing pid status)) names = none_tell build.logs build.nodes
+  shown_tells level before (EntryShown depth (Closing pid status)) names = none_tell recipes build.logs build.nodes
   shown_tells level before (EntryShown depth (Note pid kind text)) names =
-      item_tells before true (bare_tell build.logs build.nodes (note_parts kind text) (note_bare kind text))
-  shown_tells level before (LogEnds depth) names = none_tell build.logs build.nodes
+      item_tells before true (bare_tell recipes build.logs build.nodes (note_parts kind text) (note_bare kind text))
+  shown_tells level before (LogEnds depth) names = none_tell recipes build.logs build.nodes
 
   -- ---- logs
 
@@ -189,7 +189,7 @@ module _ (build : Build) where
   id_tells position heading others heads tells = record {
     before = λ rest tell. (
       log_heading position heading [] others rest heads,
-      (then_tell build.logs build.nodes (bare_tell build.logs build.nodes heading heads.bare) tells).before rest tell,
+      (then_tell recipes build.logs build.nodes (bare_tell recipes build.logs build.nodes heading heads.bare) tells).before rest tell,
     );
   }
 
@@ -199,24 +199,24 @@ module _ (build : Build) where
   details_tell true position heading others heads tells = record {
     before = λ rest tell. (
       log_heading position heading (MarkupPart markup.Summary ∷ []) others rest heads,
-      (tt, (then_tell build.logs build.nodes (bare_tell build.logs build.nodes heading heads.bare) tells).before rest tell),
+      (tt, (then_tell recipes build.logs build.nodes (bare_tell recipes build.logs build.nodes heading heads.bare) tells).before rest tell),
     );
   }
   details_tell false position heading others heads tells = record {
     before = λ rest tell. (
       log_heading position heading (MarkupPart markup.Summary ∷ []) others rest heads,
-      (tt, (then_tell build.logs build.nodes (bare_tell build.logs build.nodes heading heads.bare) tells).before rest tell),
+      (tt, (then_tell recipes build.logs build.nodes (bare_tell recipes build.logs build.nodes heading heads.bare) tells).before rest tell),
     );
   }
 
   moved_tells : (position : ℕ) → Telling (moved_parts build position)
   moved_tells position =
-      tell_if build.logs build.nodes (is_moved build position)
-      (then_tell build.logs build.nodes {parts = MarkupPart markup.NoteItem ∷ []} (bare_tell build.logs build.nodes _ refl)
-      (then_tell build.logs build.nodes
+      tell_if recipes build.logs build.nodes (is_moved build position)
+      (then_tell recipes build.logs build.nodes {parts = MarkupPart markup.NoteItem ∷ []} (bare_tell recipes build.logs build.nodes _ refl)
+      (then_tell recipes build.logs build.nodes
       {parts = MarkupPart (markup.OutputLink position) ∷ TextPart SHOWN_ABOVE.now ∷ MarkupPart markup.EndLink ∷ []}
-      (above_link_tells build.logs build.nodes position)
-      (bare_tell build.logs build.nodes (MarkupPart markup.EndItem ∷ []) refl)))
+      (above_link_tells recipes build.logs build.nodes position)
+      (bare_tell recipes build.logs build.nodes (MarkupPart markup.EndItem ∷ []) refl)))
 
   opening_tells : (level : Level) (position : ℕ) (heading : List Part) → Heads position heading
       → Telling (opening_parts build level position heading)
@@ -228,7 +228,7 @@ module _ (build : Build) where
 
       empty : Telling (empty_start position heading)
       empty = record {
-        before = λ rest tell. (only rest, (bare_tell build.logs build.nodes heading heads.bare).before rest tell);
+        before = λ rest tell. (only rest, (bare_tell recipes build.logs build.nodes heading heads.bare).before rest tell);
       }
 
       by : (none deep : Bool) → Telling (if none then empty_start position heading
@@ -237,43 +237,44 @@ module _ (build : Build) where
       by true deep = empty
       by false true =
           id_tells position heading (depth_parts level.depth ++ moved_parts build position) heads
-          (then_tell build.logs build.nodes (bare_tell build.logs build.nodes (depth_parts level.depth) refl) (moved_tells position))
+          (then_tell recipes build.logs build.nodes (bare_tell recipes build.logs build.nodes (depth_parts level.depth) refl)
+          (moved_tells position))
       by false false =
-          then_tell build.logs build.nodes {parts = MarkupPart markup.Item ∷ []} (bare_tell build.logs build.nodes _ refl)
+          then_tell recipes build.logs build.nodes {parts = MarkupPart markup.Item ∷ []} (bare_tell recipes build.logs build.nodes _ refl)
           (details_tell (is_expanded build level (node_at build.nodes position)) position heading
           ((MarkupPart markup.EndSummary ∷ MarkupPart markup.Unordered ∷ []) ++ moved_parts build position) heads
-          (then_tell build.logs build.nodes {parts = MarkupPart markup.EndSummary ∷ MarkupPart markup.Unordered ∷ []}
-          (bare_tell build.logs build.nodes _ refl) (moved_tells position)))
+          (then_tell recipes build.logs build.nodes {parts = MarkupPart markup.EndSummary ∷ MarkupPart markup.Unordered ∷ []}
+          (bare_tell recipes build.logs build.nodes _ refl) (moved_tells position)))
 
   start_tells : (level : Level) (position : ℕ) (before : Pending) (event : Event) → Heads position (heading_parts build event position)
       → Telling (log_start build level position before event)
   start_tells level position before event heads =
-      then_tell build.logs build.nodes
-      (bare_tell build.logs build.nodes (group_start build level position before) (group_start_bare build level position before))
+      then_tell recipes build.logs build.nodes
+      (bare_tell recipes build.logs build.nodes (group_start build level position before) (group_start_bare build level position before))
       (opening_tells level position (heading_parts build event position) heads)
 
   -- ---- contents
 
   contents_tell : (level : Level) (position : ℕ) (before : Pending) (contents : Contents) → AreNamed build.logs contents
       → ArePlaced build.nodes position contents → Telling (contents_parts build level position before contents)
-  contents_tell level position before Nothing named placed = bare_tell build.logs build.nodes (end_parts before) (end_bare before)
+  contents_tell level position before Nothing named placed = bare_tell recipes build.logs build.nodes (end_parts before) (end_bare before)
   contents_tell level position before (Shown event rest) named placed =
-      then_tell build.logs build.nodes (shown_tells level before event named.0)
+      then_tell recipes build.logs build.nodes (shown_tells level before event named.0)
       (contents_tell level position (after_shown build level before event) rest named.1 placed)
   contents_tell level position before (Opened event number inside rest) named placed =
       let left = group_left build level position before in
-      then_tell build.logs build.nodes
+      then_tell recipes build.logs build.nodes
       (start_tells level position before event (event_heads event number position placed.0.number_is named.0 named.1))
-      (then_tell build.logs build.nodes
+      (then_tell recipes build.logs build.nodes
       (contents_tell (level_of build level position) (suc position) pending.Nothing inside named.2 placed.1)
-      (then_tell build.logs build.nodes
-      (bare_tell build.logs build.nodes (log_end build level position left) (log_end_bare build level position left))
+      (then_tell recipes build.logs build.nodes
+      (bare_tell recipes build.logs build.nodes (log_end build level position left) (log_end_bare build level position left))
       (contents_tell level (suc position + log_count inside) (after_log left) rest named.3 placed.2)))
 
-pub tree_tells : (logs : List Log) (options : Options) (nodes : List Node) (contents : Contents) → AreNamed logs contents
-    → ArePlaced nodes 0 contents → Tells logs nodes (tree_parts logs options nodes contents)
-tree_tells logs options nodes contents named placed =
+pub tree_tells : (recipes : KnownRecipes) (logs : List Log) (options : Options) (nodes : List Node) (contents : Contents)
+    → AreNamed logs contents → ArePlaced nodes 0 contents → Tells recipes logs nodes (tree_parts logs options nodes contents)
+tree_tells recipes logs options nodes contents named placed =
     let build : Build = record { logs = logs; options = options; nodes = nodes; articles = articles nodes } in
-    then_tell logs nodes {parts = section_start} (calm_tell logs nodes section_start refl)
-    (then_tell logs nodes (contents_tell build top_level 0 pending.Nothing contents named placed)
-    (bare_tell logs nodes section_end refl))
+    then_tell recipes logs nodes {parts = section_start} (calm_tell recipes logs nodes section_start refl)
+    (then_tell recipes logs nodes (contents_tell recipes build top_level 0 pending.Nothing contents named placed)
+    (bare_tell recipes logs nodes section_end refl))

@@ -1,5 +1,6 @@
 -- The outputs of targets that failed, why they failed, and their articles.
 use Rattle.std.specs.Prelude.{ℕ, zero, suc, ◌==◌, List, [], ◌∷◌, ◌++◌, Option, None, Some, codes, if◌then◌else◌}
+use Rattle.redo_facts.specs.Facts.{RecipeFacts}
 use Rattle.redo_logs.specs.Logs.{Log}
 use Rattle.redo_html.specs.declared.markup.Markup.TheVariants as markup
 use Rattle.redo_html.specs.declared.style.Style.{Style}
@@ -13,6 +14,7 @@ use Rattle.redo_outline.specs.Facts.{entries_at, target_at, texts_of}
 use Rattle.redo_page.specs.declared.labels.TheConstants.{MIDDLE_DOT, MORE_ABOVE, NOTHING_CAPTURED, NO_FAILURE_BELOW, PATH_SEPARATOR, PLACE_IN_TREE}
 use Rattle.redo_page.specs.Errors.{cause_of, is_error}
 use Rattle.redo_page.specs.Excerpt.{cut_to, emphasized_if, excerpt_parts, in_tree_parts}
+use Rattle.redo_page.specs.Recipe.{recipe_at, recipe_parts}
 use Rattle.redo_page.specs.Targets.{name_parts, badge_parts}
 use Rattle.redo_page.specs.Tree.{is_short, node_at}
 use Rattle.redo_page.specs.Words.{words_parts}
@@ -82,6 +84,7 @@ module _ (logs : List Log) (nodes : List Node) where
   abbrev pub max_path : ℕ
   max_path = 4
 
+module _ (logs : List Log) (nodes : List Node) (recipes : List RecipeFacts) where
   unfoldable pub article_of : ℕ → Node → List Part
   article_of position node =
       MarkupPart (markup.Article position) ∷ MarkupPart markup.Title3
@@ -89,10 +92,11 @@ module _ (logs : List Log) (nodes : List Node) where
       ++ (badge_parts node.status
       ++ (MarkupPart markup.EndTitle3 ∷ MarkupPart markup.MetaParagraph
       ∷ (article_took node.took
-      ++ (path_parts max_path node.parent
+      ++ (path_parts logs nodes (max_path logs nodes) node.parent
       ++ (in_tree_parts position PLACE_IN_TREE.now
-      ++ (MarkupPart markup.EndParagraph ∷ (output_parts logs position node ++ MarkupPart markup.EndArticle ∷ []))))))))
+      ++ (MarkupPart markup.EndParagraph
+      ∷ (recipe_parts (recipe_at recipes node.number) ++ (output_parts logs position node ++ MarkupPart markup.EndArticle ∷ [])))))))))
 
-  -- Where a target that failed is, and what it printed.
+  -- Where a target that failed is, its recipe, and what it printed.
   unfoldable pub article_parts : ℕ → List Part
   article_parts position = article_of position (node_at nodes position)

@@ -1,6 +1,8 @@
 -- The statements of the laws.
-use Rattle.std.specs.Prelude.{◌≡◌, ◌⊎◌, ℕ, zero, suc, ◌+◌, ◌*◌, ◌^◌, ◌<◌, ◌==◌, ◌||◌, ◌&&◌, nat_le, max, length, Bool, true, not, List, [], ◌∷◌, ◌++◌, map, Option, None, Some, is_none, is_some, codes, false, nat_eq, nat_lt, take, drop, if◌then◌else◌}
-use Rattle.std.specs.List.{AllByRecursion, filter, flat_map, list_any, starts_with}
+use Rattle.std.specs.Prelude.{◌≡◌, ◌⊎◌, ℕ, zero, suc, ◌+◌, ◌-◌, ◌*◌, ◌^◌, ◌<◌, ◌≤◌, ◌==◌, ◌||◌, ◌&&◌, nat_le, max, length, Bool, true, not, List, [], ◌∷◌, ◌++◌, map, Option, None, Some, is_none, is_some, codes, false, nat_eq, nat_lt, take, drop, unwrap_or, if◌then◌else◌}
+use Rattle.std.specs.List.{AllByRecursion, Contains, filter, flat_map, list_any, starts_with}
+use Rattle.redo_facts.specs.declared.statement.Usage.{Usage}
+use Rattle.redo_facts.specs.Facts.{RecipeCommand, RecipeFacts}
 use Rattle.redo_line.specs.declared.entry.Entry.TheVariants.{Text, Done, Note}
 use Rattle.redo_line.specs.declared.entry.How.{How}
 use Rattle.redo_line.specs.Lines.{with_line_feed}
@@ -9,7 +11,7 @@ use Rattle.redo_view.specs.Event.{Event}
 use Rattle.redo_view.specs.LogLines.{text_lines}
 use Rattle.redo_view.specs.Event.Event.{Requested, Mentioned, EntryShown}
 use Rattle.redo_html.specs.declared.markup.Markup.{Markup}
-use Rattle.redo_html.specs.declared.markup.Markup.TheVariants.{BodyBad, BodyGood, BodyOpen, FailedSection, SummarySection, TimelineSection, TreeSection, FailedLink, SummaryLink, TimelineLink, TreeLink, TargetLink, EndLink, OutputLink, Article, TargetItem, Details, OpenDetails, Summary, Title3, EndTitle3, MetaParagraph, Paragraph, EndParagraph, Ordered, OrderedFrom, EndOrdered, Item, EndItem, RowHeading, EndRowHeading, NumberCell, EndCell, Title1, EndTitle1, Sign, EndSign, DescriptionList, EndDescriptionList, Div, EndDiv, Term, EndTerm, Description, EndDescription, Code, EndCode}
+use Rattle.redo_html.specs.declared.markup.Markup.TheVariants.{BodyBad, BodyGood, BodyOpen, FailedSection, SummarySection, TimelineSection, TreeSection, FailedLink, SummaryLink, TimelineLink, TreeLink, TargetLink, EndLink, OutputLink, Article, TargetItem, Details, OpenDetails, Summary, Title3, EndTitle3, MetaParagraph, Paragraph, EndParagraph, Ordered, OrderedFrom, EndOrdered, Item, EndItem, RowHeading, EndRowHeading, NumberCell, EndCell, Title1, EndTitle1, Sign, EndSign, DescriptionList, EndDescriptionList, Div, EndDiv, Term, EndTerm, Description, EndDescription, Code, EndCode, Pre, EndPre}
 use Rattle.redo_html.specs.declared.chart.GroupKind.{GroupKind}
 use Rattle.redo_html.specs.Chart.{Drawing, drawing_links}
 use Rattle.redo_html.specs.Html.{Token, is_one_of, read}
@@ -21,20 +23,23 @@ use Rattle.redo_html.specs.Tags.{markup_text}
 use Rattle.redo_outline.specs.declared.node.Node.{Node}
 use Rattle.redo_outline.specs.Contents.{Contents, contents_of}
 use Rattle.redo_outline.specs.Contents.Contents.{Nothing, Shown, Opened}
-use Rattle.redo_outline.specs.Facts.{target_at, target_status, text_size}
+use Rattle.redo_outline.specs.Facts.{saturated, target_at, target_status, text_size}
 use Rattle.redo_outline.specs.Outline.{log_count}
-use Rattle.redo_page.specs.declared.labels.TheConstants.{AND_COUNT, AS_ONE_TEXT, AT_MOST, AT_ONCE, BUILD_TOOK, DEPENDENT, FAILED, FAILED_SIGN, IN_ITS_LOG, LOGS, LOGS_IN, LOG_IN, MADE_SIGN, OF, PLACE_IN_TREE, SHOWN_ABOVE, SUM_OF_TIMES, TARGETS, TARGETS_FAILED, TARGETS_MADE, TARGETS_UNFINISHED, TARGET_FAILED, TARGET_MADE, TARGET_UNFINISHED, TOOK, UNFINISHED_SIGN, WARNED_LINES}
+use Rattle.redo_page.specs.declared.labels.TheConstants.{AND_COUNT, AS_ONE_TEXT, AT_MOST, AT_ONCE, BUILD_TOOK, DEPENDENT, FAILED, FAILED_SIGN, IN_ITS_LOG, LOGS, LOGS_IN, LOG_IN, MADE_SIGN, OF, PLACE_IN_TREE, PROCESSOR_TIME, SHOWN_ABOVE, SUM_OF_TIMES, TARGETS, TARGETS_FAILED, TARGETS_MADE, TARGETS_UNFINISHED, TARGET_FAILED, TARGET_MADE, TARGET_UNFINISHED, TOOK, UNFINISHED_SIGN, WARNED_LINES}
 use Rattle.redo_page.specs.Command.{command}
 use Rattle.redo_page.specs.Errors.{cause_of}
 use Rattle.redo_page.specs.Article.{article_parts, article_took, cause_parts, max_path, path_parts, printed_by}
 use Rattle.redo_page.specs.Failed.{is_dependent_failure, is_unclosed, positions_where}
 use Rattle.redo_page.specs.Page.{Request, options_of, page_contents, page_events, page_facts, page_html, page_outline}
+use Rattle.redo_page.specs.Recipe.{recipe_at}
 use Rattle.redo_page.specs.Scope.{began_parts, max_rows}
 use Rattle.redo_page.specs.Timeline.{facts_drawing}
 use Rattle.redo_chart.specs.Laws.{DrawsAll, shapes_of}
 use Rattle.redo_summary.specs.Summary.{Facts, is_timed}
 use Rattle.redo_summary.specs.Targets.{duration_of, times_of}
+use Rattle.redo_summary.specs.Usage.{UsageFacts, usage_at}
 use Rattle.redo_summary.specs.Window.{cut}
+use Rattle.redo_timeline.specs.Alone.{alone}
 use Rattle.redo_timeline.specs.declared.span.Span.{Span}
 use Rattle.redo_timeline.specs.declared.span.Window.{Window}
 use Rattle.redo_times.specs.declared.times.Times.{Times}
@@ -157,6 +162,11 @@ pub record IsPartOf (inner whole : List Part) : Type 0 where
 abbrev pub BeginWith : List Part → List Part → Type 0
 BeginWith beginning parts = (rest : List Part) × (beginning ++ rest ≡ parts)
 
+-- What is known of recipes: their facts, by the numbers of their logs, and the spans of those that ran no others.
+pub record KnownRecipes : Type 0 where
+  pub facts : List RecipeFacts
+  pub spans : List Span
+
 module _ (logs : List Log) (nodes : List Node) where
   -- The name of the target whose log is at a position.
   abbrev pub target_name : ℕ → List ℕ
@@ -226,25 +236,31 @@ module _ (logs : List Log) (nodes : List Node) where
       ∷ (badge_parts (node_at nodes position).status
       ++ (MarkupPart EndRowHeading ∷ MarkupPart NumberCell ∷ (value ++ MarkupPart EndCell ∷ [])))))) after
 
-  -- The value is how long the target took, or how many warnings it has.
-  abbrev pub IsRow : List Part → Type 0
-  IsRow after =
-      ((position : ℕ) × (took : ℕ) × ((node_at nodes position).took ≡ Some took) × IsRowWith (words_parts (duration_words (cut took))) position after)
-      ⊎ ((position : ℕ) × IsRowWith (NumberPart (node_at nodes position).warnings ∷ []) position after)
+  module _ (recipes : KnownRecipes) where
+    -- The value is how long the target took, how many warnings it has, how much memory its recipe had, or how long the recipe was the only
+    -- one that ran.
+    abbrev pub IsRow : List Part → Type 0
+    IsRow after =
+        ((position : ℕ) × (took : ℕ) × ((node_at nodes position).took ≡ Some took) × IsRowWith (words_parts (duration_words (cut took))) position after)
+        ⊎ (((position : ℕ) × IsRowWith (NumberPart (node_at nodes position).warnings ∷ []) position after)
+        ⊎ (((position : ℕ) × (usage : Usage) × (usage_at recipes.facts (node_at nodes position).number ≡ Some usage)
+        × IsRowWith (words_parts (size_words (saturated (usage.peak_kb * 1024)))) position after)
+        ⊎ ((span : Span) × Contains recipes.spans span
+        × IsRowWith (words_parts (duration_words (cut (alone recipes.spans span)))) span.position after)))
 
-  -- The parts after a link to a target or to its article, after a tag with the id of one of these, and after the start of a list of
-  -- targets or of a row.
-  abbrev pub TellsItsTarget : Markup → List Part → Type 0
-  TellsItsTarget (TargetLink position) after = IsLinkText (PLACE_IN_TREE.now ∷ IN_ITS_LOG.now ∷ []) position after
-  TellsItsTarget (OutputLink position) after = IsLinkText (SHOWN_ABOVE.now ∷ []) position after
-  TellsItsTarget (TargetItem position) after = IsLogHeading [] position after
-  TellsItsTarget (Details position) after = IsLogHeading (MarkupPart Summary ∷ []) position after
-  TellsItsTarget (OpenDetails position) after = IsLogHeading (MarkupPart Summary ∷ []) position after
-  TellsItsTarget (Article position) after = IsArticleHeading position after
-  TellsItsTarget Ordered after = IsList (λ position. OutputLink position) after ⊎ IsList (λ position. TargetLink position) after
-  TellsItsTarget (OrderedFrom number) after = IsList (λ position. TargetLink position) after
-  TellsItsTarget RowHeading after = IsRow after
-  TellsItsTarget tag after = Unit {0}
+    -- The parts after a link to a target or to its article, after a tag with the id of one of these, and after the start of a list of
+    -- targets or of a row.
+    abbrev pub TellsItsTarget : Markup → List Part → Type 0
+    TellsItsTarget (TargetLink position) after = IsLinkText (PLACE_IN_TREE.now ∷ IN_ITS_LOG.now ∷ []) position after
+    TellsItsTarget (OutputLink position) after = IsLinkText (SHOWN_ABOVE.now ∷ []) position after
+    TellsItsTarget (TargetItem position) after = IsLogHeading [] position after
+    TellsItsTarget (Details position) after = IsLogHeading (MarkupPart Summary ∷ []) position after
+    TellsItsTarget (OpenDetails position) after = IsLogHeading (MarkupPart Summary ∷ []) position after
+    TellsItsTarget (Article position) after = IsArticleHeading position after
+    TellsItsTarget Ordered after = IsList (λ position. OutputLink position) after ⊎ IsList (λ position. TargetLink position) after
+    TellsItsTarget (OrderedFrom number) after = IsList (λ position. TargetLink position) after
+    TellsItsTarget RowHeading after = IsRow after
+    TellsItsTarget tag after = Unit {0}
 
 -- The facts about the target of a node: its log has the node's number, and its status and its times are as the logs say.
 pub record IsOfTarget (logs : List Log) (events : List Event) (times : List Times) (node : Node) : Type 0 where
@@ -291,18 +307,19 @@ module _ (nodes : List Node) where
       else if list_any is_unfinished nodes then heading_with UNFINISHED_SIGN.now (number_text (unfinished_count nodes) ++ (OF.now ++ number_of (length nodes) TARGET_UNFINISHED.now TARGETS_UNFINISHED.now))
       else heading_with MADE_SIGN.now (number_of (length nodes) TARGET_MADE.now TARGETS_MADE.now)
 
-  -- The summary. Unknown times are left out.
-  abbrev pub summary_shown : Facts → List Part
-  summary_shown facts =
+  -- The summary. Times that are unknown are left out.
+  abbrev pub summary_shown : Facts → UsageFacts → List Part
+  summary_shown facts usage =
       MarkupPart DescriptionList
       ∷ ((tile TARGETS.now (NumberPart (length nodes) ∷ [])
       ++ (tile FAILED.now (NumberPart root_count ∷ parts_if (not (dependent_count == 0)) (TextPart AND_COUNT.now ∷ NumberPart dependent_count ∷ TextPart DEPENDENT.now ∷ []))
       ++ (tile WARNED_LINES.now (NumberPart facts.warnings ∷ [])
       ++ (tile LOGS.now (words_parts (size_words facts.bytes))
       ++ (parts_if (is_some facts.window) (tile TOOK.now (words_parts (duration_words facts.took)))
-      ++ parts_if (is_timed facts)
+      ++ (parts_if (is_timed facts)
       (tile SUM_OF_TIMES.now (words_parts (duration_words facts.sum))
-      ++ tile AT_ONCE.now (words_parts (tenths_words facts.sum facts.took) ++ TextPart AT_MOST.now ∷ NumberPart facts.most ∷ [])))))))
+      ++ tile AT_ONCE.now (words_parts (tenths_words facts.sum facts.took) ++ TextPart AT_MOST.now ∷ NumberPart facts.most ∷ []))
+      ++ parts_if (is_some usage.processor) (tile PROCESSOR_TIME.now (words_parts (duration_words (unwrap_or usage.processor 0))))))))))
       ++ MarkupPart EndDescriptionList ∷ [])
 
 -- When the build began, if this has a date, and how long it took, if any time is known.
@@ -353,6 +370,16 @@ abbrev pub ContainRoots : List Node → Type 0
 ContainRoots [] = Unit {0}
 ContainRoots (node ∷ nodes) =
     (is_dependent_failure node ≡ true → list_any is_root_failure (take node.below nodes) ≡ true) × ContainRoots nodes
+
+-- ---- recipes
+
+-- Parts show the directory of a recipe and, of its last ten commands, each one that has at most 40,000 bytes, as a block with every byte.
+pub record ShowsRecipe (recipe : RecipeFacts) (parts : List Part) : Type 0 where
+  pub directory : (path : List ℕ) → recipe.directory ≡ Some path → IsPartOf (name_parts path) parts
+  pub commands :
+      AllByRecursion
+      (λ (command : RecipeCommand). length command.text ≤ 40000 → IsPartOf (MarkupPart Pre ∷ TextPart command.text ∷ MarkupPart EndPre ∷ []) parts)
+      (drop (length recipe.commands - 10) recipe.commands)
 
 -- ---- charts
 
@@ -434,7 +461,14 @@ module _ (request : Request) (logs : List Log) (requested : List (List ℕ)) whe
   page_tree = tree_parts logs (options_of request) (page_outline request logs requested) (page_contents request logs requested)
 
   abbrev pub page_article : ℕ → List Part
-  page_article position = article_parts logs (page_outline request logs requested) position
+  page_article position = article_parts logs (page_outline request logs requested) request.recipes position
+
+  -- What is known of the recipe of the target at a position.
+  abbrev pub page_recipe : ℕ → RecipeFacts
+  page_recipe position = recipe_at request.recipes (node_at (page_outline request logs requested) position).number
+
+  abbrev pub page_recipes : KnownRecipes
+  page_recipes = record { facts = request.recipes; spans = (page_facts request logs requested).recipes }
 
   -- The chart of a page with this window.
   abbrev pub page_chart : Window → Drawing

@@ -9,6 +9,7 @@ pub mod Laws
 pub mod Limits
 pub mod Page
 pub mod Private
+pub mod Recipe
 pub mod Scope
 pub mod Summary
 pub mod Targets

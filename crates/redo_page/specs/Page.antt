@@ -1,6 +1,7 @@
 -- The page of a build.
 use Rattle.std.specs.Prelude.{ℕ, Bool, true, false, List, [], ◌++◌, map}
 use Rattle.std.specs.List.{flat_map}
+use Rattle.redo_facts.specs.Facts.{RecipeFacts}
 use Rattle.redo_logs.specs.Logs.{Log}
 use Rattle.redo_options.specs.declared.options.Options.{Options}
 use Rattle.redo_view.specs.Event.{Event}
@@ -23,11 +24,12 @@ use Rattle.redo_page.specs.Tree.{Build, articles, no_node, root_failures, tree_p
 use Rattle.redo_trim.specs.Trim.{trim}
 use Rattle.redo_summary.specs.Summary.{Facts, summary_of}
 use Rattle.redo_summary.specs.Targets.{time_between}
+use Rattle.redo_summary.specs.Usage.{UsageFacts, usage_of}
 use Rattle.redo_times.specs.declared.times.Times.{Times}
 
 -- The parameters of a page: a title, or none if it is empty; the capture directory as it was given; whether unchanged targets are shown,
--- and what was done about locks; how many bytes of text lines are shown, or 0 for all; and the times of targets, by the numbers of their
--- logs.
+-- and what was done about locks; how many bytes of text lines are shown, or 0 for all; and the times of targets and what is known of their
+-- recipes, by the numbers of their logs.
 pub record Request : Type 0 where
   pub title : List ℕ
   pub dir : List ℕ
@@ -35,6 +37,7 @@ pub record Request : Type 0 where
   pub debug_locks : Bool
   pub max_bytes : ℕ
   pub times : List Times
+  pub recipes : List RecipeFacts
 
 abbrev pub request_of : PageRequest → Request
 request_of request = record {
@@ -44,6 +47,7 @@ request_of request = record {
   debug_locks = request.debug_locks;
   max_bytes = request.max_bytes;
   times = request.times.now;
+  recipes = request.recipes.now;
 }
 
 -- A page shows the logs of mentioned targets too, and all text lines.
@@ -58,8 +62,8 @@ abbrev pub heading_of : List Node → List ℕ
 heading_of nodes = verdict_text (verdict_of nodes) nodes
 
 -- The view of a build for the templates, with the title and the directory of its page, and its command.
-abbrev pub build_view : List ℕ → List ℕ → List ℕ → List Log → List Node → Facts → View
-build_view title dir command logs nodes facts = record {
+abbrev pub build_view : List ℕ → List ℕ → List ℕ → List RecipeFacts → List Log → List Node → Facts → View
+build_view title dir command recipes logs nodes facts = record {
   title = title;
   dir = dir;
   verdict = verdict_of nodes;
@@ -68,7 +72,9 @@ build_view title dir command logs nodes facts = record {
   command = command;
   logs = logs;
   nodes = nodes;
+  recipes = recipes;
   facts = facts;
+  usage = usage_of nodes recipes facts.recipes;
   roots = root_failures nodes;
   dependents = positions_where is_dependent_failure 0 nodes;
   unclosed = positions_where is_unclosed 0 nodes;
@@ -101,6 +107,10 @@ module _ (request : Request) (logs : List Log) (requested : List (List ℕ)) whe
   abbrev pub page_facts : Facts
   page_facts = summary_of page_outline request.times
 
+  -- What the recipes used that ran no others.
+  abbrev pub page_usage : UsageFacts
+  page_usage = usage_of page_outline request.recipes page_facts.recipes
+
   -- The build that the tree of the page shows.
   abbrev pub page_build : Build
   page_build = record { logs = logs; options = options_of request; nodes = page_outline; articles = articles page_outline }
@@ -110,7 +120,7 @@ module _ (request : Request) (logs : List Log) (requested : List (List ℕ)) whe
   page_contents = tree_contents logs (options_of request) request.max_bytes requested page_outline
 
   abbrev pub page_view : View
-  page_view = build_view request.title request.dir (command request.dir (options_of request) requested) logs page_outline page_facts
+  page_view = build_view request.title request.dir (command request.dir (options_of request) requested) request.recipes logs page_outline page_facts
 
   -- The parts of the page.
   unfoldable pub page_parts : List Part

@@ -1,5 +1,6 @@
 -- The values for templates: src/scope.rt has the items that show them.
-use Rattle.std.specs.Prelude.{ℕ, ◌+◌, ◌-◌, ◌*◌, ◌/◌, max, ◌==◌, ◌&&◌, nat_lt, not, Bool, List, [], ◌∷◌, Option, None, Some, is_none, is_some, length, take, drop, if◌then◌else◌}
+use Rattle.std.specs.Prelude.{ℕ, ◌+◌, ◌-◌, ◌*◌, ◌/◌, max, ◌==◌, ◌&&◌, nat_lt, not, Bool, List, [], ◌∷◌, Option, None, Some, is_none, is_some, length, take, drop, unwrap_or, if◌then◌else◌}
+use Rattle.redo_facts.specs.Facts.{RecipeFacts}
 use Rattle.redo_html.specs.Parts.{Part}
 use Rattle.redo_html.specs.Parts.Part.{TextPart}
 use Rattle.redo_logs.specs.Logs.{Log}
@@ -11,19 +12,20 @@ use Rattle.redo_page.specs.declared.scope.Count.TheVariants.{Targets, Roots, Dep
 use Rattle.redo_page.specs.declared.scope.Listed.{Listed}
 use Rattle.redo_page.specs.declared.scope.Listed.TheVariants as listed
 use Rattle.redo_page.specs.declared.scope.Measure.{Measure}
-use Rattle.redo_page.specs.declared.scope.Measure.TheVariants.{Size, Took, Sum, AtOnce, Duration}
+use Rattle.redo_page.specs.declared.scope.Measure.TheVariants.{Size, Took, Sum, AtOnce, Processor, Duration, Memory}
 use Rattle.redo_page.specs.declared.scope.Phrase.{Phrase}
 use Rattle.redo_page.specs.declared.scope.Phrase.TheVariants as phrase
 use Rattle.redo_page.specs.declared.scope.Rows.{Rows}
-use Rattle.redo_page.specs.declared.scope.Rows.TheVariants.{Longest, Warned}
+use Rattle.redo_page.specs.declared.scope.Rows.TheVariants.{Longest, LongestAlone, MostMemory, Warned}
 use Rattle.redo_page.specs.declared.scope.Test.{Test}
-use Rattle.redo_page.specs.declared.scope.Test.TheVariants.{HasTitle, IsRequested, HasFailed, HasDependents, HasWindow, IsTimed, HasKnown, HasMarks, HasCallers, HasTables, HasLongest, HasWarned, HasAny, HasSeveral, HasUnlisted}
+use Rattle.redo_page.specs.declared.scope.Test.TheVariants.{HasTitle, IsRequested, HasFailed, HasDependents, HasWindow, IsTimed, HasKnown, HasMarks, HasCallers, HasProcessor, HasTables, HasLongest, HasAlone, HasMemory, HasWarned, HasAny, HasSeveral, HasUnlisted}
 use Rattle.redo_page.specs.declared.verdict.Verdict.{Verdict}
 use Rattle.redo_page.specs.Targets.{plural}
 use Rattle.redo_page.specs.Verdict.{sign_text}
 use Rattle.redo_page.specs.Tree.{max_articles, node_at}
 use Rattle.redo_summary.specs.declared.rank.Rank.{Rank}
 use Rattle.redo_summary.specs.Summary.{Facts, is_timed}
+use Rattle.redo_summary.specs.Usage.{UsageFacts}
 use Rattle.redo_timeline.specs.declared.span.Window.{Window}
 use Rattle.redo_units.specs.Dates.{date_text_of}
 use Rattle.redo_units.specs.Durations.{duration_words}
@@ -31,7 +33,8 @@ use Rattle.redo_units.specs.Sizes.{size_words, tenths_words}
 use Rattle.redo_units.specs.Words.{WordValue}
 
 -- The title and the capture directory that the page was given, its verdict, heading, title in a tab and command, the targets of the build,
--- the facts about times, which targets failed or are unfinished, and a row of a table: its value, the largest value and its target.
+-- what is known of their recipes, the facts about times, what the recipes used, which targets failed or are unfinished, and a row of a
+-- table: its value, the largest value and its target.
 pub record View : Type 0 where
   pub title : List ℕ
   pub dir : List ℕ
@@ -41,7 +44,9 @@ pub record View : Type 0 where
   pub command : List ℕ
   pub logs : List Log
   pub nodes : List Node
+  pub recipes : List RecipeFacts
   pub facts : Facts
+  pub usage : UsageFacts
   pub roots : List ℕ
   pub dependents : List ℕ
   pub unclosed : List ℕ
@@ -52,6 +57,11 @@ pub record View : Type 0 where
 -- The recipes that took longest, unless too little is known.
 abbrev pub shown_longest : Facts → List Rank
 shown_longest facts = if is_timed facts then facts.longest else []
+
+-- The recipes that were longest the only ones that ran, unless too little is known. If there was never another one, these are the recipes
+-- that took longest, and not shown again.
+abbrev pub shown_alone : Facts → List Rank
+shown_alone facts = if is_timed facts && nat_lt 1 facts.most then facts.alone else []
 
 -- The number of targets with at least one known time.
 abbrev pub known_count : Facts → ℕ
@@ -97,7 +107,9 @@ measure_words view Size = size_words view.facts.bytes
 measure_words view Took = duration_words view.facts.took
 measure_words view Sum = duration_words view.facts.sum
 measure_words view AtOnce = tenths_words view.facts.sum view.facts.took
+measure_words view Processor = duration_words (unwrap_or view.usage.processor 0)
 measure_words view Duration = duration_words view.rank.value
+measure_words view Memory = size_words (saturated (view.rank.value * 1024))
 
 abbrev pub phrase_text : View → Phrase → List ℕ
 phrase_text view phrase.Title = view.title
@@ -126,8 +138,11 @@ holds view IsTimed = is_timed view.facts
 holds view HasKnown = not (known_count view.facts == 0)
 holds view HasMarks = not (length view.facts.marks == 0)
 holds view HasCallers = not (length view.facts.callers == 0)
-holds view HasTables = not (length (shown_longest view.facts) == 0 && length view.facts.warned == 0)
+holds view HasProcessor = is_some view.usage.processor
+holds view HasTables = not (length (shown_longest view.facts) == 0 && length view.usage.memory == 0 && length view.facts.warned == 0)
 holds view HasLongest = not (length (shown_longest view.facts) == 0)
+holds view HasAlone = not (length (shown_alone view.facts) == 0)
+holds view HasMemory = not (length view.usage.memory == 0)
 holds view HasWarned = not (length view.facts.warned == 0)
 holds view (HasAny these) = not (length (positions_of view these) == 0)
 holds view (HasSeveral these) = nat_lt 1 (length (positions_of view these))
@@ -135,6 +150,8 @@ holds view (HasUnlisted these) = nat_lt max_rows (length (positions_of view thes
 
 abbrev pub rows_of : View → Rows → List Rank
 rows_of view Longest = shown_longest view.facts
+rows_of view LongestAlone = shown_alone view.facts
+rows_of view MostMemory = view.usage.memory
 rows_of view Warned = view.facts.warned
 
 abbrev pub row_view : View → List Rank → Rank → View

@@ -48,7 +48,7 @@ module _ {T B : Type 0} (text_of : T → List ℕ) (inner : B → View → List 
   parts_of_item item.ArticleLink = article_link_parts view.rank.position (row_name view)
   parts_of_item item.Badge = badge_parts view.node.status
   parts_of_item item.Cause = cause_of_node view.logs view.node
-  parts_of_item item.Articles = flat_map (article_parts view.logs view.nodes) (positions_of view listed.Articles)
+  parts_of_item item.Articles = flat_map (article_parts view.logs view.nodes view.recipes) (positions_of view listed.Articles)
   parts_of_item item.Meter = MeterPart (meter_of view) ∷ []
   parts_of_item (item.In around block) = around_parts inner view around block
 

@@ -1,4 +1,4 @@
-//! The articles of targets that failed: where each target is, and its output.
+//! The articles of targets that failed: where each target is, its recipe, and its output.
 ghost use Rattle.std.specs.Prelude.{◌≡◌, false};
 ghost use Rattle.std.specs.List.{flat_map};
 ghost use Rattle.std.specs.Option.{option_copied};
@@ -19,10 +19,12 @@ use crate::labels::{
 };
 use crate::nodes::{is_short, node_at};
 use crate::printed::{Printed, without_line_feed};
+use crate::recipe::write_recipe;
 use crate::targets::{write_badge, write_name};
 use crate::words::write_words;
 use crate::writer::PageWriter;
 use redo_device::Sink;
+use redo_facts::Facts;
 use redo_html::{Markup, Piece, Style};
 use redo_logs::LogTable;
 use redo_outline::{Node, target_at};
@@ -179,11 +181,12 @@ fn write_took<W: Sink>(took: Option<u64>, page: &mut PageWriter<'_, W>)
 fn write_article_of<W: Sink>(
     table: &LogTable,
     nodes: &[Node],
+    recipes: &[Facts],
     position: usize,
     node: &Node,
     page: &mut PageWriter<'_, W>,
 )
-    ensures { WroteParts W.written page.old page.new (article_of table.now nodes.now position node.now) }
+    ensures { WroteParts W.written page.old page.new (article_of table.now nodes.now recipes.now position node.now) }
 {
     page.put(&[
         Piece::Markup(Markup::Article(position as u64)),
@@ -199,34 +202,37 @@ fn write_article_of<W: Sink>(
     write_path(table, nodes, MAX_PATH, node.parent, page);
     write_in_tree(position, PLACE_IN_TREE, page);
     page.put(&[Piece::Markup(Markup::EndParagraph)]);
+    write_recipe(recipes, node.number, page);
     write_output(table, position, node, page);
     page.put(&[Piece::Markup(Markup::EndArticle)]);
 }
 
-// Writes where the target at a position is, and its output.
+// Writes where the target at a position is, its recipe, and its output.
 #[tactic(auto, using(crate::proofs::WriterLemmas::wrote_then), unfolding(crate::specs::Article::article_parts))]
 fn write_article<W: Sink>(
     table: &LogTable,
     nodes: &[Node],
+    recipes: &[Facts],
     position: usize,
     page: &mut PageWriter<'_, W>,
 )
-    ensures { WroteParts W.written page.old page.new (article_parts table.now nodes.now position) }
+    ensures { WroteParts W.written page.old page.new (article_parts table.now nodes.now recipes.now position) }
 {
     let node = node_at(nodes, position);
-    write_article_of(table, nodes, position, &node, page)
+    write_article_of(table, nodes, recipes, position, &node, page)
 }
 
 /// Writes the articles of targets at these positions.
 pub fn write_articles<W: Sink>(
     table: &LogTable,
     nodes: &[Node],
+    recipes: &[Facts],
     positions: &[usize],
     page: &mut PageWriter<'_, W>,
 )
-    ensures { WroteParts W.written page.old page.new (flat_map (article_parts table.now nodes.now) positions.now) }
+    ensures { WroteParts W.written page.old page.new (flat_map (article_parts table.now nodes.now recipes.now) positions.now) }
 {
     for position in positions {
-        write_article(table, nodes, *position, page);
+        write_article(table, nodes, recipes, *position, page);
     }
 }

@@ -92,6 +92,12 @@ pub const MORE_ABOVE: &[u8] = b"\xe2\x80\xa6 \xe2\x80\xba ";
 
 pub const PLACE_IN_TREE: &[u8] = b"its place in the tree";
 
+pub const DIRECTORY: &[u8] = b"Directory: ";
+
+pub const MORE_BEFORE_THESE: &[u8] = b" more before these";
+
+pub const REST_LEFT_OUT: &[u8] = b"The rest of this command is left out.";
+
 pub const MORE_LINE: &[u8] = b" more line: ";
 
 pub const MORE_LINES: &[u8] = b" more lines: ";
@@ -129,7 +135,13 @@ pub const AT_ONCE: &[u8] = b"At once";
 
 pub const AT_MOST: &[u8] = b", at most ";
 
+pub const PROCESSOR_TIME: &[u8] = b"Processor time";
+
 pub const LONGEST: &[u8] = b"Longest";
+
+pub const LONGEST_ALONE: &[u8] = b"Longest alone";
+
+pub const MOST_MEMORY: &[u8] = b"Most memory";
 
 pub const MOST_WARNINGS: &[u8] = b"Most warnings";
 

@@ -13,10 +13,10 @@ ghost use Rattle.redo_options.specs.declared.options.Options.{Options};
 ghost use Rattle.redo_view.specs.View.{find_unknown};
 ghost use Rattle.redo_outline.specs.declared.node.Node.{Node};
 ghost use Rattle.redo_outline.specs.Contents.{Contents};
-ghost use Rattle.redo_page.specs.Laws.{AreInOrderOfEnd, ContainRoots, ListsFailures, HaveSameLogs, IsOfTarget, IsOwnTag, IsPartOf, IsRead, IsRed, ShowsItsLines, AreCountable, budget_of_tree, TellsItsTarget, article_ids, article_links, blanked, event_lines, is_among, kept_lines, lines_at, log_bytes, markups, numbers_from, page_article, page_chart, page_lines, page_tree, positioned_bytes, section_ids, section_links, target_ids, target_links, texts_of, unmoved_lines, charts, ChartDraws, HasTimeline, end_shown, first, heading_shown, heading_tag, requested_shown, summary_shown, took_shown, page_limit, says_failed, shows_failure, title_in};
+ghost use Rattle.redo_page.specs.Laws.{AreInOrderOfEnd, ContainRoots, ListsFailures, ShowsRecipe, HaveSameLogs, IsOfTarget, IsOwnTag, IsPartOf, IsRead, IsRed, ShowsItsLines, AreCountable, budget_of_tree, TellsItsTarget, article_ids, article_links, blanked, event_lines, is_among, kept_lines, lines_at, log_bytes, markups, numbers_from, page_article, page_chart, page_lines, page_recipe, page_recipes, page_tree, positioned_bytes, section_ids, section_links, target_ids, target_links, texts_of, unmoved_lines, charts, ChartDraws, HasTimeline, end_shown, first, heading_shown, heading_tag, requested_shown, summary_shown, took_shown, page_limit, says_failed, shows_failure, title_in};
 ghost use Rattle.redo_page.specs.Failed.{is_dependent_failure, positions_where};
 ghost use Rattle.redo_page.specs.Limits.{bytes_shown, highest_cap};
-ghost use Rattle.redo_page.specs.Page.{Request, page_build, page_events, page_facts, page_html, page_outline, page_parts};
+ghost use Rattle.redo_page.specs.Page.{Request, page_build, page_events, page_facts, page_html, page_outline, page_parts, page_usage};
 ghost use Rattle.redo_page.specs.Tree.{articles, root_failures, has_failed, is_moved, tree_parts};
 ghost use Rattle.redo_chart.specs.Bands.{max_caller_lanes, max_recipe_lanes, max_mark_lanes};
 ghost use Rattle.redo_chart.specs.Laws.{DrawsAll, shapes_of};
@@ -84,12 +84,12 @@ pub fn links_lead_to_ids()
 
 /// Each link to a log or to an article has the name of its target as text, or one of the page's own texts. Each log in the tree, and each
 /// article, begins with the name of its target, its status and how long it took. Each item of a list has the name of a target and its
-/// status, and each row of a table has how long it took too, or its number of warnings. The names, statuses and numbers are as the logs
-/// say. The page names the requested targets, with their statuses.
+/// status, and each row of a table has how long it took too, or was the only one that ran, its number of warnings, or the memory of its
+/// recipe. The names, statuses and numbers are as the logs and the facts say. The page names the requested targets, with their statuses.
 pub fn targets_have_their_names()
     ensures names { (request : Request) (logs : List Log) (requested : List (List ℕ)) →
         (before : List Part) (tag : Markup) (after : List Part) → before ++ (MarkupPart tag ∷ after) ≡ page_parts request logs requested →
-        TellsItsTarget logs (page_outline request logs requested) tag after }
+        TellsItsTarget logs (page_outline request logs requested) (page_recipes request logs requested) tag after }
     ensures targets { (request : Request) (logs : List Log) (requested : List (List ℕ)) →
         AllByRecursion (IsOfTarget logs (page_events request logs requested) request.times) (page_outline request logs requested) }
     ensures requested { (request : Request) (logs : List Log) (requested : List (List ℕ)) →
@@ -100,14 +100,15 @@ pub fn targets_have_their_names()
 }
 
 /// The heading of a page says how many targets failed; else how many are unfinished, if a requested one is; else how many were made.
-/// The summary has the numbers of targets, of failures and of lines with warnings, the size of all text lines, and times, if they are
-/// known. A page has one heading and one such list. It says when the build began and how long it took, if any time is known. Its last
-/// line has the number of logs, the capture directory, and the command that prints the same logs as text.
+/// The summary has the numbers of targets, of failures and of lines with warnings, the size of all text lines, and times and processor
+/// time, if they are known. A page has one heading and one such list. It says when the build began and how long it took, if any time is
+/// known. Its last line has the number of logs, the capture directory, and the command that prints the same logs as text.
 pub fn numbers_are_shown()
     ensures heading { (request : Request) (logs : List Log) (requested : List (List ℕ)) →
         IsRead (heading_shown (page_outline request logs requested)) request logs requested }
     ensures summary { (request : Request) (logs : List Log) (requested : List (List ℕ)) →
-        IsRead (summary_shown (page_outline request logs requested) (page_facts request logs requested)) request logs requested }
+        IsRead (summary_shown (page_outline request logs requested) (page_facts request logs requested) (page_usage request logs requested))
+        request logs requested }
     ensures took { (request : Request) (logs : List Log) (requested : List (List ℕ)) →
         IsRead (took_shown (page_facts request logs requested)) request logs requested }
     ensures command { (request : Request) (logs : List Log) (requested : List (List ℕ)) →
@@ -195,6 +196,16 @@ pub fn lines_are_shown()
     unlimited_logs_are_whole();
     head_and_tail_are_kept();
 }
+
+/// Each article is on the page. It shows the directory of its target's recipe, if this is known, and of the last ten known commands each
+/// one that has at most 40,000 bytes.
+pub fn recipes_are_shown()
+    ensures articles { (request : Request) (logs : List Log) (requested : List (List ℕ)) (position : ℕ) →
+        is_among (articles (page_outline request logs requested)) position ≡ true →
+        IsPartOf (page_article request logs requested position) (page_parts request logs requested) }
+    ensures recipes { (request : Request) (logs : List Log) (requested : List (List ℕ)) (position : ℕ) →
+        ShowsRecipe (page_recipe request logs requested position) (page_article request logs requested position) }
+{}
 
 /// Logs that have too many bytes together are cut at the highest cap at which they show at most `budget` bytes, or at 4,096 if that cap
 /// is lower. These clauses are about the cap before it is raised.

@@ -7,7 +7,8 @@
 //! - The page, in order, with what its head, its header and its end say: `page.rt`, `verdict.rt`, `command.rt`.
 //! - Templates: `frame.rt` (head, header and end), `summary.rt`, and `timeline.rt`, around the chart of `redo_chart`. `template.rt` says
 //!   what templates consist of, and `scope.rt` what they say about a build.
-//! - What failed, a template of lists, and the articles in it: `failed.rt`, `article.rt`, `cause.rt`, `excerpt.rt`, `printed.rt`.
+//! - What failed, a template of lists, and the articles in it: `failed.rt`, `article.rt`, `recipe.rt`, `cause.rt`, `excerpt.rt`,
+//!   `printed.rt`.
 //! - All logs: `tree.rt`, `step.rt`, `logs.rt`, `items.rt`, `block.rt`, `level.rt`, `texts.rt`. `limits.rt` says how much of each log is
 //!   shown.
 //! - What several of them use: `build.rt`, `nodes.rt`, `targets.rt`, `words.rt`, `writer.rt`, `labels.rt`.
@@ -30,6 +31,7 @@ mod logs;
 mod nodes;
 mod page;
 mod printed;
+mod recipe;
 mod scope;
 mod step;
 mod summary;
@@ -44,8 +46,8 @@ mod writer;
 
 pub use laws::{
     cap_is_highest, failed_builds_are_red, failures_are_listed, lines_are_shown, links_lead_to_ids,
-    numbers_are_shown, page_is_read, tags_are_its_own, tags_nest, targets_have_their_names,
-    times_are_shown,
+    numbers_are_shown, page_is_read, recipes_are_shown, tags_are_its_own, tags_nest,
+    targets_have_their_names, times_are_shown,
 };
 pub use page::{PageRequest, write_page};
 pub use redo_view::FormFault;

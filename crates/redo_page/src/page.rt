@@ -4,7 +4,8 @@
 //! timeline) depends on the outline, the times and the stored lines.
 //!
 //! The times reach the page in two ways. `Outline::set_times` sets how long each target took and when it ended: for the tree, for articles
-//! and for the order of failures. `Summary::new` computes all the rest. The tree needs no list of times.
+//! and for the order of failures. `Summary::new` computes all the rest. The tree needs no list of times. What recipes used reaches only
+//! the summary.
 ghost use Rattle.std.specs.Prelude.{◌≡◌, ◌++◌, true, None, IfOk, length, map};
 ghost use Rattle.std.specs.List.{flat_map, list_all};
 ghost use Rattle.redo_device.specs.Sink.{Writes};
@@ -35,10 +36,11 @@ use crate::tree::write_tree;
 use crate::verdict::{Verdict, title_text};
 use crate::writer::PageWriter;
 use redo_device::{Broken, Sink};
+use redo_facts::Facts;
 use redo_line::TargetName;
 use redo_logs::LogTable;
 use redo_outline::{Node, Outline, RunTimes};
-use redo_summary::{Rank, Summary};
+use redo_summary::{Rank, Summary, UsageSummary};
 use redo_times::Times;
 use redo_view::{FormFault, Options, Render};
 use std::alloc::{AllocError, Global};
@@ -58,6 +60,8 @@ pub struct PageRequest<'a> {
     pub max_bytes: u64,
     /// When each target began and ended, by the number of its log. Nothing is known of a target past the end.
     pub times: &'a [Times],
+    /// The facts of each target's recipe, by the number of its log. Nothing is known of a target past the end.
+    pub recipes: &'a [Facts],
 }
 
 /// Writes the page of the requested targets. Each of them must have a log. All logs must have ended.
@@ -158,6 +162,7 @@ fn write_outlined<W: Sink>(
     let failures = find_failures(alloc, nodes)?;
     let texts = Texts::new(alloc, request, options, requested, nodes, &failures)?;
     let summary = Summary::new(alloc, nodes, request.times)?;
+    let usage = UsageSummary::new(alloc, nodes, request.recipes, summary.recipes())?;
     let roots = failures.roots.as_slice();
     let dependents = failures.dependents.as_slice();
     let unclosed = failures.unclosed.as_slice();
@@ -167,6 +172,7 @@ fn write_outlined<W: Sink>(
         table,
         nodes,
         facts: &summary,
+        usage: &usage,
         roots,
         dependents,
         unclosed,

@@ -2,7 +2,7 @@
 ghost use Rattle.std.specs.Prelude.{◌≡◌, take};
 ghost use Rattle.redo_page.specs.Private.Viewing.{view_of};
 ghost use Rattle.redo_page.specs.Private.Writing.{WroteParts};
-ghost use Rattle.redo_page.specs.Scope.{began_parts, count_of, date_parts, holds, largest_of, max_rows, measure_words, meter_of, known_count, phrase_text, position_view, positions_of, row_name, row_view, rows_of, shown_longest, target_view};
+ghost use Rattle.redo_page.specs.Scope.{began_parts, count_of, date_parts, holds, largest_of, max_rows, measure_words, meter_of, known_count, phrase_text, position_view, positions_of, row_name, row_view, rows_of, shown_alone, shown_longest, target_view};
 ghost use Rattle.redo_page.specs.Words.{words_parts};
 ghost use Rattle.redo_units.specs.Dates.{date_text_of};
 
@@ -17,7 +17,7 @@ use redo_device::Sink;
 use redo_html::Piece;
 use redo_logs::LogTable;
 use redo_outline::{Node, target_at};
-use redo_summary::{Rank, Summary};
+use redo_summary::{Rank, Summary, UsageSummary};
 use redo_units::{date, duration, size, tenths};
 
 /// A number in a template.
@@ -56,8 +56,12 @@ pub enum Measure {
     Sum,
     /// How many recipes ran at once on average.
     AtOnce,
+    /// The processor time of recipes.
+    Processor,
     /// The row's value as a duration.
     Duration,
+    /// The row's value, in kilobytes of 1,024 bytes, as a size.
+    Memory,
 }
 
 /// A text in a template that depends on the build.
@@ -98,10 +102,16 @@ pub enum Test {
     HasMarks,
     /// A recipe ran others.
     HasCallers,
+    /// The processor time of a recipe is known.
+    HasProcessor,
     /// There is a table.
     HasTables,
     /// A target is among those that took longest.
     HasLongest,
+    /// A recipe is among those that were longest the only ones that ran.
+    HasAlone,
+    /// The memory of a recipe is known.
+    HasMemory,
     /// A target has warnings.
     HasWarned,
     /// There is one of these targets.
@@ -117,6 +127,10 @@ pub enum Test {
 pub enum Rows {
     /// The targets that took longest.
     Longest,
+    /// The recipes that were longest the only ones that ran.
+    LongestAlone,
+    /// The recipes with the most memory.
+    MostMemory,
     /// The targets with most warnings.
     Warned,
 }
@@ -142,6 +156,7 @@ pub struct Scope<'a> {
     pub table: &'a LogTable,
     pub nodes: &'a [Node],
     pub facts: &'a Summary,
+    pub usage: &'a UsageSummary,
     /// The positions of failed targets without a failure below them, of those above them, and of unfinished ones.
     pub roots: &'a [usize],
     pub dependents: &'a [usize],
@@ -182,7 +197,11 @@ impl<'a> Scope<'a> {
             Measure::Took => write_words(&duration(self.facts.took()), page),
             Measure::Sum => write_words(&duration(self.facts.sum()), page),
             Measure::AtOnce => write_words(&tenths(self.facts.sum(), self.facts.took()), page),
+            Measure::Processor => {
+                write_words(&duration(self.usage.processor().unwrap_or(0)), page)
+            }
             Measure::Duration => write_words(&duration(self.rank.value), page),
+            Measure::Memory => write_words(&size(self.rank.value.saturating_mul(1024)), page),
         }
     }
 
@@ -230,10 +249,15 @@ impl<'a> Scope<'a> {
             Test::HasKnown => known_count(self.facts) != 0,
             Test::HasMarks => !self.facts.marks().is_empty(),
             Test::HasCallers => !self.facts.callers().is_empty(),
+            Test::HasProcessor => self.usage.processor().is_some(),
             Test::HasTables => {
-                !shown_longest(self.facts).is_empty() || !self.facts.warned().is_empty()
+                !shown_longest(self.facts).is_empty()
+                    || !self.usage.memory().is_empty()
+                    || !self.facts.warned().is_empty()
             }
             Test::HasLongest => !shown_longest(self.facts).is_empty(),
+            Test::HasAlone => !shown_alone(self.facts).is_empty(),
+            Test::HasMemory => !self.usage.memory().is_empty(),
             Test::HasWarned => !self.facts.warned().is_empty(),
             Test::HasAny(listed) => !self.positions(listed).is_empty(),
             Test::HasSeveral(listed) => self.positions(listed).len() > 1,
@@ -247,6 +271,8 @@ impl<'a> Scope<'a> {
     {
         match rows {
             Rows::Longest => shown_longest(self.facts),
+            Rows::LongestAlone => shown_alone(self.facts),
+            Rows::MostMemory => self.usage.memory(),
             Rows::Warned => self.facts.warned(),
         }
     }
@@ -338,6 +364,17 @@ fn shown_longest(summary: &Summary) -> &[Rank]
 {
     if summary.is_timed() {
         summary.longest()
+    } else {
+        &[]
+    }
+}
+
+// Returns the recipes that were longest the only ones that ran, unless too little is known, or these are all recipes.
+fn shown_alone(summary: &Summary) -> &[Rank]
+    ensures { result.now ≡ shown_alone summary.now }
+{
+    if summary.is_timed() && summary.most() > 1 {
+        summary.alone()
     } else {
         &[]
     }

@@ -1,13 +1,15 @@
-//! The summary of a build: sizes, and the targets that took long.
+//! The summary of a build: sizes, times, and the targets that took long, used much memory or have warnings.
 use crate::labels::{
-    AND_COUNT, AT_MOST, AT_ONCE, DEPENDENT, FAILED, FEW_TIMES_OF, LOGS, LONGEST, MOST_WARNINGS,
-    NO_TIMES, OF, SUM_OF_TIMES, SUMMARY, TARGETS, TIMES_UNKNOWN, TOOK, WARNED_LINES,
+    AND_COUNT, AT_MOST, AT_ONCE, DEPENDENT, FAILED, FEW_TIMES_OF, LOGS, LONGEST, LONGEST_ALONE,
+    MOST_MEMORY, MOST_WARNINGS, NO_TIMES, OF, PROCESSOR_TIME, SUM_OF_TIMES, SUMMARY, TARGETS,
+    TIMES_UNKNOWN, TOOK, WARNED_LINES,
 };
 use crate::scope::Count::{Dependents, Known, Most, Roots, Targets, Unknown, Value, Warnings};
-use crate::scope::Measure::{AtOnce, Duration, Size, Sum, Took};
-use crate::scope::Rows::{Longest, Warned};
+use crate::scope::Measure::{AtOnce, Duration, Memory, Processor, Size, Sum, Took};
+use crate::scope::Rows::{Longest, LongestAlone, MostMemory, Warned};
 use crate::scope::Test::{
-    HasDependents, HasKnown, HasLongest, HasTables, HasWarned, HasWindow, IsTimed,
+    HasAlone, HasDependents, HasKnown, HasLongest, HasMemory, HasProcessor, HasTables, HasWarned,
+    HasWindow, IsTimed,
 };
 use crate::template::Around::{Each, If, Unless};
 use crate::template::Item::{Badge, EndTile, In, Link, Measure, Meter, Number, Tag, Text, Tile};
@@ -56,6 +58,10 @@ pub const SECTION: Template = &[
             EndTile,
         ],
     ),
+    In(
+        If(HasProcessor),
+        &[Tile(PROCESSOR_TIME), Measure(Processor), EndTile],
+    ),
     Tag(EndDescriptionList),
     In(
         If(HasTables),
@@ -80,6 +86,68 @@ pub const SECTION: Template = &[
                             Tag(EndRowHeading),
                             Tag(NumberCell),
                             Measure(Duration),
+                            Tag(EndCell),
+                            Tag(MeterCell),
+                            Meter,
+                            Tag(EndCell),
+                            Tag(EndTableRow),
+                        ],
+                    ),
+                    Tag(EndTableBody),
+                    Tag(EndTable),
+                    Tag(EndDiv),
+                ],
+            ),
+            In(
+                If(HasAlone),
+                &[
+                    Tag(Div),
+                    Tag(Title3),
+                    Text(LONGEST_ALONE),
+                    Tag(EndTitle3),
+                    Tag(Table),
+                    Tag(TableBody),
+                    In(
+                        Each(LongestAlone),
+                        &[
+                            Tag(TableRow),
+                            Tag(RowHeading),
+                            Link,
+                            Badge,
+                            Tag(EndRowHeading),
+                            Tag(NumberCell),
+                            Measure(Duration),
+                            Tag(EndCell),
+                            Tag(MeterCell),
+                            Meter,
+                            Tag(EndCell),
+                            Tag(EndTableRow),
+                        ],
+                    ),
+                    Tag(EndTableBody),
+                    Tag(EndTable),
+                    Tag(EndDiv),
+                ],
+            ),
+            In(
+                If(HasMemory),
+                &[
+                    Tag(Div),
+                    Tag(Title3),
+                    Text(MOST_MEMORY),
+                    Tag(EndTitle3),
+                    Tag(Table),
+                    Tag(TableBody),
+                    In(
+                        Each(MostMemory),
+                        &[
+                            Tag(TableRow),
+                            Tag(RowHeading),
+                            Link,
+                            Badge,
+                            Tag(EndRowHeading),
+                            Tag(NumberCell),
+                            Measure(Memory),
                             Tag(EndCell),
                             Tag(MeterCell),
                             Meter,

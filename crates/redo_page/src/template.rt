@@ -169,6 +169,7 @@ fn write_item<T: Label, B: Block, W: Sink>(
         Item::Articles => write_articles(
             scope.table,
             scope.nodes,
+            scope.request.recipes,
             scope.positions(Listed::Articles),
             page,
         ),

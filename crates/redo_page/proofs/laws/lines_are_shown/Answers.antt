@@ -60,7 +60,7 @@ moved_text request logs requested shown position moved =
     let events = page_events request logs requested in
     let nodes = page_outline request logs requested in
     let parts = and_parts (has_article (page_build request logs requested) position) (is_short (node_at nodes position)) moved in
-    article_text logs nodes position parts.1
+    article_text logs nodes request.recipes position parts.1
     ∙ ap (λ (number : ℕ). flat_map with_line_feed (texts_of (entries_at number logs)))
     (same_number (map run_times request.times) (outline_of logs events) position)
     ∙ ap (flat_map with_line_feed) (lines_of_position logs (target_status logs events) (contents_of events) position

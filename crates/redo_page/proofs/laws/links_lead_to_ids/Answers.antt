@@ -8,30 +8,32 @@ use Rattle.redo_page.proofs.PageIds.{page_target_ids, page_article_ids, page_tar
 use Rattle.redo_page.proofs.laws.links_lead_to_ids.Goals as goal
 
 pub returns-clause-targets : goal.returns-clause-targets
-returns-clause-targets c = page_target_ids c.positions_are_of_nodes.ensures c.bars_lead_to_positions.ensures
-    c.trimmed_events_are_in_tree.ensures.logs
+returns-clause-targets c = page_target_ids c.positions_are_of_nodes.ensures.times
+    c.positions_are_of_nodes.ensures.memory c.bars_lead_to_positions.ensures c.trimmed_events_are_in_tree.ensures.logs
 
 pub returns-clause-articles : goal.returns-clause-articles
-returns-clause-articles c = page_article_ids c.positions_are_of_nodes.ensures c.bars_lead_to_positions.ensures
-    c.trimmed_events_are_in_tree.ensures.logs
+returns-clause-articles c = page_article_ids c.positions_are_of_nodes.ensures.times
+    c.positions_are_of_nodes.ensures.memory c.bars_lead_to_positions.ensures c.trimmed_events_are_in_tree.ensures.logs
 
 pub returns-clause-articles_once : goal.returns-clause-articles_once
 returns-clause-articles_once c = λ request logs requested.
-    subst (IsDistinct nat_eq) (sym (page_article_ids c.positions_are_of_nodes.ensures c.bars_lead_to_positions.ensures
-    c.trimmed_events_are_in_tree.ensures.logs request logs requested))
+    subst (IsDistinct nat_eq) (sym (page_article_ids c.positions_are_of_nodes.ensures.times
+    c.positions_are_of_nodes.ensures.memory c.bars_lead_to_positions.ensures c.trimmed_events_are_in_tree.ensures.logs request logs
+    requested))
     (articles_distinct (page_outline request logs requested))
 
 pub returns-clause-target_links : goal.returns-clause-target_links
-returns-clause-target_links c = page_target_links c.positions_are_of_nodes.ensures c.bars_lead_to_positions.ensures
-    c.trimmed_events_are_in_tree.ensures.logs
+returns-clause-target_links c = page_target_links c.positions_are_of_nodes.ensures.times
+    c.positions_are_of_nodes.ensures.memory c.bars_lead_to_positions.ensures c.trimmed_events_are_in_tree.ensures.logs
 
 pub returns-clause-own_links : goal.returns-clause-own_links
-returns-clause-own_links c = λ request logs requested position. article_links_are_own logs (page_outline request logs requested) position
+returns-clause-own_links c = λ request logs requested position.
+    article_links_are_own logs (page_outline request logs requested) request.recipes position
 
 pub returns-clause-article_links : goal.returns-clause-article_links
-returns-clause-article_links c = page_article_links c.positions_are_of_nodes.ensures c.bars_lead_to_positions.ensures
-    c.trimmed_events_are_in_tree.ensures.logs
+returns-clause-article_links c = page_article_links c.positions_are_of_nodes.ensures.times
+    c.positions_are_of_nodes.ensures.memory c.bars_lead_to_positions.ensures c.trimmed_events_are_in_tree.ensures.logs
 
 pub returns-clause-section_links : goal.returns-clause-section_links
-returns-clause-section_links c = page_section_links c.positions_are_of_nodes.ensures c.bars_lead_to_positions.ensures
-    c.trimmed_events_are_in_tree.ensures.logs
+returns-clause-section_links c = page_section_links c.positions_are_of_nodes.ensures.times
+    c.positions_are_of_nodes.ensures.memory c.bars_lead_to_positions.ensures c.trimmed_events_are_in_tree.ensures.logs

@@ -19,5 +19,5 @@ returns-clause-command c = λ request logs requested.
     end_read request logs requested (c.page_is_read.ensures.parts request logs requested)
 
 pub returns-clause-once : goal.returns-clause-once
-returns-clause-once c = page_headings c.positions_are_of_nodes.ensures c.bars_lead_to_positions.ensures
-    c.trimmed_events_are_in_tree.ensures.logs
+returns-clause-once c = page_headings c.positions_are_of_nodes.ensures.times
+    c.positions_are_of_nodes.ensures.memory c.bars_lead_to_positions.ensures c.trimmed_events_are_in_tree.ensures.logs

@@ -5,7 +5,7 @@ use Rattle.redo_page.proofs.laws.targets_have_their_names.Goals as goal
 pub returns-clause-names : goal.returns-clause-names
 returns-clause-names c = λ request logs requested.
     let law = c.ranks_have_values_of_targets.ensures in
-    page_names request logs requested (record { longest = law.longest; warned = law.warned })
+    page_names request logs requested (record { longest = law.longest; alone = law.alone; warned = law.warned; memory = law.memory })
 
 pub returns-clause-targets : goal.returns-clause-targets
 returns-clause-targets c = page_targets

@@ -4,12 +4,13 @@ use Rattle.redo_page.proofs.laws.times_are_shown.Goals as goal
 
 pub returns-clause-chart : goal.returns-clause-chart
 returns-clause-chart c = λ request logs requested window has.
-    page_has_chart c.positions_are_of_nodes.ensures c.bars_lead_to_positions.ensures c.trimmed_events_are_in_tree.ensures.logs request logs
+    page_has_chart c.positions_are_of_nodes.ensures.times
+    c.positions_are_of_nodes.ensures.memory c.bars_lead_to_positions.ensures c.trimmed_events_are_in_tree.ensures.logs request logs
     requested window has.0 has.1
 
 pub returns-clause-no_chart : goal.returns-clause-no_chart
-returns-clause-no_chart c = page_has_no_chart c.positions_are_of_nodes.ensures c.bars_lead_to_positions.ensures
-    c.trimmed_events_are_in_tree.ensures.logs
+returns-clause-no_chart c = page_has_no_chart c.positions_are_of_nodes.ensures.times
+    c.positions_are_of_nodes.ensures.memory c.bars_lead_to_positions.ensures c.trimmed_events_are_in_tree.ensures.logs
 
 pub returns-clause-window : goal.returns-clause-window
 returns-clause-window c = λ request logs requested window has.

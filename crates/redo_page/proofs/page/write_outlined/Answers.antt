@@ -8,12 +8,16 @@ use Rattle.redo_outline.specs.Outline.{log_count}
 use Rattle.redo_view.specs.Expansion.{shown_events}
 use Rattle.redo_page.specs.Frame.{footer_parts}
 use Rattle.redo_page.specs.Page.{body_parts, page_parts, request_of, top_parts}
+use Rattle.redo_summary.specs.Usage.{usage_of}
 use Rattle.redo_page.proofs.PageIds.{outline_counted}
 use Rattle.redo_page.proofs.PageLemmas.{no_memory, view_is}
 use Rattle.redo_page.proofs.page.write_outlined.Goals as goal
 
 pub returns-in_err-summary : goal.returns-in_err-summary
 returns-in_err-summary g c = no_memory _ _ _ c.from_residual-in_err-summary.ensures.1
+
+pub returns-in_err-usage : goal.returns-in_err-usage
+returns-in_err-usage g c = no_memory _ _ _ c.from_residual-in_err-usage.ensures.1
 
 pub write_stages-requires-clause-count : goal.write_stages-requires-clause-count
 write_stages-requires-clause-count g c =
@@ -33,9 +37,10 @@ returns g c =
     let roots = c.as_slice-roots.ensures.value ∙ c.in_ok-failures.ensures.roots in
     let dependents = c.as_slice-dependents.ensures.value ∙ c.in_ok-failures.ensures.dependents in
     let unclosed = c.as_slice-unclosed.ensures.value ∙ c.in_ok-failures.ensures.unclosed in
-    let is = view_is request c.args.options.now logs requested nodes c.in_ok-texts.texts c.in_ok-summary.summary
+    let usage = c.in_ok-usage.ensures ∙ ap (usage_of nodes request.recipes) c.recipes.ensures in
+    let is = view_is request c.args.options.now logs requested nodes c.in_ok-texts.texts c.in_ok-summary.summary c.in_ok-usage.usage
     c.as_slice-roots.result.now c.as_slice-dependents.result.now c.as_slice-unclosed.result.now c.requires.options
-    (c.nodes-nodes.ensures ∙ c.requires.outline) c.in_ok-summary.ensures c.in_ok-texts.ensures roots dependents unclosed in
+    (c.nodes-nodes.ensures ∙ c.requires.outline) c.in_ok-summary.ensures usage c.in_ok-texts.ensures roots dependents unclosed in
     subst (λ text. FormWrites (g.W.Sink.written c.args.out.now) (g.W.Sink.written c.write_stages.new.out) text c.write_stages.result)
     (λ i. flat_map part_html
     (top_parts (is i) ++ (body_parts (is i) (c.requires.options i) request.max_bytes requested ++ footer_parts (is i))))
