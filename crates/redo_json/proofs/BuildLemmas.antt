@@ -1,6 +1,7 @@
 -- The nodes of an outline have the values of the logs that are opened.
-use Rattle.std.proofs.Common.{◌≡◌, ℕ, suc, ◌+◌, List, [], ◌∷◌, ◌++◌, Option, None, Some, Result, Ok, Err, ℤ, length, map, option_copied, option_map, slice_get, slice_index_or, refl, sym, ap, ap₂, ◌∙◌, arith, append_assoc}
+use Rattle.std.proofs.Common.{◌≡◌, ℕ, zero, suc, ◌+◌, Bool, true, false, if◌then◌else◌, take, List, [], ◌∷◌, ◌++◌, Option, None, Some, Result, Ok, Err, ℤ, length, map, option_copied, option_map, slice_get, slice_index_or, refl, sym, ap, ap₂, ◌∙◌, arith, append_assoc}
 use Rattle.std.proofs.lemmas.List.{append-nil, length-append, map-append}
+use Rattle.std.specs.Prelude.{filter}
 use Rattle.std.specs.List.{flat_map}
 use Rattle.std.specs.Result.{IsErrAnd}
 use Rattle.redo_device.specs.Sink.{Output}
@@ -21,7 +22,7 @@ use Rattle.redo_outline.specs.Outline.{log_count, node_of, nodes_of, outline_of}
 use Rattle.redo_facts.specs.Facts.{RecipeCommand, nothing}
 use Rattle.redo_times.specs.declared.times.Times.{Times}
 use Rattle.redo_json.specs.declared.build.Recipe.{Recipe}
-use Rattle.redo_json.specs.Build.{Request, build_json, needs_of, object_text, options_of, unknown_times, values_in}
+use Rattle.redo_json.specs.Build.{Request, build_json, needs_of, object_text, options_of, unknown_times, values_in, whole_commands}
 use Rattle.redo_json.specs.Object.{LogValues}
 use Rattle.redo_json.specs.Private.Values.{IsRecipeOf, node_values, parent_name}
 
@@ -102,6 +103,33 @@ build_text request logs requested options nodes same is =
     flat_map-map f v [] = refl
     flat_map-map f v (node ∷ ns) = ap (λ (l : List ℕ). f (v node) ++ l) (flat_map-map f v ns)
 
+-- A command, if it is known whole.
+abbrev pub if_whole : RecipeCommand → List (List ℕ)
+if_whole command = if command.is_whole then command.text ∷ [] else []
+
+whole_first : (command : RecipeCommand) (others : List RecipeCommand)
+    → whole_commands (command ∷ others) ≡ if_whole command ++ whole_commands others
+whole_first command others = by command.is_whole
+  where
+    by : (whole : Bool)
+        → map (λ (one : RecipeCommand). one.text) (if whole then command ∷ filter (λ (one : RecipeCommand). one.is_whole) others
+        else filter (λ (one : RecipeCommand). one.is_whole) others)
+        ≡ (if whole then command.text ∷ [] else []) ++ whole_commands others
+    by true = refl
+    by false = refl
+
+-- One more command is listed if it is known whole.
+pub whole_next : (commands : List RecipeCommand) (at : ℕ) (command : RecipeCommand) → slice_get commands at ≡ Some command
+    → whole_commands (take (suc at) commands) ≡ whole_commands (take at commands) ++ if_whole command
+whole_next [] at command is = absurd (cc)
+whole_next (first ∷ others) zero command is =
+    let same : first ≡ command = cc in whole_first first [] ∙ append-nil (if_whole first) ∙ ap if_whole same
+whole_next (first ∷ others) (suc at) command is =
+    whole_first first (take (suc at) others)
+    ∙ ap (λ (l : List (List ℕ)). if_whole first ++ l) (whole_next others at command is)
+    ∙ sym (append_assoc (if_whole first) (whole_commands (take at others)) (if_whole command))
+    ∙ ap (λ (l : List (List ℕ)). l ++ if_whole command) (sym (whole_first first (take at others)))
+
 pub no_memory : (output : Option Output) (text : List ℕ) (result : Result (Unit {0}) FormFault)
     → IsErrAnd result (λ fault. fault ≡ OutOfMemory) → FormWrites output output text result
 no_memory output text (Ok done) is = absurd is
@@ -113,7 +141,8 @@ pub values_path : (request : Request) (logs : List Log) (nodes : List Node) (nod
     (times : Times) (recipe : Recipe) (commands needs : List (List ℕ)) → target ≡ target_at logs node.number
     → parent ≡ parent_name logs nodes node.parent → times ≡ slice_index_or request.times node.number unknown_times
     → IsRecipeOf (slice_index_or request.facts node.number nothing) recipe
-    → commands ≡ map (λ (command : RecipeCommand). command.text) recipe.commands.now → needs ≡ needs_of (entries_at node.number logs)
+    → commands ≡ whole_commands recipe.commands.now
+    → needs ≡ needs_of (target_at logs node.number) (entries_at node.number logs)
     → ◌≡◌ {A = LogValues} (record {
       target = target;
       parent = parent;
@@ -138,7 +167,7 @@ values_path request logs nodes node target parent times recipe commands needs ta
       cpu_ms = recipe_is.cpu_ms i;
       peak_kb = recipe_is.peak_kb i;
       directory = recipe_is.directory i;
-      commands = (commands_are ∙ ap (λ (cs : List RecipeCommand). map (λ (command : RecipeCommand). command.text) cs) recipe_is.commands) i;
+      commands = (commands_are ∙ ap whole_commands recipe_is.commands) i;
       needs = needs_are i;
       lines = texts_of (entries_at node.number logs);
     }

@@ -23,6 +23,7 @@ use Rattle.redo_facts.specs.Facts.{RecipeFacts, nothing}
 use Rattle.redo_times.specs.declared.times.Times.{Times}
 use Rattle.redo_name.specs.declared.hash_keys.HashKeys.{HashKeys}
 use Rattle.redo_json.specs.Build.{Request, build_json, build_values, request_of}
+use Rattle.redo_json.specs.Every.{every_target}
 use Rattle.redo_json.specs.Object.{LogValues}
 
 record Row : Type 0 where
@@ -92,7 +93,7 @@ abbrev some_facts : RecipeFacts
 some_facts = record {
   has_log = true;
   directory = Some (codes "d e");
-  commands = record { text = codes "cc x"; is_whole = true } ∷ record { text = codes "cut"; is_whole = false } ∷ [];
+  commands = record { text = codes "cc x"; is_whole = true } ∷ record { text = codes "cut"; is_whole = false } ∷ record { text = codes "ld y"; is_whole = true } ∷ [];
   usage = Some (record { user_ms = 30; system_ms = 50; peak_kb = 7 });
 }
 
@@ -126,7 +127,7 @@ rows =
       cpu_ms = Some 80;
       peak_kb = Some 7;
       directory = Some (codes "d e");
-      commands = codes "cc x" ∷ codes "cut" ∷ [];
+      commands = codes "cc x" ∷ codes "ld y" ∷ [];
     }
     ∷ record (values b (Some a) (Some (pos 0)) (d ∷ a ∷ []) (codes "two" ∷ [])) {
       start_ms = Some 1;
@@ -139,7 +140,7 @@ rows =
     ∷ []) ∷
     row (asks false [] []) mentions (a ∷ []) (
     values a None None (b ∷ c ∷ d ∷ codes "bb" ∷ []) []
-    ∷ values b (Some a) None (b ∷ []) []
+    ∷ values b (Some a) None [] []
     ∷ []) ∷
     row (asks false [] []) (log a (Mention 1 Unchanged b ∷ []) ∷ log b [] ∷ []) (a ∷ []) (values a None None (b ∷ []) [] ∷ []) ∷
     row (asks true [] []) (log a (Mention 1 Unchanged b ∷ []) ∷ log b [] ∷ []) (a ∷ []) (
@@ -173,3 +174,15 @@ these_requests : (keys : HashKeys)
     × (request_of (record { unchanged = false; times = at []; facts = at (some_facts ∷ []); keys = keys })
     ≡ asks false [] (some_facts ∷ []))
 these_requests keys = (refl, refl)
+
+-- The requested targets, and then the targets of all logs.
+record TargetsRow : Type 0 where
+  requested : List (List ℕ)
+  targets : List (List ℕ)
+
+these_targets : AllByRecursion (λ (r : TargetsRow). every_target (log b [] ∷ log a [] ∷ []) r.requested ≡ r.targets) (
+    record { requested = []; targets = b ∷ a ∷ [] } ∷
+    record { requested = a ∷ []; targets = a ∷ b ∷ a ∷ [] } ∷
+    record { requested = b ∷ a ∷ []; targets = b ∷ a ∷ b ∷ a ∷ [] } ∷
+    [])
+these_targets = (refl, (refl, (refl, tt)))

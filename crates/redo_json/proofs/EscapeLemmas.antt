@@ -1,9 +1,9 @@
 -- Escapes of a text in parts.
-use Rattle.std.proofs.Common.{◌≡◌, ℕ, ◌+◌, ◌<◌, ◌%◌, ◌==◌, ◌||◌, true, List, [], ◌∷◌, ◌++◌, length, take, drop, get_or, refl, sym, ap, ap₂, ◌∙◌, arith, append_assoc, length-drop, take-append-drop}
+use Rattle.std.proofs.Common.{◌≡◌, ℕ, ◌+◌, ◌-◌, ◌<◌, ◌≤◌, ◌%◌, ◌==◌, ◌||◌, true, List, [], ◌∷◌, ◌++◌, length, take, drop, get_or, refl, sym, ap, ap₂, ◌∙◌, arith, subst, append_assoc, length-drop, take-append-drop}
 use Rattle.std.specs.List.{list_all}
 use Rattle.std.specs.Str.Lossy.{replacement_bytes, utf8_lossy}
 use Rattle.std.proofs.lemmas.Bool.{and_from, and_parts, eqb-false, ltb-false, not-true, or_parts}
-use Rattle.std.proofs.lemmas.List.{drop_more, take_all}
+use Rattle.std.proofs.lemmas.List.{drop_more, take-take, take_all}
 use Rattle.std.proofs.lemmas.List.Folds.{list_all-append}
 use Rattle.std.proofs.Math.Seq.{take-add}
 use Rattle.base64.specs.Engines.{standard}
@@ -39,6 +39,24 @@ plain_more bytes len more first next =
       plain = ap (list_all is_plain) (take-add len more bytes) ∙ list_all-append is_plain (take len bytes) (take more (drop len bytes))
           ∙ and_from (list_all is_plain (take len bytes)) (list_all is_plain (take more (drop len bytes))) first.plain next.plain;
     }
+
+-- Plain bytes up to the end, from some byte on before which all are plain.
+pub plain_to_end : (bytes : List ℕ) (start len : ℕ) → start ≤ len → ArePlain bytes len
+    → list_all is_plain (take (length bytes - start) (drop start bytes)) ≡ true → ArePlain bytes (length bytes)
+plain_to_end bytes start len low first last =
+    let within = first.within in
+    let size = length-drop start bytes in
+    let all : start + (length bytes - start) ≡ length bytes = omega (arith, low, within) in
+    let both = list_all-append is_plain (take start bytes) (drop start (take len bytes)) in
+    let front : take start bytes ++ drop start (take len bytes) ≡ take len bytes =
+    ap (λ (l : List ℕ). l ++ drop start (take len bytes)) (sym (take-take start len bytes low)) ∙ take-append-drop start (take len bytes) in
+    subst (ArePlain bytes) all (plain_more bytes start (length bytes - start)
+    (record {
+      within = omega (arith, low, within);
+      plain = (and_parts (list_all is_plain (take start bytes)) (list_all is_plain (drop start (take len bytes)))
+          (sym both ∙ ap (list_all is_plain) front ∙ first.plain)).0;
+    })
+    (record { within = omega (arith, size); plain = last }))
 
 pub all_plain : (text : List ℕ) (len : ℕ) → ArePlain text len → len ≡ length text → escape text ≡ text
 all_plain text len plain all =

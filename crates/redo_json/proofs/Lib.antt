@@ -1,14 +1,17 @@
 mod BuildLemmas
 mod BuildRows
+mod CandidateLemmas
 mod DiagnosingLemmas
 mod DiagnosticLaws
 mod DiagnosticLemmas
 mod DiagnosticRows
 mod EscapeLemmas
+mod EveryLemmas
 mod ExactLemmas
 mod FieldRows
 mod FormLemmas
 mod LawLemmas
+mod LeftLemmas
 mod LineLemmas
 mod LogLineLemmas
 mod MentionLemmas
@@ -17,6 +20,9 @@ mod ObjectLemmas
 mod ObjectRows
 mod OneLineLemmas
 mod OpeningLemmas
+mod ParentLaws
+mod ParentLemmas
+mod ParentTreeLemmas
 mod PartLemmas
 mod PlaceLemmas
 mod PrintLemmas

@@ -1,13 +1,23 @@
 -- The exact bytes of lines that are iterated over.
-use Rattle.std.proofs.Common.{◌≡◌, ℕ, suc, ◌+◌, true, false, List, [], ◌∷◌, ◌++◌, sym, ap, ◌∙◌, arith}
-use Rattle.std.specs.Prelude.{codes, decimal}
-use Rattle.std.specs.Str.{is_utf8}
+use Rattle.std.proofs.Common.{◌≡◌, ℕ, zero, suc, ◌+◌, ◌<◌, true, false, List, [], ◌∷◌, ◌++◌, length, get_or, refl, sym, ap, ◌∙◌, subst, arith}
+use Rattle.std.specs.Prelude.{◌==◌, codes, decimal}
+use Rattle.std.specs.List.{flat_map}
+use Rattle.std.specs.Str.{IsAscii, IsCharBoundary, IsUtf8, is_utf8}
+use Rattle.std.proofs.Math.Seq.{get_or-append_seam}
+use Rattle.std.proofs.lemmas.Bool.{eqb-false}
+use Rattle.std.proofs.lemmas.List.{append-nil, drop_at, get_or_append_left, length-append, take_at}
+use Rattle.std.proofs.lemmas.Str.{IsCharBoundary-after_ascii, IsUtf8-drop, IsUtf8-from_is_utf8, IsUtf8-take, is_utf8-from_IsUtf8}
+use Rattle.simdutf8.proofs.StepsLemmas.{IsUtf8-append_ascii}
 use Rattle.json.specs.Json.{string}
 use Rattle.json.specs.Print.{escape}
+use Rattle.redo_line.proofs.LineLemmas.{are_lines}
+use Rattle.redo_line.specs.Lines.{ended, line_feed, with_line_feed}
+use Rattle.redo_logs.specs.Logs.{Log}
 use Rattle.redo_json.specs.Fields.{Field, exact_fields, exact_items, exact_list, exact_name, field}
 use Rattle.redo_json.specs.Text.{base64_of, exact_of}
-use Rattle.redo_json.specs.Private.LogLines.{IsNextExactLine, Remaining}
+use Rattle.redo_json.specs.Private.LogLines.{AreNextLines, AreUtf8, IsNextExactLine, Remaining, texts_from}
 use Rattle.redo_json.specs.Private.Parts.{comma_fields, exact_item}
+use Rattle.redo_json.proofs.LogLineLemmas.{some_lines}
 use Rattle.redo_json.proofs.PartLemmas.{exact_parts, no_exact, one_exact}
 
 module _ (before after : Remaining) (line : List ℕ) (is : before.left ≡ line ∷ after.left) (counted : after.done ≡ before.done + 1) where
@@ -37,3 +47,61 @@ exact_line_parts name lines before after position line is first next =
     exact_parts name (field (decimal position) (string (base64_of line))) (exact_items after.done after.left)
     ∙ ap (λ (fields : List Field). comma_fields (exact_list (exact_name name) fields))
     (sym next.fields ∙ ap (exact_items before.done) is ∙ ap (λ (n : ℕ). exact_items n lines) first)
+
+-- ---- lines of a text
+
+-- A line of a text, and what follows its line feed.
+line_text : (line others : List ℕ) → IsUtf8 (with_line_feed line ++ others) → IsUtf8 line × IsUtf8 others
+line_text line others text = (
+  (IsUtf8-append_ascii line (line_feed ∷ []) feed).0
+      (subst IsUtf8 (take_at (with_line_feed line) others (length line + 1) size) (IsUtf8-take whole (length line + 1) text boundary)),
+  subst IsUtf8 (drop_at (with_line_feed line) others (length line + 1) size) (IsUtf8-drop whole (length line + 1) text boundary),
+)
+  where
+    whole : List ℕ
+    whole = with_line_feed line ++ others
+
+    size : length (with_line_feed line) ≡ length line + 1
+    size = length-append line (line_feed ∷ [])
+
+    feed : IsAscii (line_feed ∷ [])
+    feed zero = omega arith
+    feed (suc i) = omega arith
+
+    boundary : IsCharBoundary whole (length line + 1)
+    boundary =
+        let is : get_or whole (length line) 0 ≡ line_feed =
+        get_or_append_left (with_line_feed line) others 0 (length line) (omega (arith, size))
+        ∙ get_or-append_seam line line_feed [] 0 in
+        let all = length-append (with_line_feed line) others in
+        IsCharBoundary-after_ascii whole (length line) text (omega (arith, size, all)) (omega (arith, is))
+
+utf8_lines : (lines after : List (List ℕ)) → IsUtf8 (flat_map with_line_feed lines) → AreUtf8 after → AreUtf8 (lines ++ after)
+utf8_lines [] after text all = all
+utf8_lines (line ∷ lines) after text all =
+    let parts = line_text line (flat_map with_line_feed lines) text in
+    (is_utf8-from_IsUtf8 line parts.0, utf8_lines lines after parts.1 all)
+
+-- Lines that are UTF-8 have no exact bytes.
+pub no_exact_items : (position : ℕ) (lines : List (List ℕ)) → AreUtf8 lines → exact_items position lines ≡ []
+no_exact_items position [] all = refl
+no_exact_items position (line ∷ lines) all =
+    ap (λ (fields : List Field). fields ++ exact_items (suc position) lines) (no_exact (decimal position) line all.0)
+    ∙ no_exact_items (suc position) lines all.1
+
+module _ (logs : List Log) (number next after : ℕ) (bytes : List ℕ) (lines : AreNextLines logs number next bytes after) where
+  -- Each line of a stretch that is UTF-8 is UTF-8.
+  pub text_stretch : is_utf8 bytes ≡ true → AreUtf8 (texts_from logs number after) → AreUtf8 (texts_from logs number next)
+  text_stretch text all =
+      subst AreUtf8 (sym lines.split)
+      (utf8_lines (ended bytes) (texts_from logs number after)
+      (subst IsUtf8 ((are_lines bytes).whole ∙ ap (λ (l : List ℕ). flat_map with_line_feed (ended bytes) ++ l) lines.complete
+      ∙ append-nil (flat_map with_line_feed (ended bytes))) (IsUtf8-from_is_utf8 bytes text)) all)
+
+  -- Fewer lines are left after a stretch.
+  pub fewer_left : (length bytes == 0) ≡ false → length (texts_from logs number after) < length (texts_from logs number next)
+  fewer_left some =
+      let count = some_lines bytes lines.complete (λ empty. eqb-false (length bytes) 0 some (ap length empty)) in
+      let split = ap length lines.split in
+      let sum = length-append (ended bytes) (texts_from logs number after) in
+      omega (arith, count, split, sum)

@@ -65,6 +65,17 @@ module _ (logs : List Log) (number : ℕ) where
       ap texts_of (drop_here (entries_at number logs) k (Text text) (sym (entry_is logs number k) ∙ are.0))
       ∙ ap (λ (left : List (List ℕ)). text ∷ left) (texts_are (k + 1) texts are.1 ∙ ap (λ (n : ℕ). texts ++ texts_from logs number n) same)
 
+  only_texts : (k : ℕ) (bytes : List ℕ) (count : ℕ) (lines : AreLinesAt logs number k bytes count)
+      → (lines.texts ≡ ended bytes) × ([] ≡ rest bytes)
+  only_texts k bytes count lines = only_lines bytes lines.texts [] (record {
+    whole = lines.bytes_are ∙ sym (append-nil (flat_map with_line_feed lines.texts));
+    lines_hold_none = lines.no_line_feeds;
+    rest_holds_none = tt;
+  })
+
+  pub count_of : (k : ℕ) (bytes : List ℕ) (count : ℕ) → AreLinesAt logs number k bytes count → count ≡ length (ended bytes)
+  count_of k bytes count lines = sym lines.count_is ∙ ap length (only_texts k bytes count lines).0
+
   -- Lines that are stored together.
   pub next_texts : (k : ℕ) (bytes : List ℕ) (count : ℕ) → 0 < count → AreLinesAt logs number k bytes count
       → AreNextLines logs number k bytes (k + count)
@@ -79,11 +90,7 @@ module _ (logs : List Log) (number : ℕ) where
   }
     where
       only : (lines.texts ≡ ended bytes) × ([] ≡ rest bytes)
-      only = only_lines bytes lines.texts [] (record {
-        whole = lines.bytes_are ∙ sym (append-nil (flat_map with_line_feed lines.texts));
-        lines_hold_none = lines.no_line_feeds;
-        rest_holds_none = tt;
-      })
+      only = only_texts k bytes count lines
 
   -- Lines that follow entries which are no text lines.
   pub later_lines : (next k : ℕ) (bytes : List ℕ) (after : ℕ) → next ≤ k → texts_from logs number next ≡ texts_from logs number k

@@ -1,9 +1,10 @@
 -- How often a name is among the needs.
-use Rattle.std.proofs.Common.{◌≡◌, ℕ, zero, suc, ◌+◌, min, Bool, true, false, List, [], ◌∷◌, ◌++◌, filter, length, refl, sym, ap, ◌∙◌, arith}
+use Rattle.std.proofs.Common.{◌≡◌, ◌≢◌, ℕ, zero, suc, ◌+◌, min, Bool, true, false, List, [], ◌∷◌, ◌++◌, filter, length, refl, sym, ap, ◌∙◌, arith}
 use Rattle.std.specs.Prelude.{◌==◌, if◌then◌else◌}
 use Rattle.std.specs.Str.{bytes_eq}
 use Rattle.std.specs.Cmp.Lexicographic.{same_text}
 use Rattle.std.proofs.lemmas.Bool.{ne_eqb}
+use Rattle.std.proofs.lemmas.Cmp.{nat_list_eq_equiv}
 use Rattle.redo_diagnostics.specs.Counts.{times_of}
 use Rattle.redo_line.specs.declared.entry.Entry.{Entry}
 use Rattle.redo_json.specs.Build.{mentions_in, name_if_new, needs_of, new_names}
@@ -80,5 +81,18 @@ module _ (name : List ℕ) where
       before_is : times (before ++ other ∷ []) ≡ times before + one_if (bytes_eq other name)
       before_is = omega (arith, times-append before (other ∷ []), times-cons other [])
 
-pub needs_times : (entries : List Entry) (name : List ℕ) → times_of name (needs_of entries) ≡ min (times_of name (mentions_in entries)) 1
-needs_times entries name = names_times name [] (mentions_in entries)
+pub needs_times : (target : List ℕ) (entries : List Entry) (name : List ℕ) → name ≢ target
+    → times_of name (needs_of target entries) ≡ min (times_of name (mentions_in entries)) 1
+needs_times target entries name other =
+    names_times name (target ∷ []) (mentions_in entries)
+    ∙ ap (λ (n : ℕ). new_times name n (times_of name (mentions_in entries))) (by (bytes_eq target name) refl)
+  where
+    by : (same : Bool) → bytes_eq target name ≡ same → times_of name (target ∷ []) ≡ 0
+    by true is = absurd (other (sym (same_text target name (sym is))))
+    by false is = times-cons name target [] ∙ ap (λ (same : Bool). one_if same + 0) is
+
+pub own_times : (target : List ℕ) (entries : List Entry) → times_of target (needs_of target entries) ≡ 0
+own_times target entries =
+    names_times target (target ∷ []) (mentions_in entries)
+    ∙ ap (λ (n : ℕ). new_times target n (times_of target (mentions_in entries)))
+    (times-cons target target [] ∙ ap (λ (same : Bool). one_if same + 0) (nat_list_eq_equiv.refl target))

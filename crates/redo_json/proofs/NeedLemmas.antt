@@ -1,5 +1,5 @@
 -- The names that entries mention, entry by entry.
-use Rattle.std.proofs.Common.{◌≡◌, ℕ, zero, suc, ◌+◌, ◌<◌, Bool, true, false, List, [], ◌∷◌, ◌++◌, Option, None, Some, drop, length, refl, sym, ap, ◌∙◌, arith, append_assoc, append-nil}
+use Rattle.std.proofs.Common.{◌≡◌, ℕ, zero, suc, ◌+◌, ◌<◌, Bool, true, false, List, [], ◌∷◌, ◌++◌, Option, None, Some, drop, length, refl, subst, sym, ap, ◌∙◌, arith, append_assoc, append-nil}
 use Rattle.std.specs.Prelude.{◌==◌, option_to_list, if◌then◌else◌}
 use Rattle.std.specs.List.{cons_option}
 use Rattle.std.proofs.lemmas.Bool.{eqb-false, eqb-true}
@@ -8,15 +8,24 @@ use Rattle.redo_line.specs.declared.entry.Entry.{Entry}
 use Rattle.redo_line.specs.declared.entry.Entry.TheVariants.{Text}
 use Rattle.redo_logs.specs.Logs.{Log, entry_at}
 use Rattle.redo_logs.specs.Numbering.{AreLinesAt, AreTexts}
-use Rattle.redo_outline.specs.Facts.{entries_at}
+use Rattle.redo_outline.specs.Facts.{entries_at, target_at}
 use Rattle.redo_json.specs.Build.{mentioned_name, mentions_in, name_if_new, needs_of, new_names}
 use Rattle.redo_json.specs.Private.Needing.{FoundNeeds, names_if_new}
 use Rattle.redo_json.proofs.LogLineLemmas.{drop_here, drop_none, entry_is, within}
 
-pub begin_needs : (entries : List Entry) (counts : List (List ℕ × ℕ)) → AreCounts counts [] → FoundNeeds entries 0 [] counts
-begin_needs entries counts none = record { before = []; counted = none; are = refl }
+-- At first, only the log's own target is counted.
+pub begin_needs : (target : List ℕ) (entries : List Entry) (counts : List (List ℕ × ℕ)) (names : List (List ℕ)) (own : List ℕ)
+    → names ≡ [] → own ≡ target → AreCounts counts (own ∷ []) → FoundNeeds target entries 0 names counts
+begin_needs target entries counts names own none same counted = record {
+  before = target ∷ [];
+  counted = subst (λ (name : List ℕ). AreCounts counts (name ∷ [])) same counted;
+  are = ap (λ (ns : List (List ℕ)). ns ++ new_names (target ∷ []) (mentions_in entries)) none;
+}
 
 module _ (logs : List Log) (number : ℕ) where
+  abbrev target : List ℕ
+  target = target_at logs number
+
   abbrev all : List Entry
   all = entries_at number logs
 
@@ -40,7 +49,7 @@ module _ (logs : List Log) (number : ℕ) where
 
   -- Text lines mention nothing.
   pub after_texts : (k : ℕ) (bytes : List ℕ) (count : ℕ) (names : List (List ℕ)) (counts : List (List ℕ × ℕ))
-      → AreLinesAt logs number k bytes count → FoundNeeds all k names counts → FoundNeeds all (k + count) names counts
+      → AreLinesAt logs number k bytes count → FoundNeeds target all k names counts → FoundNeeds target all (k + count) names counts
   after_texts k bytes count names counts lines so_far = record {
     before = so_far.before;
     counted = so_far.counted;
@@ -51,8 +60,8 @@ module _ (logs : List Log) (number : ℕ) where
 
   -- No entry is left.
   pub all_needs : (k : ℕ) (names : List (List ℕ)) (counts : List (List ℕ × ℕ)) → entry_at number k logs ≡ None
-      → FoundNeeds all k names counts
-      → names ≡ needs_of all
+      → FoundNeeds target all k names counts
+      → names ≡ needs_of target all
   all_needs k names counts none so_far =
       sym (append-nil names)
       ∙ ap (λ (es : List Entry). names ++ new_names so_far.before (mentions_in es))
@@ -75,9 +84,9 @@ module _ (logs : List Log) (number : ℕ) where
 
   -- One more entry.
   pub after_entry : (k : ℕ) (entry : Entry) (names later : List (List ℕ)) (counts after : List (List ℕ × ℕ))
-      → entry_at number k logs ≡ Some entry → (so_far : FoundNeeds all k names counts)
+      → entry_at number k logs ≡ Some entry → (so_far : FoundNeeds target all k names counts)
       → AreCounts after (so_far.before ++ option_to_list (mentioned_name entry))
-      → later ≡ names ++ names_if_new (mentioned_name entry) so_far.before → FoundNeeds all (k + 1) later after
+      → later ≡ names ++ names_if_new (mentioned_name entry) so_far.before → FoundNeeds target all (k + 1) later after
   after_entry k entry names later counts after is so_far counted added = record {
     before = so_far.before ++ option_to_list (mentioned_name entry);
     counted = counted;

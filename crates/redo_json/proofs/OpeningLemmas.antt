@@ -287,7 +287,7 @@ module _ (request : Request) (logs : List Log) (events : List Event) where
     peak_kb = refl;
     directory = refl;
     commands = refl;
-    needs = ap needs_of found.entries;
+    needs = λ i. needs_of (found.target i) (found.entries i);
     lines = ap texts_of found.entries;
   }
 

@@ -1,6 +1,6 @@
 -- Members of objects in parts.
 use Rattle.std.proofs.Common.{◌≡◌, ℕ, zero, suc, ◌+◌, ◌<◌, ◌≤◌, Bool, true, false, List, [], ◌∷◌, ◌++◌, None, Some, length, take, drop, get_or, map, Bor, IsUtf8, refl, sym, ap, ◌∙◌, arith, append_assoc, inl, inr, ◌↔◌, IsTrue, true≢false}
-use Rattle.std.specs.Prelude.{◌==◌, codes, decimal, if◌then◌else◌}
+use Rattle.std.specs.Prelude.{◌==◌, codes, decimal, encode_utf8_all, if◌then◌else◌}
 use Rattle.std.specs.List.{flat_map}
 use Rattle.std.specs.Str.{is_utf8}
 use Rattle.std.proofs.lemmas.Bool.{cases_Bool, ne_eqb}
@@ -9,8 +9,9 @@ use Rattle.std.proofs.lemmas.Str.{IsUtf8-from_is_utf8, is_utf8-from_IsUtf8}
 use Rattle.json.specs.Json.{Json, array, null, number, string}
 use Rattle.json.specs.Print.{escape, escape_byte, print, quoted}
 use Rattle.json.specs.Tree.{json_tokens}
-use Rattle.redo_json.specs.Fields.{Field, exact_fields, exact_items, exact_list, exact_name, field, object_with, strings}
-use Rattle.redo_json.specs.Text.{base64_of, exact_of}
+use Rattle.bstr.specs.Utf8.{lossy_chars}
+use Rattle.redo_json.specs.Fields.{Field, bytes_fields, exact_fields, exact_items, exact_list, exact_name, field, object_with, strings}
+use Rattle.redo_json.specs.Text.{base64_of, exact_of, text_of}
 use Rattle.redo_json.specs.Private.Parts.{IsNextExact, comma_field, comma_fields, exact_item, field_text, item_text, items_text}
 use Rattle.redo_json.proofs.EscapeLemmas.{escape-append}
 use Rattle.redo_json.proofs.PrintLemmas.{print_list, print_null, print_number, print_object, print_string}
@@ -83,6 +84,19 @@ pub one_exact : (name bytes : List ℕ) → is_utf8 bytes ≡ false
     → exact_fields name (exact_of bytes) ≡ field name (string (base64_of bytes)) ∷ []
 one_exact name bytes is = ap (λ (test : Bool). exact_fields name (if test then None else Some (base64_of bytes))) is
 
+pub text_is : (bytes : List ℕ) → is_utf8 bytes ≡ true → text_of bytes ≡ bytes
+text_is bytes is = ap (λ (test : Bool). if test then bytes else encode_utf8_all (lossy_chars bytes)) is
+
+-- A member with UTF-8 has no exact bytes beside it.
+pub text_member : (name bytes : List ℕ) → is_utf8 bytes ≡ true
+    → 44 ∷ 34 ∷ (escape name ++ (34 ∷ 58 ∷ 34 ∷ (escape bytes ++ 34 ∷ []))) ≡ comma_fields (bytes_fields name bytes)
+text_member name bytes is =
+    named name (quoted bytes) (string bytes) (print_string bytes)
+    ∙ ap (λ (text : List ℕ). comma_field (field name (string text))) (sym (text_is bytes is))
+    ∙ sym (append-nil (comma_field (field name (string (text_of bytes)))))
+    ∙ ap (λ (fields : List Field). comma_field (field name (string (text_of bytes))) ++ comma_fields fields)
+    (sym (no_exact (exact_name name) bytes is))
+
 pub exact_member : (name bytes : List ℕ) → is_utf8 bytes ≡ false
     → 44 ∷ 34 ∷ (escape name ++ (codes "_base64\":" ++ (quoted (base64_of bytes) ++ [])))
     ≡ comma_fields (exact_fields (exact_name name) (exact_of bytes))
@@ -112,6 +126,16 @@ items_step list at below =
 
 pub items_end : (is_first : Bool) (list : List (List ℕ)) (at : ℕ) → length list ≤ at → items_text is_first (drop at list) ≡ []
 items_end is_first list at past = ap (items_text is_first) (drop_all at list past)
+
+-- The text of the next item, after the quote that ends another string.
+pub text_step : (bytes : List ℕ) (others : List (List ℕ))
+    → 34 ∷ items_text false (bytes ∷ others) ≡ (34 ∷ 44 ∷ 34 ∷ []) ++ (escape (text_of bytes) ++ 34 ∷ items_text false others)
+text_step bytes others =
+    ap (λ (l : List ℕ). 34 ∷ 44 ∷ 34 ∷ l) (append_assoc (escape (text_of bytes)) (34 ∷ []) (items_text false others))
+
+pub first_text : (bytes : List ℕ) (others : List (List ℕ))
+    → items_text true (bytes ∷ others) ≡ (34 ∷ []) ++ (escape (text_of bytes) ++ 34 ∷ items_text false others)
+first_text bytes others = ap (λ (l : List ℕ). 34 ∷ l) (append_assoc (escape (text_of bytes)) (34 ∷ []) (items_text false others))
 
 pub list_parts : (name exact : List ℕ) (list : List (List ℕ))
     → (44 ∷ 34 ∷ (escape name ++ (34 ∷ 58 ∷ 91 ∷ []))) ++ (items_text true list ++ ((93 ∷ []) ++ exact))

@@ -1,5 +1,5 @@
 -- The JSON of a build: an object for each log that is opened.
-use Rattle.std.specs.Prelude.{ℕ, ◌+◌, ◌==◌, Bool, true, false, ℤ, List, [], ◌∷◌, ◌++◌, Option, None, Some, filter_map, map, option_map, slice_index_or, if◌then◌else◌}
+use Rattle.std.specs.Prelude.{ℕ, ◌+◌, ◌==◌, Bool, true, false, ℤ, List, [], ◌∷◌, ◌++◌, Option, None, Some, filter, filter_map, map, option_map, slice_index_or, if◌then◌else◌}
 use Rattle.std.specs.List.{flat_map}
 use Rattle.json.specs.Print.{print}
 use Rattle.json.specs.Tree.{json_tokens}
@@ -52,9 +52,9 @@ abbrev pub new_names : List (List ℕ) → List (List ℕ) → List (List ℕ)
 new_names before [] = []
 new_names before (name ∷ names) = name_if_new name before ++ new_names (before ++ name ∷ []) names
 
--- The targets that some entries mention, each once, in the order in which they are mentioned first.
-abbrev pub needs_of : List Entry → List (List ℕ)
-needs_of entries = new_names [] (mentions_in entries)
+-- The other targets that the entries of a target's log mention, each once, in the order in which they are mentioned first.
+abbrev pub needs_of : List ℕ → List Entry → List (List ℕ)
+needs_of target entries = new_names (target ∷ []) (mentions_in entries)
 
 -- ---- the values of a log
 
@@ -64,6 +64,11 @@ unknown_times = record { began = None; ended = None }
 -- The processor time of a recipe, in milliseconds.
 abbrev pub cpu_time : Usage → ℕ
 cpu_time usage = saturated (usage.user_ms + usage.system_ms)
+
+-- The commands that are known whole.
+abbrev pub whole_commands : List RecipeCommand → List (List ℕ)
+whole_commands commands =
+    map (λ (command : RecipeCommand). command.text) (filter (λ (command : RecipeCommand). command.is_whole) commands)
 
 -- The values of the log with this number. `parent` is the target in whose log it is opened, and `status` the status of its own target.
 abbrev pub log_values : Request → List Log → Option (List ℕ) → Option ℤ → ℕ → LogValues
@@ -79,8 +84,8 @@ log_values request logs parent status number =
       cpu_ms = option_map cpu_time facts.usage;
       peak_kb = option_map (λ (usage : Usage). usage.peak_kb) facts.usage;
       directory = facts.directory;
-      commands = map (λ (command : RecipeCommand). command.text) facts.commands;
-      needs = needs_of (entries_at number logs);
+      commands = whole_commands facts.commands;
+      needs = needs_of (target_at logs number) (entries_at number logs);
       lines = texts_of (entries_at number logs);
     }
 

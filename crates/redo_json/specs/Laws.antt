@@ -1,21 +1,25 @@
 -- Definitions that state the laws about objects and builds.
-use Rattle.std.specs.Prelude.{◌≡◌, ⊤, ℕ, ℤ, ◌<◌, ◌≤◌, ◌^◌, List, [], Option, None, Some, IfSome, length, map, option_and_then, option_map, slice_get, slice_index_or}
-use Rattle.std.specs.List.{AllByRecursion}
+use Rattle.std.specs.Prelude.{◌≡◌, ⊤, ℕ, ℤ, ◌<◌, ◌≤◌, ◌^◌, Bool, true, ◌&&◌, List, [], ◌∷◌, ◌++◌, Option, None, Some, IfNone, IfSome, length, map, nat_eq, option_and_then, option_map, slice_get, slice_index_or, if◌then◌else◌}
+use Rattle.std.specs.Cmp.Lexicographic.{pointwise}
+use Rattle.std.specs.List.{AllByRecursion, list_any}
+use Rattle.std.specs.Option.{option_or}
 use lib.Signed.{mag}
 use Rattle.json.specs.Json.{Json, document}
 use Rattle.json.specs.Print.{print}
 use Rattle.json.specs.Tree.{json_tokens}
 use Rattle.redo_line.specs.Lines.{ended, rest}
 use Rattle.redo_diagnostics.specs.Diagnostic.{DiagnosticValue, diagnostic_of}
-use Rattle.redo_facts.specs.Facts.{RecipeCommand, RecipeFacts, nothing}
+use Rattle.redo_facts.specs.Facts.{RecipeFacts, nothing}
 use Rattle.redo_facts.specs.declared.statement.Usage.{Usage}
 use Rattle.redo_line.specs.declared.entry.Entry.{Entry}
 use Rattle.redo_line.specs.declared.entry.Entry.TheVariants.{Closing, Done}
 use Rattle.redo_times.specs.Times.{AreInRange}
 use Rattle.redo_logs.specs.Logs.{Log}
 use Rattle.redo_view.specs.Event.{Event}
+use Rattle.redo_view.specs.Expansion.{entries_of_target, is_among}
+use Rattle.redo_view.specs.Reachable.{mentioned_in}
 use Rattle.redo_outline.specs.Facts.{target_status, texts_of}
-use Rattle.redo_json.specs.Build.{Request, cpu_time, needs_of, unknown_times}
+use Rattle.redo_json.specs.Build.{Request, cpu_time, needs_of, options_of, unknown_times, whole_commands}
 use Rattle.redo_json.specs.Diagnostics.{LogDiagnostic}
 use Rattle.redo_json.specs.Object.{LogValues, object_of}
 
@@ -83,9 +87,47 @@ pub record IsOfLog (request : Request) (logs : List Log) (events : List Event) (
   pub cpu_ms : values.cpu_ms ≡ option_map cpu_time (slice_index_or request.facts number nothing).usage
   pub peak_kb : values.peak_kb ≡ option_map (λ (usage : Usage). usage.peak_kb) (slice_index_or request.facts number nothing).usage
   pub directory : values.directory ≡ (slice_index_or request.facts number nothing).directory
-  pub commands : values.commands ≡ map (λ (command : RecipeCommand). command.text) (slice_index_or request.facts number nothing).commands
-  pub needs : values.needs ≡ needs_of log.entries
+  pub commands : values.commands ≡ whole_commands (slice_index_or request.facts number nothing).commands
+  pub needs : values.needs ≡ needs_of log.target log.entries
   pub lines : values.lines ≡ texts_of log.entries
+
+-- ---- parents
+
+-- Whether a record in the log of `target` mentions `name`. Records of targets that needed no rebuild count if these have objects too.
+abbrev pub log_mentions : Request → List Log → List ℕ → List ℕ → Bool
+log_mentions request logs target name = mentioned_in (options_of request) name (entries_of_target target logs)
+
+abbrev pub target_if_mentions : Request → List Log → List ℕ → LogValues → Option (List ℕ)
+target_if_mentions request logs name values = if log_mentions request logs values.target name then Some values.target else None
+
+-- The target of the last one of some objects whose log mentions `name`, if there is one.
+abbrev pub last_mentioning : Request → List Log → List ℕ → List LogValues → Option (List ℕ)
+last_mentioning request logs name [] = None
+last_mentioning request logs name (values ∷ others) =
+    option_or (last_mentioning request logs name others) (target_if_mentions request logs name values)
+
+-- Whether each of these objects has a property that depends on the objects before it. `before` are the objects before these.
+abbrev pub AllFollowing : (List LogValues → LogValues → Type 0) → List LogValues → List LogValues → Type 0
+AllFollowing property before [] = Unit {0}
+AllFollowing property before (values ∷ others) = property before values × AllFollowing property (before ++ values ∷ []) others
+
+-- The parent of an object is the last one of the objects before it whose log mentions its target.
+abbrev pub HasLastParent : Request → List Log → List LogValues → LogValues → Type 0
+HasLastParent request logs before values = values.parent ≡ last_mentioning request logs values.target before
+
+-- Whether this is the object of `parent`, and needs `name`.
+abbrev pub is_needing : List ℕ → List ℕ → LogValues → Bool
+is_needing parent name values = pointwise nat_eq parent values.target && is_among name values.needs
+
+-- If an object has a parent, the object of its parent is one of those before it, and needs its target.
+abbrev pub IsNeededByParent : List LogValues → LogValues → Type 0
+IsNeededByParent before values = IfSome values.parent (λ (parent : List ℕ). list_any (is_needing parent values.target) before ≡ true)
+
+-- If an object has no parent, its target is requested.
+abbrev pub IsRequestedIfAlone : List (List ℕ) → LogValues → Type 0
+IsRequestedIfAlone requested values = IfNone values.parent (is_among values.target requested ≡ true)
+
+-- ---- diagnostics
 
 -- The line at the position of a diagnostic says what the diagnostic says.
 abbrev pub IsOfLine : List (List ℕ) → LogDiagnostic → Type 0

@@ -1,5 +1,6 @@
 pub mod Build
 pub mod Diagnostics
+pub mod Every
 pub mod Fields
 pub mod Laws
 pub mod Object

@@ -1,14 +1,14 @@
 //! The JSON of a build.
 ghost use Rattle.std.specs.Prelude.{◌≡◌, true, None, IfOk, map, option_copied, option_map, slice_index_or};
 ghost use Rattle.std.specs.List.{flat_map, list_all};
-ghost use Rattle.redo_facts.specs.Facts.{RecipeCommand, nothing};
+ghost use Rattle.redo_facts.specs.Facts.{nothing};
 ghost use Rattle.redo_facts.specs.declared.statement.Usage as spec;
 ghost use Rattle.redo_line.specs.Lines.{with_line_feed};
 ghost use Rattle.redo_logs.specs.Logs.{has_ended};
 ghost use Rattle.redo_outline.specs.Facts.{target_at};
 ghost use Rattle.redo_view.specs.Form.{FormWrites};
 ghost use Rattle.redo_view.specs.View.{find_unknown};
-ghost use Rattle.redo_json.specs.Build.{build_json, cpu_time, object_text, options_of, request_of, unknown_times};
+ghost use Rattle.redo_json.specs.Build.{build_json, cpu_time, object_text, options_of, request_of, unknown_times, whole_commands};
 ghost use Rattle.redo_json.specs.Private.Values.{IsRecipeOf, node_values, parent_name};
 
 use crate::needs::needs_of;
@@ -113,7 +113,7 @@ fn write_log<W: Sink>(
 {
     let times = times_at(request.times, node.number);
     let recipe = recipe_at(request.facts, node.number);
-    let commands = texts_of(alloc, recipe.commands)?;
+    let commands = whole_commands(alloc, recipe.commands)?;
     let needs = needs_of(alloc, request.keys, table, node.number)?;
     let command_texts = commands.as_slice();
     let names = needs.as_slice();
@@ -207,13 +207,15 @@ fn peak_kb(usage: Option<Usage>) -> Option<u64>
     }
 }
 
-// Returns the texts of commands.
-fn texts_of<'a>(alloc: Global, commands: &'a [Command]) -> Result<Vec<&'a [u8]>, AllocError>
-    ensures { IfOk result (λ texts. map (λ text. text.now) texts.items ≡ map (λ (command : RecipeCommand). command.text) commands.now) }
+// Returns the commands that are known whole.
+fn whole_commands<'a>(alloc: Global, commands: &'a [Command]) -> Result<Vec<&'a [u8]>, AllocError>
+    ensures { IfOk result (λ texts. map (λ text. text.now) texts.items ≡ whole_commands commands.now) }
 {
     let mut texts = Vec::with_capacity(alloc, commands.len())?;
     for command in commands {
-        texts.push(command.text())?;
+        if command.is_whole() {
+            texts.push(command.text())?;
+        }
     }
     Ok(texts)
 }

@@ -51,7 +51,7 @@ fn write_each<W: Sink>(
     let mut lines = LogLines::new(table, number);
     let mut counts = KeyCounts::new(alloc, keys);
     let mut is_first = true;
-    'each: while let Some((position, line)) = lines.next_line() {
+    'each: while let Some((position, line)) = lines.next_candidate() {
         if let Some(diagnostic) = read_diagnostic(alloc, line)? {
             let nth = counts.add(alloc, diagnostic.key())?;
             write_diagnostic(is_first, position, &diagnostic, nth, out)?;

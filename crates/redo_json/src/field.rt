@@ -15,6 +15,18 @@ use redo_device::{Broken, Sink};
 pub fn write_bytes<'a, W: Sink>(name: &'a [u8], bytes: &'a [u8], out: &mut W) -> Result<(), Broken>
     ensures { Writes (W.written out.old) (W.written out.new) (comma_fields (bytes_fields name.now bytes.now)) result }
 {
+    if is_text(bytes) {
+        return write_parts(
+            &[
+                Part::Json(b",\""),
+                Part::Escaped(name),
+                Part::Json(b"\":\""),
+                Part::Escaped(bytes),
+                Part::Json(b"\""),
+            ],
+            out,
+        );
+    }
     write_parts(
         &[
             Part::Json(b",\""),

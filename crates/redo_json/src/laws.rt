@@ -1,5 +1,5 @@
 //! Laws, which are theorems about the definitions alone: each contract is a theorem, and the bodies are empty.
-ghost use Rattle.std.specs.Prelude.{◌≡◌, ℕ, List, None, Some, IsUtf8, filter_map, min, nat_eq};
+ghost use Rattle.std.specs.Prelude.{◌≡◌, ◌≢◌, true, ℕ, List, [], None, Some, IsUtf8, filter_map, min, nat_eq};
 ghost use Rattle.std.specs.Cmp.Lexicographic.{pointwise};
 ghost use Rattle.std.specs.List.{AllByRecursion, IsDistinct};
 ghost use Rattle.base64.specs.GeneralPurpose.{IsBytes};
@@ -8,12 +8,14 @@ ghost use Rattle.json.specs.Tree.{json_tokens};
 ghost use Rattle.redo_diagnostics.specs.Counts.{numbered_keys, times_of};
 ghost use Rattle.redo_diagnostics.specs.Diagnostic.{diagnostic_of};
 ghost use Rattle.redo_line.specs.declared.entry.Entry.{Entry};
-ghost use Rattle.redo_logs.specs.Logs.{Log};
+ghost use Rattle.redo_logs.specs.Logs.{Log, targets_of};
+ghost use Rattle.redo_view.specs.Expansion.{is_among};
 ghost use Rattle.redo_view.specs.Laws.{opened_for};
 ghost use Rattle.redo_view.specs.View.{find_unknown};
 ghost use Rattle.redo_json.specs.Build.{Request, build_events, build_json, build_values, mentions_in, needs_of, options_of};
 ghost use Rattle.redo_json.specs.Diagnostics.{diagnostics_of};
-ghost use Rattle.redo_json.specs.Laws.{AreReadBack, HasExactInputs, HasExactNumbers, IsOfLine, IsOfLog, IsReadBack, found_values, ids_in, keys_in, targets_in};
+ghost use Rattle.redo_json.specs.Every.{every_target};
+ghost use Rattle.redo_json.specs.Laws.{AllFollowing, AreReadBack, HasExactInputs, HasExactNumbers, HasLastParent, IsNeededByParent, IsOfLine, IsOfLog, IsReadBack, IsRequestedIfAlone, found_values, ids_in, keys_in, targets_in};
 ghost use Rattle.redo_json.specs.Object.{LogValues, object_of};
 ghost use Rattle.redo_json.specs.Text.{base64_of, bytes_from, exact_of, text_of};
 
@@ -53,12 +55,15 @@ pub fn numbers_are_exact()
 {}
 
 /// There is an object for each log that is opened for the requested targets, in this order, if each of these targets has a log. No two
-/// objects have the same target.
+/// objects have the same target. Each target that has a log has an object if all targets are requested ([`every_target`](crate::every_target)).
 pub fn each_log_has_one_object()
     ensures opened { (request : Request) (logs : List Log) (requested : List (List ℕ)) → find_unknown logs requested ≡ None →
         targets_in (build_values request logs requested) ≡ opened_for logs (options_of request) requested }
     ensures once { (request : Request) (logs : List Log) (requested : List (List ℕ)) → find_unknown logs requested ≡ None →
         IsDistinct (pointwise nat_eq) (targets_in (build_values request logs requested)) }
+    ensures every { (request : Request) (logs : List Log) (requested : List (List ℕ)) (target : List ℕ) →
+        find_unknown logs requested ≡ None → is_among target (targets_of logs) ≡ true →
+        is_among target (targets_in (build_values request logs (every_target logs requested))) ≡ true }
 {
     events_are_in_contents();
     redo_view::each_log_once();
@@ -70,9 +75,26 @@ pub fn objects_are_of_logs()
         AllByRecursion (IsOfLog request logs (build_events request logs requested)) (build_values request logs requested) }
 {}
 
-/// A log needs a target once if its entries mention the target, and otherwise not.
+/// The parent of an object is the last one of the objects before it whose log mentions its target; there is none if no log of these does.
+/// So the object of the parent precedes it, and needs its target. The target of an object without a parent is a requested one.
+pub fn parents_mention_their_targets()
+    ensures last { (request : Request) (logs : List Log) (requested : List (List ℕ)) →
+        AllFollowing (HasLastParent request logs) [] (build_values request logs requested) }
+    ensures needed { (request : Request) (logs : List Log) (requested : List (List ℕ)) →
+        AllFollowing IsNeededByParent [] (build_values request logs requested) }
+    ensures requested { (request : Request) (logs : List Log) (requested : List (List ℕ)) →
+        AllByRecursion (IsRequestedIfAlone requested) (build_values request logs requested) }
+{
+    redo_view::entries_match_log();
+    redo_view::named_once();
+    redo_view::show_log_equation();
+}
+
+/// A log needs another target once if its entries mention this target, and otherwise not. It never needs its own target.
 pub fn needs_are_mentioned()
-    ensures { (entries : List Entry) (name : List ℕ) → times_of name (needs_of entries) ≡ min (times_of name (mentions_in entries)) 1 }
+    ensures others { (target : List ℕ) (entries : List Entry) (name : List ℕ) → name ≢ target →
+        times_of name (needs_of target entries) ≡ min (times_of name (mentions_in entries)) 1 }
+    ensures own { (target : List ℕ) (entries : List Entry) → times_of target (needs_of target entries) ≡ 0 }
 {}
 
 /// An object has the diagnostics of all lines, in order, each with the position of its line. The law `ids_are_distinct` of

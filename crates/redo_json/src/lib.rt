@@ -8,9 +8,10 @@
 //! - A string of JSON can't have bytes that are not UTF-8, and some readers reject raw bytes and lone surrogates. Therefore a string
 //!   has the text, in which U+FFFD replaces each piece that is no character. A member whose name ends with `_base64` has the exact
 //!   bytes.
-//! - `json` writes into memory. Here parts are written to a `Sink`. Stretches without escapes are one write. The text lines of a log are
-//!   read from the table three times: for the texts, for the exact bytes, and for the diagnostics. So no object is held in memory, only
-//!   the commands and the needs of one log, and the keys of its diagnostics.
+//! - `json` writes into memory. Here parts are written to a `Sink`. Stretches without escapes are one write, and so is what is between
+//!   two lines. The text lines of a log are read from the table three times: for the texts, for the exact bytes, and for the
+//!   diagnostics. So no object is held in memory, only the commands and the needs of one log, and the keys of its diagnostics. For the
+//!   exact bytes, lines that are stored together are tested together first: if all are UTF-8, no line is read.
 //! - The definition is a recursion over the tree of what is shown. The code iterates over the nodes of the outline.
 //! - Base64 is encoded in chunks of 768 bytes, on the stack, and written as the text of any string is. No proof knows its alphabet.
 //! - Programs read numbers as doubles, so the law about reading has the premise that numbers are below 2^53.
@@ -19,6 +20,7 @@
 mod build;
 mod diagnostics;
 mod escape;
+mod every;
 mod exact;
 mod field;
 mod laws;
@@ -32,10 +34,11 @@ mod plain;
 mod string;
 
 pub use build::{BuildRequest, write_build};
+pub use every::every_target;
 pub use exact::write_base64;
 pub use laws::{
     bytes_are_recovered, diagnostics_are_of_lines, each_log_has_one_object, json_is_utf8,
     needs_are_mentioned, numbers_are_exact, objects_are_of_logs, objects_are_read,
-    strings_are_utf8,
+    parents_mention_their_targets, strings_are_utf8,
 };
 pub use string::write_string;

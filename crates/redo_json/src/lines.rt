@@ -1,15 +1,20 @@
 //! The member of an object with the text lines of a log. The lines are read from the table once for each part.
-ghost use Rattle.std.specs.Prelude.{◌≡◌, true, [], IfNone, IfSome};
+ghost use Rattle.std.specs.Prelude.{◌≡◌, true, false, [], ◌∷◌, IfNone, IfSome};
+ghost use Rattle.std.specs.Str.{is_utf8};
+ghost use Rattle.json.specs.Print.{escape};
 ghost use Rattle.redo_device.specs.Sink.{Writes};
 ghost use Rattle.redo_outline.specs.Facts.{entries_at, texts_of};
 ghost use Rattle.redo_json.specs.Fields.{exact_items, exact_list, exact_name, list_fields};
-ghost use Rattle.redo_json.specs.Private.LogLines.{IsNextExactLine};
+ghost use Rattle.redo_json.specs.Private.LogLines.{AreUtf8, IsNextExactLine};
 ghost use Rattle.redo_json.specs.Private.Parts.{comma_fields, items_text};
+ghost use Rattle.redo_json.specs.Text.{text_of};
 
+use crate::escape::write_escaped;
 use crate::field::is_text;
-use crate::list::{write_exact_item, write_item};
-use crate::log_lines::LogLines;
+use crate::list::write_exact_item;
+use crate::log_lines::{LogLines, are_text};
 use crate::part::{Part, write_parts};
+use crate::string::write_text;
 use redo_device::{Broken, Sink, push_all};
 use redo_logs::LogTable;
 
@@ -23,25 +28,65 @@ pub fn write_lines<W: Sink>(
     ensures { Writes (W.written out.old) (W.written out.new)
         (comma_fields (list_fields name.now (texts_of (entries_at number table.now)))) result }
 {
+    let are_text = are_text(table, number);
     write_parts(
         &[Part::Json(b",\""), Part::Escaped(name), Part::Json(b"\":[")],
         out,
     )?;
-    write_texts(table, number, out)?;
+    write_texts(are_text, table, number, out)?;
     push_all(out, b"]")?;
+    if are_text {
+        return Ok(());
+    }
     write_exact_lines(name, table, number, out)
 }
 
-fn write_texts<W: Sink>(table: &LogTable, number: u32, out: &mut W) -> Result<(), Broken>
+// Writes the strings of a log's lines. `are_text` says that all lines are known to be UTF-8.
+fn write_texts<W: Sink>(
+    are_text: bool,
+    table: &LogTable,
+    number: u32,
+    out: &mut W,
+) -> Result<(), Broken>
+    requires { are_text ≡ true → AreUtf8 (texts_of (entries_at number table.now)) }
     ensures { Writes (W.written out.old) (W.written out.new) (items_text true (texts_of (entries_at number table.now))) result }
 {
     let mut lines = LogLines::new(table, number);
-    let mut is_first = true;
+    let Some((_, line)) = lines.next_line() else {
+        return Ok(());
+    };
+    push_all(out, b"\"")?;
+    write_line(are_text, line, out)?;
+    write_other_texts(are_text, &mut lines, out)
+}
+
+// Writes the quote that ends a string, and then the strings of the lines that are left, each after a comma. What is between two texts
+// is one write.
+fn write_other_texts<W: Sink>(
+    are_text: bool,
+    lines: &mut LogLines<'_>,
+    out: &mut W,
+) -> Result<(), Broken>
+    requires { are_text ≡ true → AreUtf8 lines.old.left }
+    ensures { Writes (W.written out.old) (W.written out.new) (34 ∷ items_text false lines.old.left) result }
+{
     'each: while let Some((_, line)) = lines.next_line() {
-        write_item(is_first, line, out)?;
-        is_first = false;
+        push_all(out, b"\",\"")?;
+        write_line(are_text, line, out)?;
     }
-    Ok(())
+    push_all(out, b"\"")
+}
+
+// Writes what a string with the text of a line has between its quotes. `is_text` says that the line is known to be UTF-8.
+fn write_line<W: Sink>(is_text: bool, line: &[u8], out: &mut W) -> Result<(), Broken>
+    requires { is_text ≡ true → is_utf8 line.now ≡ true }
+    ensures { Writes (W.written out.old) (W.written out.new) (escape (text_of line.now)) result }
+{
+    if is_text {
+        write_escaped(line, out)
+    } else {
+        write_text(line, out)
+    }
 }
 
 // Writes a member with the exact bytes of those lines of which the texts don't have them, if there are such lines.

@@ -31,8 +31,8 @@ fn write_items<W: Sink>(list: &[&[u8]], out: &mut W) -> Result<(), Broken>
     Ok(())
 }
 
-/// Writes the text of an item, after a comma unless it is the first item.
-pub fn write_item<W: Sink>(is_first: bool, bytes: &[u8], out: &mut W) -> Result<(), Broken>
+// Writes the text of an item, after a comma unless it is the first item.
+fn write_item<W: Sink>(is_first: bool, bytes: &[u8], out: &mut W) -> Result<(), Broken>
     ensures { Writes (W.written out.old) (W.written out.new) (item_text is_first bytes.now) result }
 {
     write_parts(&[Part::Json(comma_after(is_first)), Part::Text(bytes)], out)

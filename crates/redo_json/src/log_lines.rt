@@ -1,10 +1,13 @@
 //! The text lines of a log.
-ghost use Rattle.std.specs.Prelude.{◌≡◌, ◌+◌, ◌≤◌, ◌<◌, ◌^◌, ◌∷◌, ◌++◌, [], length, IfSome, MatchOption};
+ghost use Rattle.std.specs.Prelude.{◌≡◌, ℕ, true, ◌+◌, ◌≤◌, ◌<◌, ◌^◌, ◌∷◌, ◌++◌, [], length, IfNone, IfSome, MatchOption};
 ghost use Rattle.redo_line.specs.Lines.{ended, rest};
 ghost use Rattle.redo_outline.specs.Facts.{entries_at, texts_of};
-ghost use Rattle.redo_json.specs.Private.LogLines.{AreNextLines, IsRefilled};
+ghost use Rattle.redo_json.specs.Diagnostics.{placed_from};
+ghost use Rattle.redo_json.specs.Private.LogLines.{AreNextCandidates, AreNextLines, AreUtf8, IsNextCandidate, IsRefilled};
 
+use crate::field::is_text;
 use memchr::memchr;
+use redo_diagnostics::may_have_diagnostic;
 use redo_logs::{LogTable, Numbered};
 use std::marker::Model;
 
@@ -68,6 +71,45 @@ impl<'a> LogLines<'a> {
         self.done = position + 1;
         Some((position, &stretch[..end]))
     }
+
+    /// Returns the next line that may be a diagnostic, and its position. The lines before it are none. Lines that are stored together are
+    /// tested at once.
+    pub fn next_candidate(&mut self) -> Option<(usize, &'a [u8])>
+        ensures some { IfSome result (λ found. IsNextCandidate self.old self.new found.0 found.1.now) }
+        ensures none { IfNone result (placed_from self.old.done self.old.left ≡ []) }
+        ensures no_overflow { self.new.done < 2 ^ 64 }
+    {
+        if self.stretch.is_empty() {
+            let (stretch, next, done) = next_candidates(
+                &self.logs,
+                self.number,
+                self.next,
+                self.done,
+            );
+            self.stretch = stretch;
+            self.next = next;
+            self.done = done;
+        }
+        self.next_line()
+    }
+}
+
+/// Returns true only if all lines of a log are UTF-8. Lines that are stored together are tested at once.
+pub fn are_text(table: &LogTable, number: u32) -> bool
+    ensures { result ≡ true → AreUtf8 (texts_of (entries_at number table.now)) }
+{
+    let logs = table.numbered();
+    let mut next = 0;
+    'stretches: loop {
+        let (lines, _, after) = next_lines(&logs, number, next);
+        if lines.is_empty() {
+            return true;
+        }
+        if !is_text(lines) {
+            return false;
+        }
+        next = after;
+    }
 }
 
 // Returns the stretch, or the next one if it is used up, and the number of the entry after it.
@@ -76,25 +118,51 @@ fn refill<'a>(logs: &Numbered<'a>, number: u32, stretch: &'a [u8], next: usize) 
     ensures { IsRefilled logs.now.logs number stretch.now next result.0.now result.1 }
 {
     if stretch.is_empty() {
-        next_lines(logs, number, next)
+        let (lines, _, after) = next_lines(logs, number, next);
+        (lines, after)
     } else {
         (stretch, next)
     }
 }
 
-// Returns the next text lines of log `number` that are stored together, from entry `next` on, with their line feeds, and the number of the
-// entry after them. They are none if no text line is left.
-fn next_lines<'a>(logs: &Numbered<'a>, number: u32, next: usize) -> (&'a [u8], usize)
-    ensures { AreNextLines logs.now.logs number next result.0.now result.1 }
+// Skips the lines of log `number` from entry `next` on, which are stored together, up to those that may have a diagnostic. Returns these with
+// their line feeds, the number of the entry after them, and the number of lines before them. `done` is the number of lines before entry
+// `next`.
+fn next_candidates<'a>(
+    logs: &Numbered<'a>,
+    number: u32,
+    next: usize,
+    done: usize,
+) -> (&'a [u8], usize, usize)
+    requires { done ≤ next }
+    ensures { AreNextCandidates logs.now.logs number next done result.0.now result.1 result.2 }
+{
+    let mut at = next;
+    let mut before = done;
+    'stretches: loop {
+        let (lines, count, after) = next_lines(logs, number, at);
+        if lines.is_empty() || may_have_diagnostic(lines) {
+            return (lines, after, before);
+        }
+        before += count;
+        at = after;
+    }
+}
+
+// Returns the next text lines of log `number` that are stored together, from entry `next` on, with their line feeds, their number, and
+// the number of the entry after them. They are none if no text line is left.
+fn next_lines<'a>(logs: &Numbered<'a>, number: u32, next: usize) -> (&'a [u8], usize, usize)
+    ensures lines { AreNextLines logs.now.logs number next result.0.now result.2 }
+    ensures count { result.1 ≡ length (ended result.0.now) }
 {
     let mut at = next;
     'entries: loop {
         let (lines, count) = logs.lines(number, at);
         if count > 0 {
-            return (lines, at + count);
+            return (lines, count, at + count);
         }
         match logs.entry(number, at) {
-            None => return (&[], at),
+            None => return (&[], 0, at),
             Some(_) => at += 1,
         }
     }

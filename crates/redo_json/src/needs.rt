@@ -2,27 +2,30 @@
 ghost use Rattle.std.specs.Prelude.{◌≡◌, ◌∷◌, ◌++◌, ℕ, List, [], IfOk, OnOk, map, option_to_list};
 ghost use Rattle.redo_diagnostics.specs.Counts.{AreCounts};
 ghost use Rattle.redo_logs.specs.EntryRef.{entry_value};
-ghost use Rattle.redo_outline.specs.Facts.{entries_at};
+ghost use Rattle.redo_outline.specs.Facts.{entries_at, target_at};
 ghost use Rattle.redo_json.specs.Build.{mentioned_name, name_if_new, needs_of};
 ghost use Rattle.redo_json.specs.Private.Needing.{names_if_new};
 
 use redo_diagnostics::KeyCounts;
 use redo_line::HashKeys;
 use redo_logs::{EntryRef, LogTable};
+use redo_outline::target_at;
 use std::alloc::{AllocError, Global};
 
-/// Returns the targets that the entries of a log mention, each once, in the order in which they are mentioned first. Their names are hashed
-/// with `keys`.
+/// Returns the other targets that the entries of a log mention, each once, in the order in which they are mentioned first. Their names are
+/// hashed with `keys`.
 pub fn needs_of<'a>(
     alloc: Global,
     keys: HashKeys,
     table: &'a LogTable,
     number: u32,
 ) -> Result<Vec<&'a [u8]>, AllocError>
-    ensures { IfOk result (λ needs. map (λ name. name.now) needs.items ≡ needs_of (entries_at number table.now)) }
+    ensures { IfOk result (λ needs.
+        map (λ name. name.now) needs.items ≡ needs_of (target_at table.now number) (entries_at number table.now)) }
 {
     let logs = table.numbered();
     let mut counts = KeyCounts::new(alloc, keys);
+    counts.add(alloc, target_at(table, number))?;
     let mut needs = Vec::new(alloc);
     let mut at = 0;
     'entries: loop {

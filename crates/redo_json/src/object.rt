@@ -37,9 +37,9 @@ pub struct LogObject<'a> {
     pub peak_kb: Option<u64>,
     /// The directory in which the recipe ran.
     pub directory: Option<&'a [u8]>,
-    /// The commands of the recipe.
+    /// The commands of the recipe that are known whole.
     pub commands: &'a [&'a [u8]],
-    /// The targets that the log mentions.
+    /// The other targets that the log mentions.
     pub needs: &'a [&'a [u8]],
     /// The table that has the text lines of the log.
     pub table: &'a LogTable,

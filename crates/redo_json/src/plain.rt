@@ -12,7 +12,24 @@ pub fn plain_len(bytes: &[u8]) -> usize
     ensures { ArePlain bytes.now result }
 {
     let len = plain_strides_len(bytes);
+    if ends_with_plain_stride(bytes, len) {
+        return bytes.len();
+    }
     len + plain_bytes_len(&bytes[len..])
+}
+
+// Returns true only if all bytes are plain, when the first `len` ones are: the stride that ends the bytes has all others, and is plain.
+fn ends_with_plain_stride(bytes: &[u8], len: usize) -> bool
+    ensures { result ≡ true → ArePlain bytes.now len → ArePlain bytes.now (length bytes.now) }
+{
+    if bytes.len() < STRIDE {
+        return false;
+    }
+    let start = bytes.len() - STRIDE;
+    if start > len {
+        return false;
+    }
+    are_plain(&bytes[start..])
 }
 
 // Returns the number of bytes in the strides at the start that consist of plain bytes.

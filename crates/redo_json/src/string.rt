@@ -22,8 +22,8 @@ pub fn write_string<W: Sink>(bytes: &[u8], out: &mut W) -> Result<(), Broken>
     push_all(out, b"\"")
 }
 
-// Writes what a string has between its quotes.
-fn write_text<W: Sink>(bytes: &[u8], out: &mut W) -> Result<(), Broken>
+/// Writes what a string with the text of these bytes has between its quotes.
+pub fn write_text<W: Sink>(bytes: &[u8], out: &mut W) -> Result<(), Broken>
     ensures { Writes (W.written out.old) (W.written out.new) (escape (text_of bytes.now)) result }
 {
     let mut left = bytes;

@@ -1,9 +1,12 @@
 -- The text lines of a log, as they are iterated over.
-use Rattle.std.specs.Prelude.{◌≡◌, ℕ, ◌+◌, ◌<◌, ◌≤◌, List, [], ◌∷◌, ◌++◌, decimal, drop, length}
+use Rattle.std.specs.Prelude.{◌≡◌, ℕ, ◌+◌, ◌<◌, ◌≤◌, true, List, [], ◌∷◌, ◌++◌, decimal, drop, length}
+use Rattle.std.specs.List.{AllByRecursion}
+use Rattle.std.specs.Str.{is_utf8}
 use Rattle.json.specs.Json.{string}
 use Rattle.redo_line.specs.Lines.{ended, rest}
 use Rattle.redo_logs.specs.Logs.{Log}
 use Rattle.redo_outline.specs.Facts.{entries_at, texts_of}
+use Rattle.redo_json.specs.Diagnostics.{placed_from}
 use Rattle.redo_json.specs.Fields.{exact_items, field}
 use Rattle.redo_json.specs.Text.{base64_of}
 
@@ -30,6 +33,33 @@ pub record IsRefilled (logs : List Log) (number : ℕ) (stretch : List ℕ) (nex
   pub left : ended stretch ++ texts_from logs number next ≡ ended lines ++ texts_from logs number after
   pub count : next + length (ended lines) ≤ after + length (ended stretch)
   pub none : lines ≡ [] → ended stretch ++ texts_from logs number next ≡ []
+
+-- Each line is UTF-8.
+abbrev pub AreUtf8 : List (List ℕ) → Type 0
+AreUtf8 lines = AllByRecursion (λ line. is_utf8 line ≡ true) lines
+
+-- Some lines that are no diagnostics were skipped.
+pub record AreCandidates (before after : Remaining) : Type 0 where
+  pub placed : placed_from before.done before.left ≡ placed_from after.done after.left
+  pub fewer : length after.left ≤ length before.left
+  pub later : before.done ≤ after.done
+
+-- The lines of a log from entry `next` on, after `done` lines, were skipped up to these lines, which end before entry `after`. `before` is the
+-- number of lines before them.
+pub record AreNextCandidates (logs : List Log) (number next done : ℕ) (lines : List ℕ) (after before : ℕ) : Type 0 where
+  pub complete : rest lines ≡ []
+  pub candidates : AreCandidates
+      (record { left = texts_from logs number next; done = done })
+      (record { left = ended lines ++ texts_from logs number after; done = before })
+  pub count : before + length (ended lines) ≤ after
+
+-- From `before` on, `line` is the first line that isn't skipped, at `position`. `after` is what follows it.
+pub record IsNextCandidate (before after : Remaining) (position : ℕ) (line : List ℕ) : Type 0 where
+  pub candidates : Remaining
+  pub are : AreCandidates before candidates
+  pub first : candidates.left ≡ line ∷ after.left
+  pub position_is : position ≡ candidates.done
+  pub done : after.done ≡ candidates.done + 1
 
 -- From `before` on, the first line of which the text doesn't have the exact bytes is `line`, at `position`. `after` is what follows it.
 pub record IsNextExactLine (before after : Remaining) (position : ℕ) (line : List ℕ) : Type 0 where

@@ -8,8 +8,8 @@ abbrev pub names_if_new : Option (List ℕ) → List (List ℕ) → List (List �
 names_if_new None before = []
 names_if_new (Some name) before = name_if_new name before
 
--- These are the needs that the entries before entry `at` have. `before` are the names that they mention.
-pub record FoundNeeds (entries : List Entry) (at : ℕ) (names : List (List ℕ)) (counts : List (List ℕ × ℕ)) : Type 0 where
+-- These are the needs that the entries before entry `at` of a target's log have. `before` are the target and the names that they mention.
+pub record FoundNeeds (target : List ℕ) (entries : List Entry) (at : ℕ) (names : List (List ℕ)) (counts : List (List ℕ × ℕ)) : Type 0 where
   pub before : List (List ℕ)
   pub counted : AreCounts counts before
-  pub are : names ++ new_names before (mentions_in (drop at entries)) ≡ needs_of entries
+  pub are : names ++ new_names before (mentions_in (drop at entries)) ≡ needs_of target entries

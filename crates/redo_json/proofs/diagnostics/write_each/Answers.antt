@@ -5,6 +5,7 @@ use Rattle.redo_diagnostics.specs.Counts.{AreCounts, stored, times_of}
 use Rattle.redo_outline.specs.Facts.{entries_at, texts_of}
 use Rattle.redo_json.specs.Diagnostics.{diagnostics_of}
 use Rattle.redo_json.specs.Private.Parts.{diagnostics_text}
+use Rattle.redo_json.proofs.CandidateLemmas.{at_candidates}
 use Rattle.redo_json.proofs.DiagnosingLemmas.{begins, finds, nth_is}
 use Rattle.redo_json.proofs.FormLemmas.{ran_out, write_failed}
 use Rattle.redo_json.proofs.WritingLemmas.{left_is, wrote_more}
@@ -28,26 +29,30 @@ returns-in_err-nth g c =
 pub returns-in_err-write_diagnostic : goal.returns-in_err-write_diagnostic
 returns-in_err-write_diagnostic g c =
     let whole = diagnostics_text true (diagnostics_of (texts_of (entries_at c.args.number c.args.table.now))) in
-    let so_far = c.each.invariant in
-    let done = c.in-Some.ensures.done in
+    let found = c.in-Some.ensures.some in
+    let lines = found.candidates in
+    let so_far = at_candidates _ _ _ _ _ lines _ found.are c.each.invariant in
+    let done = found.done in
     let room = c.in-Some.ensures.no_overflow in
-    let nth = nth_is c.in-Some-2.diagnostic.key so_far.keys c.each.lines.done c.in_ok-nth.nth so_far.few (omega (arith, done, room))
+    let nth = nth_is c.in-Some-2.diagnostic.key so_far.keys lines.done c.in_ok-nth.nth so_far.few (omega (arith, done, room))
     (c.in_ok-nth.ensures.before so_far.keys so_far.counted ∙ ap (λ (k : List ℕ). stored (times_of k so_far.keys)) c.key.ensures) in
     let given = err_from_is_err_and c.from_residual-in_err-write_diagnostic.result c.from_residual-in_err-write_diagnostic.ensures.1 in
     rw (given.1, given.2) (write_failed _ _ _ whole _ _ _
-    (left_is _ _ _ _ _ (finds c.each.is_first c.each.lines c.next_line.new.self c.in-Some.line.now c.in-Some.ensures.line done so_far.keys
+    (left_is _ _ _ _ _ (finds c.each.is_first lines c.next_candidate.new.self c.in-Some.line.now found.first done so_far.keys
     c.in-Some-2.diagnostic c.in-Some.position c.in_ok-nth.nth (sym c.in_ok-diagnostic.ensures
-    ∙ c.in-Some-2.is) c.in-Some.ensures.position nth) so_far.wrote)
+    ∙ c.in-Some-2.is) found.position_is nth) so_far.wrote)
     c.in_err-write_diagnostic.ensures)
 
 pub each-preserved-in-Some-2 : goal.each-preserved-in-Some-2
 each-preserved-in-Some-2 g c =
-    let so_far = c.each.invariant in
-    let done = c.in-Some.ensures.done in
+    let found = c.in-Some.ensures.some in
+    let lines = found.candidates in
+    let so_far = at_candidates _ _ _ _ _ lines _ found.are c.each.invariant in
+    let done = found.done in
     let room = c.in-Some.ensures.no_overflow in
     let few = so_far.few in
     let key = c.in-Some-2.diagnostic.key in
-    let nth = nth_is key so_far.keys c.each.lines.done c.in_ok-nth.nth so_far.few (omega (arith, done, room))
+    let nth = nth_is key so_far.keys lines.done c.in_ok-nth.nth so_far.few (omega (arith, done, room))
     (c.in_ok-nth.ensures.before so_far.keys so_far.counted ∙ ap (λ (k : List ℕ). stored (times_of k so_far.keys)) c.key.ensures) in
     record {
       keys = so_far.keys ++ key ∷ [];
@@ -56,8 +61,8 @@ each-preserved-in-Some-2 g c =
       few = omega (arith, few, done, length-append so_far.keys (key ∷ []));
       wrote = wrote_more _ _ _ _ _ _
           (left_is _ _ _ _ _
-          (finds c.each.is_first c.each.lines c.next_line.new.self c.in-Some.line.now c.in-Some.ensures.line done so_far.keys
+          (finds c.each.is_first lines c.next_candidate.new.self c.in-Some.line.now found.first done so_far.keys
           c.in-Some-2.diagnostic c.in-Some.position c.in_ok-nth.nth (sym c.in_ok-diagnostic.ensures
-          ∙ c.in-Some-2.is) c.in-Some.ensures.position nth) so_far.wrote)
+          ∙ c.in-Some-2.is) found.position_is nth) so_far.wrote)
           c.in_ok-write_diagnostic.ensures;
     }

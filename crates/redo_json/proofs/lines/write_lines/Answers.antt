@@ -1,9 +1,10 @@
-use Rattle.std.proofs.Common.{true, [], ◌∷◌, ◌++◌}
+use Rattle.std.proofs.Common.{true, List, [], ◌∷◌, ◌++◌, ap}
 use Rattle.redo_outline.specs.Facts.{entries_at, texts_of}
-use Rattle.redo_json.specs.Fields.{exact_items, exact_list, exact_name, list_fields}
+use Rattle.redo_json.specs.Fields.{Field, exact_items, exact_list, exact_name, list_fields}
 use Rattle.redo_json.specs.Private.Parts.{comma_fields, items_text}
+use Rattle.redo_json.proofs.LineLemmas.{no_exact_items}
 use Rattle.redo_json.proofs.PartLemmas.{list_parts}
-use Rattle.redo_json.proofs.WritingLemmas.{begin, failed_part, wrote_more, wrote_rest}
+use Rattle.redo_json.proofs.WritingLemmas.{begin, failed_part, left_is, wrote_all, wrote_more, wrote_rest}
 use Rattle.redo_json.proofs.lines.write_lines.Goals as goal
 
 pub returns-in_err-write_parts : goal.returns-in_err-write_parts
@@ -35,6 +36,20 @@ returns-in_err-push_all g c =
     (wrote_more _ _ _ _ (items_text true list) ((93 ∷ []) ++ exact)
     (wrote_more _ _ _ _ _ _ (begin (g.W.Sink.written c.args.out.now) whole _ (list_parts name exact list)) c.in_ok-write_parts.ensures)
     c.in_ok-write_texts.ensures) c.in_err-push_all.ensures
+
+pub returns-then-are_text : goal.returns-then-are_text
+returns-then-are_text g c =
+    let name = c.args.name.now in
+    let list = texts_of (entries_at c.args.number c.args.table.now) in
+    let exact = comma_fields (exact_list (exact_name name) (exact_items 0 list)) in
+    let whole = comma_fields (list_fields name list) in
+    wrote_all _ _ whole
+    (left_is _ _ whole exact [] (ap (λ (fields : List Field). comma_fields (exact_list (exact_name name) fields))
+    (no_exact_items 0 list (c.are_text-are_text.ensures c.if-are_text.true)))
+    (wrote_more _ _ _ _ (93 ∷ []) exact
+    (wrote_more _ _ _ _ (items_text true list) ((93 ∷ []) ++ exact)
+    (wrote_more _ _ _ _ _ _ (begin (g.W.Sink.written c.args.out.now) whole _ (list_parts name exact list)) c.in_ok-write_parts.ensures)
+    c.in_ok-write_texts.ensures) c.in_ok-push_all.ensures))
 
 pub returns : goal.returns
 returns g c =

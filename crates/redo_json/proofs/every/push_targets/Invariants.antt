@@ -1,0 +1,7 @@
+use Rattle.std.proofs.Common.{◌≡◌, ◌++◌, take}
+use Rattle.redo_logs.specs.Logs.{targets_of}
+use Rattle.redo_json.proofs.every.push_targets.Given as goal
+
+-- The targets of the logs so far were appended.
+abbrev pub invariant-loop-number : goal.invariant-loop-number
+invariant-loop-number l = l.names.items ≡ l.initial.names.items ++ take l.number (targets_of l.table)
