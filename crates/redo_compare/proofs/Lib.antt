@@ -1,0 +1,12 @@
+mod ChangeRows
+pub mod FindingLemmas
+mod FindingRows
+pub mod KindLemmas
+mod OutcomeRows
+pub mod PartLemmas
+pub mod PickedLemmas
+pub mod RoundLemmas
+mod RoundRows
+pub mod SourceLemmas
+mod SourceRows
+pub mod StepLemmas

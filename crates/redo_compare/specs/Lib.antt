@@ -1,0 +1,7 @@
+pub mod Changes
+pub mod Laws
+pub mod Occurrences
+pub mod Outcomes
+pub mod Private
+pub mod Rounds
+pub mod Source

@@ -1,0 +1,4 @@
+-- Definitions that only clauses of private functions cite. They help in proofs and need not be trusted.
+pub mod Finding
+pub mod Remaining
+pub mod Rounding

@@ -1,0 +1,36 @@
+//! What is new in a build since an earlier one, the *baseline*: new and gone diagnostics, and targets that newly fail or are fixed.
+//!
+//! [`LogDiagnostics`] collects the diagnostics of a log, line by line. [`compare`] says of each whether it is new, and of each earlier
+//! one whether it is gone. [`newly_fails`] and [`is_fixed`] compare how a target ended. Laws say how many diagnostics are new, and that
+//! none is if no key occurs more often than before.
+//!
+//! # Terms
+//!
+//! - *Occurrence*: a diagnostic in a log, with its key and source line.
+//! - *Source line*: the line of the program that the compiler shows in the next line of the log, such as `int x;` of `  12 |   int x;`.
+//! - *Round*: in order, each occurrence takes a same one out of those that are left of the earlier log. It is known if there is one.
+//!   Same are those with the same key and source line in the first round, and those with the same key in the second.
+//!
+//! # Design
+//!
+//! - Keys alone decide how many occurrences are new, and source lines decide which. A compiler reports many diagnostics with the same
+//!   key; the source line tells most of them apart, and moves with the code.
+//! - The definition removes occurrences from a list. The code counts them by hashing, because lists with the same key would take
+//!   quadratic time. Keys and source lines are borrowed by the counts, and not copied.
+#![tactic(auto)]
+
+mod changes;
+mod found;
+mod laws;
+mod outcome;
+mod remaining;
+mod rounds;
+mod source;
+
+pub use changes::{Changes, compare};
+pub use found::{LogDiagnostics, Occurrence};
+pub use laws::{
+    known_source_lines_are_not_new, new_are_counted, new_are_in_order, same_log_has_nothing_new,
+    targets_of_one_build, when_nothing_is_new,
+};
+pub use outcome::{Outcome, is_fixed, newly_fails};
