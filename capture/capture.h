@@ -507,9 +507,9 @@ int has_command_ended(void);
 /* Returns a wait status as a shell reports it. */
 int shell_status(int wait_status);
 _Noreturn void exec_command(char **command);
-/* Once the command has ended, runs a program with these words, and waits for it. A signal that asks this process to end is passed on.
-   Returns its wait status, or -1 with errno if the program can't be run. */
-int run_program(char **words);
+/* Once the command has ended, runs a program with these words, and waits for it. A signal that asks this process to end is passed on,
+   and stored in `*end_signal`. Returns the wait status, or -1 with errno if the program can't be run. */
+int run_program(char **words, int *end_signal);
 /* Returns the path of a program in one of the directories of PATH, or NULL. */
 char *find_in_path(const char *name);
 _Noreturn void die_cannot_run(const char *command, int error);
@@ -528,12 +528,20 @@ void finish(int status, int must_close);
 void report(const char *command, int is_quiet);
 void write_summary(const char *path);
 
-/* page.c: the page that redo-log-html writes when the build has ended */
+/* export.c: the files that other programs write when the build has ended */
 
+enum { EXPORT_COUNT = 2 };
+struct export {
+  const char *option, *kind; /* the kind of the file, for messages */
+  const char *program;
+  const char *path; /* of the file; NULL if the option isn't given */
+  char *words[4];   /* the command line of the program */
+};
+extern struct export exports[EXPORT_COUNT];
 /* Exits if there is no such program. */
-void prepare_page(const char *path);
-/* Prints a message if the page can't be written. Doesn't allocate. */
-void write_page(const char *path);
+void prepare_export(struct export *export);
+/* Prints a message if the file can't be written. Doesn't allocate. */
+void write_export(struct export *export);
 
 /* capture_def.c: the path of capture.def, and the temporary directory that it may need */
 

@@ -34,7 +34,9 @@ static struct rlimit former_files, former_file_size;
 static struct sigaction former_pipe, former_size;
 static sigset_t ignored; /* signals that were ignored when this program began, as under nohup: the build ignores them too */
 
-static int is_stop_request(int kind) { return kind == SIGHUP || kind == SIGINT || kind == SIGQUIT || kind == SIGTERM; }
+static int is_stop_request(int kind) {
+  return (kind == SIGHUP || kind == SIGINT || kind == SIGQUIT || kind == SIGTERM) && !sigismember(&ignored, kind);
+}
 
 static void raise_limit(int resource, struct rlimit *former_limit) {
   getrlimit(resource, former_limit);
@@ -172,17 +174,22 @@ void start_command(char **words) {
   start_witness();
 }
 
-int run_program(char **words) {
+/* Once the process was waited for, its number may be another one's, so it gets no signal. */
+int run_program(char **words, int *end_signal) {
   struct pollfd ready = {signal_fd, POLLIN, 0};
   struct signalfd_siginfo info;
-  int exec_error, wait_status = -1;
+  int exec_error, wait_status = -1, is_running = 1;
   pid_t process = start_child(words, &exec_error);
   if (process >= 0 && exec_error) errno = exec_error;
   if (process < 0 || exec_error) return -1;
-  while (waitpid(process, &wait_status, WNOHANG) == 0) {
-    poll(&ready, 1, -1);
-    while (read(signal_fd, &info, sizeof info) == sizeof info)
-      if (is_stop_request(info.ssi_signo)) kill(process, info.ssi_signo);
+  while (is_running) {
+    is_running = waitpid(process, &wait_status, WNOHANG) == 0;
+    if (is_running) poll(&ready, 1, -1);
+    while (read(signal_fd, &info, sizeof info) == sizeof info) {
+      if (!is_stop_request(info.ssi_signo)) continue;
+      *end_signal = info.ssi_signo;
+      if (is_running) kill(process, info.ssi_signo);
+    }
   }
   return wait_status;
 }
@@ -198,8 +205,7 @@ static int is_group_signal(const struct signalfd_siginfo *info) {
 
 static void handle_signal(const struct signalfd_siginfo *info) {
   int kind = info->ssi_signo;
-  if (is_stop_request(kind) && !stop_signal && !sigismember(&ignored, kind))
-    stop_signal = kind, stop_time = wall_clock_ms();
+  if (is_stop_request(kind) && !stop_signal) stop_signal = kind, stop_time = wall_clock_ms();
   if (!is_group_signal(info)) kill(command_pid, kind);
 }
 

@@ -29,6 +29,7 @@ static const char help[] =
     "      --quiet            Print no output of recipes; by default, the output of failed recipes is printed\n"
     "      --summary <FILE>   Write a line per target to FILE: status, seconds, log number, name, processor time, memory\n"
     "      --html <FILE>      Write a page of the build to FILE with redo-log-html\n"
+    "      --json <FILE>      Write the build as JSON to FILE with redo-log-json\n"
     "      --progress[=<S>]   Print a line about the build every S seconds [default: 60]\n"
     "      --must-close       Set the must-close flag of closed logs: redo-log then rejects truncated copies of them\n"
     "      --finish           Finish the logs of a build that was killed\n"
@@ -40,12 +41,12 @@ static const char help[] =
     "  redo-log -r all                    shows it\n"
     "\n"
     "Exit status: the command's; otherwise\n"
-    "    1  the captures, the summary or the page can't be written\n"
+    "    1  the captures, the summary, the page or the JSON can't be written\n"
     "    2  the command line is invalid\n"
     "  126  the command can't be run\n"
     "  127  the command isn't found\n";
 
-static const char *directory = DEFAULT_DIRECTORY, *summary, *page;
+static const char *directory = DEFAULT_DIRECTORY, *summary;
 static int must_close, is_quiet, progress_seconds, only_finishes;
 
 static _Noreturn void print_and_exit(const char *message) { exit(fputs(message, stdout) < 0 || fflush(stdout) != 0); }
@@ -121,7 +122,8 @@ static _Noreturn void capture_build(char **command) {
   if (is_within_run()) exec_command(command);
   check_directory();
   if (summary) check_output_file(summary);
-  if (page) check_output_file(page), prepare_page(page);
+  for (int i = 0; i < EXPORT_COUNT; i++)
+    if (exports[i].path) check_output_file(exports[i].path), prepare_export(&exports[i]);
   if (progress_seconds) start_progress(progress_seconds);
   block_signals();
   prepare_environment(command[0]);
@@ -132,7 +134,8 @@ static _Noreturn void capture_build(char **command) {
   if (is_out_of_memory || try_step(finish_capture) < 0)
     warn("out of memory: finish the captures with redo-log-capture --dir %s --finish", directory_name);
   drain_in_background();
-  if (page) write_page(page);
+  for (int i = 0; i < EXPORT_COUNT; i++)
+    if (exports[i].path) write_export(&exports[i]);
   close_directory();
   exit_like_command();
 }
@@ -145,6 +148,12 @@ static int parse_value(char ***arguments, const char *option, const char **value
   if (argument[size]) *value = argument + size + 1;
   else *value = (*arguments)[1] ? *++*arguments : "";
   return 1;
+}
+
+static int parse_export(char ***arguments) {
+  for (int i = 0; i < EXPORT_COUNT; i++)
+    if (parse_value(arguments, exports[i].option, &exports[i].path)) return 1;
+  return 0;
 }
 
 /* Parses the arguments up to the command, which it returns. */
@@ -166,11 +175,18 @@ static char **parse_options(char **arguments) {
     else if (strncmp(argument, "--progress=", 11) == 0) progress_seconds = parse_seconds(argument + 11);
     else if (parse_value(&arguments, "--dir", &directory)) continue;
     else if (parse_value(&arguments, "--summary", &summary)) continue;
-    else if (parse_value(&arguments, "--html", &page)) continue;
+    else if (parse_export(&arguments)) continue;
     else if (strcmp(argument, "--") == 0) return arguments + 1;
     else die(2, "%s: unknown option; try --help", argument);
   }
   return arguments;
+}
+
+static void check_exports(void) {
+  for (int i = 0; i < EXPORT_COUNT; i++) {
+    if (exports[i].path && !*exports[i].path) die(2, "%s: no file given", exports[i].option);
+    if (exports[i].path && only_finishes) die(2, "--finish: writes no %s", exports[i].kind);
+  }
 }
 
 int main(int count, char **arguments) {
@@ -180,10 +196,9 @@ int main(int count, char **arguments) {
   char **command = parse_options(arguments + 1);
   if (!*directory) die(2, "--dir: no directory given");
   if (summary && !*summary) die(2, "--summary: no file given");
-  if (page && !*page) die(2, "--html: no file given");
   if (only_finishes && *command) die(2, "--finish: takes no command: %s", *command);
   if (only_finishes && summary) die(2, "--finish: writes no summary");
-  if (only_finishes && page) die(2, "--finish: writes no page");
+  check_exports();
   if (!only_finishes && !*command) die(2, "no command given; try --help");
   set_directory(directory);
   if (only_finishes) finish_interrupted();
