@@ -1,12 +1,12 @@
 # make try              builds the program without proofs, in a minute, and runs it on the captures in examples/variants
 # make run              proves and builds the program, and runs it on the captures in sample/
 # make check            runs all checks that a change must pass
-# make build            proves and builds the program and redo-log-html, which writes a page of HTML
-# make install          does the same, and installs in $(PREFIX): both programs with the scripts that start them, their manual
+# make build            proves and builds redo-log, redo-log-html, which writes a page of HTML, and redo-log-json, which writes JSON
+# make install          does the same, and installs in $(PREFIX): the programs with the scripts that start them, their manual
 #                       pages, completions for bash, zsh and fish, and the files of install-capture;
 #                       `make -o build install` installs the programs as they were built before
 # make install-capture  installs $(PREFIX)/bin/redo-log-capture, which captures builds by make, and the files that it needs
-# make deb              proves and builds both programs, and creates the Debian package out/redo-log_VERSION_amd64.deb;
+# make deb              proves and builds the programs, and creates the Debian package out/redo-log_VERSION_amd64.deb;
 #                       `make -o build deb` packs the programs as they were built before
 # make dist             does the same with the archive out/redo-log-VERSION-linux-x86_64.tar.gz, for any prefix
 PREFIX ?= /usr/local
@@ -56,6 +56,12 @@ install: build install-capture
 	install -D -m 644 shell/redo-log-html.bash '$(DEST)/share/bash-completion/completions/redo-log-html'
 	install -D -m 644 shell/_redo-log-html '$(DEST)/$(ZSH_FUNCTIONS)/_redo-log-html'
 	install -D -m 644 shell/redo-log-html.fish '$(DEST)/share/fish/vendor_completions.d/redo-log-html.fish'
+	install -D crates/redo_log_json/out/redo_log_json '$(DEST)/libexec/redo-log/redo-log-json'
+	install -D shell/launcher '$(DEST)/bin/redo-log-json'
+	install -D -m 644 docs/redo-log-json.1 '$(DEST)/share/man/man1/redo-log-json.1'
+	install -D -m 644 shell/redo-log-json.bash '$(DEST)/share/bash-completion/completions/redo-log-json'
+	install -D -m 644 shell/_redo-log-json '$(DEST)/$(ZSH_FUNCTIONS)/_redo-log-json'
+	install -D -m 644 shell/redo-log-json.fish '$(DEST)/share/fish/vendor_completions.d/redo-log-json.fish'
 
 install-capture:
 	install -d '$(DEST)/bin' '$(DEST)/libexec/redo-log'

@@ -1,12 +1,12 @@
-# Completion for redo-log-capture in bash: its options, a directory after --dir, a file after --summary or --html, a word after
-# --colour=, and a command.
+# Completion for redo-log-capture in bash: its options, a directory after --dir, a file after --summary, --html or --json, a word
+# after --colour=, and a command.
 # The command's arguments are completed by the command's own completion if bash-completion is loaded, otherwise as file names.
 
 _redo_log_capture() {
   local index option
   for ((index = 1; index < COMP_CWORD; index++)); do
     case ${COMP_WORDS[index]} in
-      --dir | --summary | --html)
+      --dir | --summary | --html | --json)
         option=${COMP_WORDS[index]}
         ((index++))
         [[ ${COMP_WORDS[index]} == = ]] && ((index++))
@@ -31,7 +31,7 @@ _redo_log_capture() {
         # A capture directory contains no directory except a hidden one.
         [[ $2 == */ && -d $2.capture ]] || compopt -o dirnames
         ;;
-      --summary | --html) compopt -o default ;;
+      --summary | --html | --json) compopt -o default ;;
       --colour) mapfile -t COMPREPLY < <(compgen -W 'auto always never' -- "${2#=}") ;;
     esac
   elif ((index < COMP_CWORD)); then
@@ -41,7 +41,7 @@ _redo_log_capture() {
       compopt -o default
     fi
   elif [[ $2 == -* ]]; then
-    mapfile -t COMPREPLY < <(compgen -W '--dir --both --colour --commands --live --quiet --summary --html --progress --must-close --finish -h --help -V --version' -- "$2")
+    mapfile -t COMPREPLY < <(compgen -W '--dir --both --colour --commands --live --quiet --summary --html --json --progress --must-close --finish -h --help -V --version' -- "$2")
   else
     mapfile -t COMPREPLY < <(compgen -c -- "$2")
   fi

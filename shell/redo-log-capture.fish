@@ -1,4 +1,4 @@
-# Completion for redo-log-capture in fish: its options, a directory after --dir, a file after --summary or --html, a word
+# Completion for redo-log-capture in fish: its options, a directory after --dir, a file after --summary, --html or --json, a word
 # after --colour=, and a command.
 
 function __redo_log_capture_is_before_command -d 'Whether the command line has no command yet'
@@ -6,7 +6,7 @@ function __redo_log_capture_is_before_command -d 'Whether the command line has n
     set -e words[1]
     while set -q words[1]
         switch $words[1]
-            case --dir --summary --html
+            case --dir --summary --html --json
                 set -e words[1]
                 set -q words[1]; or return 0
             case --
@@ -19,7 +19,7 @@ function __redo_log_capture_is_before_command -d 'Whether the command line has n
     end
 end
 
-complete -c redo-log-capture -x -a '(__fish_complete_subcommand -- --dir --summary --html)'
+complete -c redo-log-capture -x -a '(__fish_complete_subcommand -- --dir --summary --html --json)'
 complete -c redo-log-capture -n __redo_log_capture_is_before_command -l dir -x \
     -a '(__fish_complete_directories (commandline -ct))' -d 'The capture directory'
 complete -c redo-log-capture -n __redo_log_capture_is_before_command -l both -d 'Capture standard output too'
@@ -35,6 +35,8 @@ complete -c redo-log-capture -n __redo_log_capture_is_before_command -l summary 
     -d 'Write a line per target to FILE: status, seconds, log number, name, processor time, memory'
 complete -c redo-log-capture -n __redo_log_capture_is_before_command -l html -r -F \
     -d 'Write a page of the build to FILE with redo-log-html'
+complete -c redo-log-capture -n __redo_log_capture_is_before_command -l json -r -F \
+    -d 'Write the build as JSON to FILE with redo-log-json'
 complete -c redo-log-capture -n __redo_log_capture_is_before_command -l progress \
     -d 'Print a line about the build every S seconds'
 complete -c redo-log-capture -n __redo_log_capture_is_before_command -l must-close \
