@@ -1,0 +1,66 @@
+"""Random builds for new.jq. A second implementation, one diagnostic after another, says what is new."""
+import os
+import random
+import re
+
+from hostile import Target, write_capture
+from reading import parsed
+from scripts import run_script, write_json
+
+COLOUR = "\x1b[01;35m"
+
+
+def sources_and_keys(target):
+    """The key and the source line of each diagnostic, or an empty line."""
+    lines, found = target["lines"], []
+    for one in target["diagnostics"]:
+        after = lines[one["line"] + 1] if one["line"] + 1 < len(lines) else ""
+        source = re.fullmatch(r" *[0-9]+ \|(.*)", after.replace(COLOUR, ""))
+        found.append((one["key"], source[1].strip(" ") if source else ""))
+    return found
+
+
+def new_places(old, new):
+    """Which diagnostics are new: those without an equal one, by key and source line, and then by key alone."""
+    left, known = list(old), set()
+    for is_equal in (lambda one, other: one == other, lambda one, other: one[0] == other[0]):
+        for place, one in enumerate(new):
+            match = next((other for other in left if place not in known and is_equal(one, other)), None)
+            if match is not None:
+                left.remove(match)
+                known.add(place)
+    return [place for place in range(len(new)) if place not in known]
+
+
+def random_lines(rng):
+    lines = []
+    for number in range(rng.randrange(9)):
+        lines.append(f"{rng.choice('fg')}.c:{rng.randrange(1, 99)}:{number + 1}: {rng.choice(['warning', 'error'])}: {rng.choice('uv')}")
+        sources = [["  5 | "], [f" {number} | a"], [f"77 |   {rng.choice('ab')}  "], [f"8 | {COLOUR}a{COLOUR}"], ["5| a"], ["x | a"]]
+        lines += rng.choice([[], *sources])
+    return [line.encode() for line in lines]
+
+
+def random_news(checks, at, tool, program):
+    """500 targets with random diagnostics in two builds; some are only in one of them."""
+    del tool
+    rng, folder, builds = random.Random("news"), os.path.realpath(at("news")), []
+    for name in ("OLD", "NEW"):
+        numbers = [number for number in range(500) if rng.random() < .9]
+        targets = [Target(b"t%d" % number, rng.choice([None, 0, 0, 1]), random_lines(rng), 0, 5) for number in numbers]
+        os.makedirs(folder, exist_ok=True)
+        write_capture(os.path.join(folder, name), targets)
+        builds.append({row["target"]: row for row in parsed(write_json(checks, name, program, folder, name, f"{name}.jsonl"))})
+    old, new = builds
+    wanted = []
+    for name, row in new.items():
+        before = sources_and_keys(old[name]) if name in old else []
+        wanted += [f"{row['lines'][row['diagnostics'][place]['line']]} ({name})" for place in new_places(before, sources_and_keys(row))]
+    failed_before = [name for name, row in old.items() if row["status"] not in (0, None)]
+    wanted += [f"{name} fails (exit {row['status']})" for name, row in new.items() if row["status"] == 1 and name not in failed_before]
+    status, out, err = run_script("new", folder)
+    checks.expect("random builds: there are many", len(wanted) > 500, True)
+    checks.expect("random builds: what is new", (status, out.decode().splitlines(), err), (1, wanted, ""))
+
+
+PARTS = (random_news,)
