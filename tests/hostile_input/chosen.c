@@ -95,16 +95,23 @@ static int tried_numbers(int by_sip, long count) {
   return count > 0;
 }
 
+/* The first 96 bytes of each name. As a line of a log, a name is a diagnostic, and its key is the line itself. */
+static const char prefix[LENGTH - 5] =
+  "together: error: together together together together together together together together as one ";
+
 /* Tries the last six letters of names. The first of them is in the lowest byte. */
 static int tried_names(long count) {
   uint64_t letters = 0x616161616161;
   struct sip state = begun;
-  for (int at = 0; at < LENGTH / 8; at++) state = sip(state, 0x7265687465676f74);
+  for (int at = 0; at < LENGTH / 8; at++) {
+    uint64_t word;
+    memcpy(&word, prefix + 8 * at, sizeof word);
+    state = sip(state, word);
+  }
   choose(count, BY_SIP);
   for (long left = BY_SIP; left > 0 && count > 0; left--) {
     if (is_chosen(sip_end(state, letters, LENGTH))) {
-      for (int at = 0; at < LENGTH / 8; at++) fputs("together", stdout);
-      printf("%.6s\n", (const char *)&letters);
+      printf("%s%.6s\n", prefix, (const char *)&letters);
       count--;
     }
     int at = 0;

@@ -1,11 +1,12 @@
-"""Directories with names and numbers that are chosen to collide in a table. Usage: chosen.py PROGRAM
+"""Directories with names and numbers that are chosen to collide in a table. Usage: chosen.py PROGRAM JSON_PROGRAM
 
-PROGRAM must show what each directory holds, and may take little more processor time than for random names and numbers. The
+A program must show what each directory holds, and may take little more processor time than for random names and numbers. The
 names and numbers of `fold` (chosen.c) collide under the default hash of a table, whose seed is fixed. A program that used it
 failed the check of its time in each directory. Those of `sip` collide if the system gives no keys. A library (no_keys.c) makes
 the system give none; then the results must be the same and must take longer, because these names and numbers do collide.
 """
 
+import json
 import os
 import random
 import resource
@@ -52,7 +53,7 @@ def chosen(folder):
     processes = [subprocess.Popen([program, *words], stdout=subprocess.PIPE) for words in which]
     found = {}
     for (by, what, count), process in zip(which, processes):
-        lines = process.communicate()[0].split()
+        lines = process.communicate()[0].splitlines()
         if process.returncode or len(set(lines)) != int(count):
             sys.exit(f"chosen {by} {what}: status {process.returncode}, {len(set(lines))} lines")
         found.setdefault(by, []).append(lines)
@@ -111,7 +112,41 @@ def an_index_and_mentions(directory, names, numbers):
     return ["-r", "all"], (0, b"redo  all\n" + b"".join(shown), b"")
 
 
+def json_object(target, needs=(), lines=(), diagnostics=(), directory=None):
+    """An object of redo-log-json, as bytes."""
+    numbers = dict.fromkeys(["status", "start_ms", "end_ms", "cpu_ms", "peak_kb"])
+    lists = {"commands": [], "needs": [name.decode() for name in needs], "lines": list(lines), "diagnostics": list(diagnostics)}
+    one = {"target": target.decode(), "parent": None, **numbers, "directory": directory, **lists}
+    return json.dumps(one, separators=(",", ":")).encode() + b"\n"
+
+
+def needs_of_a_log(directory, names, numbers):
+    write(directory, "names", b"1 all\n")
+    write(directory, "log.1", mentions(names) + mentions(b"./" + name for name in reversed(names)))
+    return [], (0, json_object(b"all", needs=names), b"")
+
+
+def keys_of_diagnostics(directory, names, numbers):
+    """Each key occurs twice. Names of `sip` are keys."""
+    texts = [name.decode() if b"together: error: " in name else f"together: error: {name.decode()}" for name in names]
+    place = {"severity": "error", "file": None, "row": None, "column": None}
+    found = [{"line": line, **place, "message": text.partition("error: ")[2], "flag": None, "key": text, "nth": line // len(texts)}
+             for line, text in enumerate(texts * 2)]
+    write(directory, "names", b"1 all\n")
+    write(directory, "log.1", "".join(text + "\n" for text in texts * 2).encode())
+    return [], (0, json_object(b"all", lines=texts * 2, diagnostics=found), b"")
+
+
+def facts_of_numbers(directory, names, numbers):
+    """Each number has facts, in another order than in the index."""
+    targets = [b"t" + number for number in numbers]
+    write(directory, "names", index(targets, numbers))
+    write(directory, "facts", b"".join(b"%s log t%s\n%s directory d\n" % (number, number, number) for number in reversed(numbers)))
+    return ["--every", targets[0]], (0, b"".join(json_object(target, directory="d") for target in targets), b"")
+
+
 DIRECTORIES = [a_name_twice, a_number_twice, an_unknown_target, mentions_alone, an_index_and_mentions]
+JSON_DIRECTORIES = [needs_of_a_log, keys_of_diagnostics, facts_of_numbers]
 
 
 # ---- Runs ------------------------------------------------------------------------------------------------------------
@@ -157,19 +192,20 @@ def compared(checks, program, library, folder, fill, sets):
     return max(least["fold"], least["sip"]) / others, seconds / others
 
 
-def main(program):
+def main(program, json_program):
     checks = Checks()
     with tempfile.TemporaryDirectory() as folder:
         library = built(folder, "no_keys", "-shared", "-fPIC")
         sets = {"random": at_random(), **chosen(folder)}
         found = [compared(checks, program, library, folder, fill, sets) for fill in DIRECTORIES]
+        found += [compared(checks, json_program, library, folder, fill, sets) for fill in JSON_DIRECTORIES]
     with_keys, without = (max(times) for times in zip(*found))
     print(f"{COUNT:,} chosen ones took up to {with_keys:.1f} times as long as random ones, and {without:.0f} times without keys")
     checks.end("chosen names and numbers")
 
 
 if __name__ == "__main__":
-    if len(sys.argv) != 2:
-        print("usage: chosen.py PROGRAM", file=sys.stderr)
+    if len(sys.argv) != 3:
+        print("usage: chosen.py PROGRAM JSON_PROGRAM", file=sys.stderr)
         sys.exit(2)
-    main(os.path.abspath(sys.argv[1]))
+    main(*map(os.path.abspath, sys.argv[1:]))

@@ -94,6 +94,19 @@ def most_at_once(spans):
     return max(map(running, spans), default=0)
 
 
+def times_alone(spans):
+    """How long each span runs while no other one does, by its place."""
+    changes = [(span.began, True, span.place) for span in spans if span.began < span.ended]
+    changes += [(span.ended, False, span.place) for span in spans if span.began < span.ended]
+    alone, running, last = {span.place: 0 for span in spans}, set(), None
+    for time, begins, place in sorted(changes):
+        if len(running) == 1:
+            alone[next(iter(running))] += time - last
+        last = time
+        (running.add if begins else running.remove)(place)
+    return alone
+
+
 # ---- the axis --------------------------------------------------------------------------------------------------------
 
 STEPS = [1, 2, 5, 10, 20, 50, 100, 200, 500, 1000, 2000, 5000, 10_000, 15_000, 30_000, 60_000, 120_000, 300_000, 600_000, 900_000,

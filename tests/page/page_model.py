@@ -1,6 +1,6 @@
 """A slow, simple model of the page that `redo-log-html` writes. It reads captures with the model of `redo-log`.
 
-`page_of(logs, requested, title, directory, unchanged, debug_locks, times, max_bytes)` returns the bytes of the page. `read(page)` in
+`page_of(logs, requested, title, directory, unchanged, debug_locks, times, max_bytes, recipes)` returns the bytes of the page. `read(page)` in
 reading.py returns what a browser reads of it.
 """
 
@@ -8,7 +8,7 @@ import os
 import re
 from typing import NamedTuple
 
-from chart_model import DrawnBar, Span, Window, chart_html, layout, meter_html, most_at_once
+from chart_model import DrawnBar, Span, Window, chart_html, layout, meter_html, most_at_once, times_alone
 from text_model import bdi, cut_to, lines_html, name_html, passage
 from times_model import MOST, WIDEST, date, duration, size, tenths
 from model import Closed, Done, Mention, Note, Text  # found by times_model
@@ -205,8 +205,8 @@ class Timing:
 
 
 class Page:
-    def __init__(self, build, title, directory, requested, max_bytes):
-        self.build, self.title, self.directory, self.requested = build, title, directory, requested
+    def __init__(self, build, title, directory, requested, max_bytes, recipes):
+        self.build, self.title, self.directory, self.requested, self.recipes = build, title, directory, requested, recipes
         self.out = []
         self.articles = build.first[:10]
         self.level = level_of([shown.size for shown in build.order], max_bytes)
@@ -378,6 +378,8 @@ class Page:
         took = duration(shown.ended - shown.began) + b" \xc2\xb7 " if shown.has_times else b""
         self.put(b'<article id="f%d"><h3>' % shown.place, bdi(shown.target), badge(shown.status), b'</h3><p class="meta">', took,
                  b"\xe2\x80\xa6 \xe2\x80\xba " if len(path) > 4 else b"", links, b'<a href="#t%d">its place in the tree</a></p>' % shown.place)
+        if shown.target in self.recipes:
+            self.recipe(self.recipes[shown.target])
         if not shown.lines:
             below = b" No target below it failed: make or redo reported the cause on the terminal." if shown.children else b""
             self.put(b'<p class="quiet">It printed nothing that was captured.', below, b"</p>")
@@ -386,6 +388,20 @@ class Page:
         else:
             self.excerpt(shown)
         self.put(b"</article>")
+
+    def recipe(self, recipe):
+        """The directory of a recipe, and its last ten commands. Long ones are collapsed."""
+        if recipe.directory is not None:
+            self.put(b'<p class="meta">Directory: ', bdi(recipe.directory), b"</p>")
+        if len(recipe.commands) > 10:
+            self.put(b'<p class="cut">%d more before these</p>' % (len(recipe.commands) - 10))
+        for text, is_whole in recipe.commands[-10:]:
+            block = b"<pre>\n" + name_html(cut_to(40_000, text)) + b"</pre>"
+            if not is_whole or len(text) > 40_000:
+                block += b'<p class="cut">The rest of this command is left out.</p>'
+            if len(text) > 1000:
+                block = b'<details class="more"><summary><code>' + name_html(cut_to(160, text)) + b"</code> ...</summary>" + block + b"</details>"
+            self.put(block)
 
     def excerpt(self, shown):
         lines, count = shown.lines, len(shown.lines)
@@ -410,7 +426,7 @@ class Page:
         for term, value in self.tiles():
             self.put(b"<div><dt>", term, b"</dt><dd>", value, b"</dd></div>")
         self.put(b"</dl>")
-        tables = self.longest() + self.most_warnings()
+        tables = self.longest() + self.longest_alone() + self.most_memory() + self.most_warnings()
         if tables:
             self.put(b'<div class="cols">', tables, b"</div>")
         timing = self.timing
@@ -436,6 +452,15 @@ class Page:
         if timing.timed:
             yield b"Sum of times", duration(timing.total)
             yield b"At once", b"%s, at most %d" % (tenths(timing.total, timing.window.width), most_at_once(timing.recipes))
+        usages = self.usages().values()
+        if usages:
+            yield b"Processor time", duration(min(MOST, sum(user_ms + system_ms for user_ms, system_ms, _ in usages)))
+
+    def usages(self):
+        """What the recipes used that ran no others, as far as it is known."""
+        shown_recipes = [self.build.order[span.place] for span in self.timing.recipes]
+        usages = {shown: self.recipes[shown.target].usage for shown in shown_recipes if shown.target in self.recipes}
+        return {shown: usage for shown, usage in usages.items() if usage is not None}
 
     def longest(self):
         """The table of the recipes that took longest. Those that ran others are not among them."""
@@ -443,6 +468,19 @@ class Page:
             return b""
         times = {self.build.order[span.place]: min(span.ended - span.began, WIDEST) for span in self.timing.recipes}
         return self.table(b"Longest", times, duration)
+
+    def longest_alone(self):
+        """The table of the recipes that were longest the only ones that ran, if others ran at the same time at all."""
+        if not self.timing.timed or most_at_once(self.timing.recipes) < 2:
+            return b""
+        times = times_alone(self.timing.recipes)
+        alone = {self.build.order[place]: min(ms, WIDEST) for place, ms in times.items() if ms}
+        return self.table(b"Longest alone", alone, duration)
+
+    def most_memory(self):
+        """The table of the recipes with the most memory, in kilobytes of 1,024 bytes."""
+        memory = {shown: peak_kb for shown, (_, _, peak_kb) in self.usages().items() if peak_kb}
+        return self.table(b"Most memory", memory, lambda kilobytes: size(min(MOST, 1024 * kilobytes)))
 
     def most_warnings(self):
         warnings = {shown: shown.warnings for shown in self.build.order if shown.warnings}
@@ -597,6 +635,7 @@ with open(os.path.join(os.path.dirname(os.path.abspath(__file__)), "style.css"),
 MAX_BYTES = 16_000_000
 
 
-def page_of(logs, requested, title=b"", directory=b".", unchanged=False, debug_locks=False, times=None, max_bytes=MAX_BYTES):
-    """`times` has when each target began and ended, as `times_of` in times_model.py returns it."""
-    return Page(Build(logs, requested, unchanged, debug_locks, times or {}), title, directory, requested, max_bytes).whole()
+def page_of(logs, requested, title=b"", directory=b".", unchanged=False, debug_locks=False, times=None, max_bytes=MAX_BYTES, recipes=None):
+    """`times` has when each target began and ended, as `times_of` in times_model.py returns it, and `recipes` has the facts of each target, as
+    `facts_of` in facts_model.py returns them."""
+    return Page(Build(logs, requested, unchanged, debug_locks, times or {}), title, directory, requested, max_bytes, recipes or {}).whole()

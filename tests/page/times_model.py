@@ -46,6 +46,26 @@ def times_of(logs):
     return times
 
 
+def read_capture(current, folder, targets):
+    """Returns the index of a capture directory, the requested targets, the logs, and the times of the targets. Raises `Refused` for the first
+    fault."""
+    index = logs_model.read_index(current, folder)
+    asked = logs_model.CommandLine()
+    asked.targets = targets
+    requested = logs_model.targets_asked_for(asked, index)
+    logs = [logs_model.read_log(current, folder, listed) for listed in index]
+    logs_model.refuse_faults(logs)
+    return index, requested, logs, times_of([(listed.target, bytes_of(current, folder, listed)) for listed in index])
+
+
+def bytes_of(current, folder, listed):
+    try:
+        with open(logs_model.path_of(current, folder, b"log." + listed.number), "rb") as file:
+            return file.read()
+    except FileNotFoundError:
+        return b""
+
+
 # ---- texts -----------------------------------------------------------------------------------------------------------
 
 

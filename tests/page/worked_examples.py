@@ -1,8 +1,9 @@
 """Checks the model of a page with examples that were worked out by hand, from the rules alone."""
 import re
+from typing import NamedTuple
 
 import page_model
-from chart_model import Bar, Span, Window, axis, lanes_of, layout, meter_html, most_at_once, percent, step_of, units
+from chart_model import Bar, Span, Window, axis, lanes_of, layout, meter_html, most_at_once, percent, step_of, times_alone, units
 from page_model import level_of, page_of
 from times_model import date, duration, logs_model, size, tenths, tick, time_value, times_of
 
@@ -132,6 +133,13 @@ for what, rows, wanted in [
     ("one in another", [(0, 1, 9), (3, 2, 3)], 2), ("one after another", [(0, 1, 3), (3, 2, 5)], 1), ("three", [(0, 1, 4), (1, 2, 4), (3, 3, 9), (4, 4, 9)], 3),
 ]:
     check(("at once", what), most_at_once(spans(*rows)), wanted)
+
+for what, rows, wanted in [
+    ("none", [], {}), ("one without length", [(3, 1, 3)], {1: 0}), ("one", [(3, 1, 5)], {1: 2}), ("two equal ones", [(3, 1, 5), (3, 2, 5)], {1: 0, 2: 0}),
+    ("one in another", [(0, 1, 9), (3, 2, 4)], {1: 8, 2: 0}), ("one after another", [(0, 1, 3), (3, 2, 5)], {1: 3, 2: 2}),
+    ("they overlap", [(0, 1, 4), (1, 2, 6), (9, 3, 9)], {1: 1, 2: 2, 3: 0}), ("a gap", [(0, 1, 1), (5, 2, 7)], {1: 1, 2: 2}),
+]:
+    check(("alone", what), times_alone(spans(*rows)), wanted)
 
 for what, rows, wanted in [
     ("a wide one", spans((1000, 1, 2000)), [Bar(0, 0, 1000, 1, 1, 1000, 2000, False)]),
@@ -328,6 +336,37 @@ TWELVE_FAILED = {b"all": b"".join(record(b"do", 0, b"t%d" % place) for place in 
                  **{b"t%d" % place: record(b"done", 20 - place, b"1 t%d" % place) for place in range(1, 13)}}
 check("ten failures have articles", listed(made_page(TWELVE_FAILED)), ([*range(12, 2, -1)],) * 2 + ([2, 1],))
 
+# ---- recipes ---------------------------------------------------------------------------------------------------------
+
+
+class Recipe(NamedTuple):
+    directory: bytes | None
+    commands: tuple
+    usage: tuple | None = None
+
+
+CUT = b'<p class="cut">The rest of this command is left out.</p>'
+SCRIPT = b"a" * 159 + "\u00e4".encode() + b"b" * 839
+for what, recipe, wanted in [
+    ("nothing", Recipe(None, ()), b""),
+    ("a directory", Recipe(b"/a<b\xff", ()), b'<p class="meta">Directory: <bdi>/a&lt;b<i>\\xff</i></bdi></p>'),
+    ("commands of several lines, and in part", Recipe(b".", ((b"if x; then\n\ty\nfi", True), (b"\x1b[31m&", False))),
+     b'<p class="meta">Directory: <bdi>.</bdi></p><pre>\nif x; then\n\ty\nfi</pre><pre>\n<i>^[</i>[31m&amp;</pre>' + CUT),
+    ("an empty command", Recipe(None, ((b"", True), (b"\n", True))), b"<pre>\n</pre><pre>\n\n</pre>"),
+    ("1,000 bytes", Recipe(None, ((SCRIPT, True),)), b"<pre>\n" + SCRIPT + b"</pre>"),
+    ("1,001 bytes", Recipe(None, ((SCRIPT + b"c", False),)), b'<details class="more"><summary><code>' + b"a" * 159 + b"</code> ...</summary><pre>\n" + SCRIPT + b"c</pre>"
+     + CUT + b"</details>"),
+    ("40,001 bytes", Recipe(None, ((b"d" * 40_001, True), (b"e" * 40_000, True))),
+     b'<details class="more"><summary><code>' + b"d" * 160 + b"</code> ...</summary><pre>\n" + b"d" * 40_000 + b"</pre>" + CUT + b"</details>"
+     b'<details class="more"><summary><code>' + b"e" * 160 + b"</code> ...</summary><pre>\n" + b"e" * 40_000 + b"</pre></details>"),
+    ("ten commands", Recipe(None, tuple((b"%d" % number, True) for number in range(10))), b"".join(b"<pre>\n%d</pre>" % number for number in range(10))),
+    ("twelve commands", Recipe(None, tuple((b"%d" % number, True) for number in range(12))),
+     b'<p class="cut">2 more before these</p>' + b"".join(b"<pre>\n%d</pre>" % number for number in range(2, 12))),
+]:
+    logs = {b"all": record(b"do", 1, b"a") + record(b"do", 1, b"b"), b"a": b"x\n" + record(b"done", 2, b"1 a"), b"b": record(b"done", 3, b"0 b")}
+    failed = part(made_page(logs, recipes={b"a": recipe, b"b": Recipe(b"another", ())}), b"<article", b"</article>")
+    check(("a recipe", what), part(failed + b"END", b"its place in the tree</a></p>", b"END"), wanted + b"<pre>\nx\n</pre>")
+
 # ---- pages -----------------------------------------------------------------------------------------------------------
 
 
@@ -376,9 +415,32 @@ def row(place, name, status, value, hundredths):
             + meter_html(hundredths) + b"</td></tr>")
 
 
-check("make: tables", summary.partition(b"</dl>")[2],
-      b'<div class="cols"><div><h3>Longest</h3><table><tbody>' + row(3, b"sub/z", 1, b"6.00 s", 10_000) + row(2, b"sub/y", 0, b"3.00 s", 5000)
+# From 2 s to 2.5 s only y ran, and from 5 s to 8.5 s only z.
+LONGEST = (b'<div class="cols"><div><h3>Longest</h3><table><tbody>' + row(3, b"sub/z", 1, b"6.00 s", 10_000) + row(2, b"sub/y", 0, b"3.00 s", 5000)
+           + b"</tbody></table></div><div><h3>Longest alone</h3><table><tbody>" + row(3, b"sub/z", 1, b"3.50 s", 10_000)
+           + row(2, b"sub/y", 0, b"0.50 s", 1428) + b"</tbody></table></div>")
+check("make: tables", summary.partition(b"</dl>")[2], LONGEST + b"</div>")
+
+# d/x ran the other two, so its usage has theirs in it: 60.5 s of 61.5 s, and the most memory.
+USED = {b"d/x": Recipe(None, (), (61_000, 500, 90_000)), b"sub/y": Recipe(None, (), (20_100, 400, 1000)), b"sub/z": Recipe(b".", (), (39_500, 500, 60_000))}
+summary = bare(made_page(MAKE, recipes=USED))[1]
+check("processor time", summary.partition(b"</dl>")[0].partition(tile(b"At once", b"1.1, at most 2"))[2], tile(b"Processor time", b"1 min 00 s"))
+check("memory", summary.partition(b"</dl>")[2],
+      LONGEST + b"<div><h3>Most memory</h3><table><tbody>" + row(3, b"sub/z", 1, b"61.4 MB", 10_000) + row(2, b"sub/y", 0, b"1.0 MB", 166)
       + b"</tbody></table></div></div>")
+
+# A recipe without memory, and one whose usage is unknown. Without times nothing counts, because nobody knows which targets ran others.
+USED = {b"sub/y": Recipe(None, (), (0, 0, 0)), b"sub/z": Recipe(b".", ())}
+summary = bare(made_page(MAKE, recipes=USED))[1]
+check("no memory", (part(summary, b"<dt>Processor time</dt>", b"</div>"), b"Most memory" in summary), (b"<dd>0.00 s</dd>", False))
+summary = bare(made_page(MAKE, recipes={b"sub/z": Recipe(b".", ())}))[1]
+check("no usage", (b"Processor time" in summary, b"Most memory" in summary), (False, False))
+summary = bare(made_page({b"all": b"x\n"}, recipes={b"all": Recipe(None, (), (1, 2, 3))}))[1]
+check("usage without times", (b"Processor time" in summary, b"Most memory" in summary), (False, False))
+
+# One after the other, each recipe is alone as long as it runs.
+TWO = {b"all": record(b"do", 0, b"a") + record(b"do", 3, b"b"), b"a": record(b"done", 3, b"0 a"), b"b": record(b"done", 4, b"0 b")}
+check("one after the other", re.findall(rb"<h3>(.*?)</h3>", made_page(TWO)), [b"Longest"])
 
 # Of twelve recipes, the last one took longest and has most warnings. The others are equal, so nine of them follow in their order.
 TWELVE = {b"all": b"".join(record(b"do", 0, b"t%d" % place) for place in range(1, 13)),
@@ -387,6 +449,7 @@ summary = bare(made_page(TWELVE))[1]
 check("tables of ten", summary.partition(b"</dl>")[2],
       b'<div class="cols"><div><h3>Longest</h3><table><tbody>' + row(12, b"t12", 0, b"4.00 s", 10_000)
       + b"".join(row(place, b"t%d" % place, 0, b"2.00 s", 5000) for place in range(1, 10))
+      + b"</tbody></table></div><div><h3>Longest alone</h3><table><tbody>" + row(12, b"t12", 0, b"2.00 s", 10_000)
       + b"</tbody></table></div><div><h3>Most warnings</h3><table><tbody>" + row(12, b"t12", 0, b"2", 10_000)
       + b"".join(row(place, b"t%d" % place, 0, b"1", 5000) for place in range(1, 10)) + b"</tbody></table></div></div>")
 

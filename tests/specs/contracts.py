@@ -47,9 +47,9 @@ def libraries_of(program):
 
 
 def libraries():
-    """Returns the libraries of both programs, and those that no program uses yet, each after its own dependencies."""
-    unused = [crate for unused in ("redo_facts", "redo_diagnostics", "redo_json", "redo_json_args") for crate in [*libraries_of(unused), unused]]
-    return list(dict.fromkeys(libraries_of("redo_log") + libraries_of("redo_log_html") + unused))
+    """Returns the libraries of the programs, and those that no program uses yet, each after its own dependencies."""
+    used = [library for program in ("redo_log", "redo_log_html", "redo_log_json") for library in libraries_of(program)]
+    return list(dict.fromkeys([*used, *libraries_of("redo_compare"), "redo_compare"]))
 
 
 def title_of(line):
