@@ -154,7 +154,8 @@ struct target_run {
 /* The log of a target, which this run writes. */
 struct log_file {
   int fd;                      /* -1 while the log isn't open */
-  int must_be_emptied, is_new; /* when it is opened; is_new: no file has its name yet */
+  int is_prepared;             /* prepare_log opened it, and it hasn't begun yet */
+  int must_be_emptied, is_new; /* before it is written; is_new: no file has its name yet */
   int is_lost;                 /* somebody has removed it */
   int is_unwritable, is_full;  /* is_full: it gets no more text */
 
@@ -307,6 +308,8 @@ void forget_logs(void);
 void detect_lost_log(struct target *target);
 /* Writes the buffer, and returns a descriptor of the log, or -1. */
 int open_log(struct target *target);
+/* Opens the log of a target that may begin next, so that no file is created while its recipe removes the directory. */
+void prepare_log(struct target *target);
 void close_log(struct target *target);
 /* Closes a log when logs are flushed next, if too many are open. */
 void close_log_soon(struct target *target);

@@ -62,24 +62,36 @@ static void mark_unwritable(struct target *target) {
   target->log.is_unwritable = 1;
 }
 
-/* Truncates an existing log, which costs less than creating a file. Replaces it if it isn't a regular file or has another link. */
-static int open_emptied(const char *name, int is_new) {
-  struct stat found;
+/* Opens a new or an existing log. */
+static int open_or_create(const char *name, int is_new) {
   int file = is_new ? open_in_directory(name, O_RDWR | O_APPEND | O_CREAT | O_EXCL) : -1;
   if (file >= 0 || (is_new && errno != EEXIST)) return file;
-  file = open_in_directory(name, O_RDWR | O_APPEND | O_CREAT);
+  return open_in_directory(name, O_RDWR | O_APPEND | O_CREAT);
+}
+
+/* Truncates an open log, which costs less than creating a file. Replaces it if it isn't a regular file or has another link. `file`
+   is -1 if the log couldn't be opened. */
+static int emptied(int file, const char *name) {
+  struct stat found;
   if (file < 0 && errno != ELOOP) return -1;
-  int is_own = file >= 0 && fstat(file, &found) == 0 && S_ISREG(found.st_mode) && found.st_nlink == 1;
+  int is_own = file >= 0 && fstat(file, &found) == 0 && S_ISREG(found.st_mode) && found.st_nlink <= 1;
   if (is_own && (found.st_size == 0 || ftruncate(file, 0) == 0)) return file;
   if (file >= 0) close(file);
   return unlinkat(directory_fd, name, 0) == 0 ? open_in_directory(name, O_RDWR | O_APPEND | O_CREAT | O_EXCL) : -1;
 }
 
+static int open_emptied(const struct log_file *log, const char *name) {
+  return emptied(log->fd >= 0 ? log->fd : open_or_create(name, log->is_new), name);
+}
+
 static int ensure_open(struct target *target) {
   struct log_file *log = &target->log;
-  if (log->fd >= 0 || log->is_unwritable || !is_capturing() || !target->number) return log->fd;
+  if (log->fd >= 0 && !log->must_be_emptied) return log->fd;
+  if (log->is_unwritable || !is_capturing() || !target->number) return -1;
   const char *name = log_file_name(target->number);
-  log->fd = log->must_be_emptied ? open_emptied(name, log->is_new) : open_to_append(name);
+  if (log->fd >= 0) open_count--;
+  log->fd = log->must_be_emptied ? open_emptied(log, name) : open_to_append(name);
+  log->is_prepared = 0;
   if (log->fd < 0) mark_unwritable(target);
   else log->must_be_emptied = log->is_new = 0, open_count++;
   return log->fd;
@@ -177,9 +189,19 @@ int open_log(struct target *target) {
   return ensure_open(target);
 }
 
+void prepare_log(struct target *target) {
+  struct log_file *log = &target->log;
+  if (target->run.has_begun || target == run_target) open_log(target);
+  else if (log->fd < 0) {
+    log->fd = open_in_directory(log_file_name(target->number), O_RDWR | O_APPEND | O_CREAT);
+    open_count += log->fd >= 0;
+  }
+  log->is_prepared = log->fd >= 0 && !target->run.has_begun;
+}
+
 void close_log(struct target *target) {
   if (target->log.fd >= 0) close(target->log.fd), open_count--;
-  target->log.fd = -1;
+  target->log.fd = -1, target->log.is_prepared = 0;
 }
 
 void close_log_soon(struct target *target) {
@@ -201,7 +223,7 @@ static int append(struct target *target, const char *bytes, size_t size) {
 
 void begin_log(struct target *target, int is_new) {
   struct log_file *log = &target->log;
-  close_log(target);
+  if (!log->is_prepared) close_log(target);
   log->must_be_emptied = 1, log->is_new = is_new;
   log->is_lost = log->is_unwritable = log->is_full = log->has_text = log->is_mid_line = 0;
   log->header_size = log->size = log->written_size = log->shown_size = 0;

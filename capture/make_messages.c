@@ -98,21 +98,16 @@ static int can_capture(struct make *make, struct recipe_entry *recipe, int is_lo
   return 0;
 }
 
-static void create_file(const char *name) {
-  int file = open_in_directory(name, O_WRONLY | O_CREAT | O_APPEND);
-  if (file >= 0) close(file);
-}
-
-/* Writes all buffers, and creates the files that the recipe will need, because it may remove the directory. */
-static void create_log(struct make *make, uint32_t number) {
+/* Writes all buffers, and opens the logs that the recipe will need, because it may remove the directory. */
+static void prepare_logs(struct make *make, uint32_t number) {
   struct recipe_entry *recipe = find_recipe(make, number);
   struct target *target = NULL;
   if (recipe && recipe->names) target = add_target(normalize_name(make->directory, recipe->names, strlen(recipe->names)));
-  int must_create = target && !target->run.has_begun && (target->number > 0 || add_to_index(target) == 0);
+  int is_listed = target && (target->number > 0 || add_to_index(target) == 0);
   flush_captures();
-  if (!must_create) return;
-  create_file(log_file_name(run_target->number));
-  create_file(log_file_name(target->number));
+  if (!is_listed) return;
+  open_log(run_target);
+  prepare_log(target);
 }
 
 static int handle_line(struct make *make, const char *message, size_t size, int *descriptor, int is_lost) {
@@ -136,7 +131,7 @@ static int handle_line(struct make *make, const char *message, size_t size, int 
   make->announced.command = (struct command){memcpy(xrealloc(NULL, size), command, size), size};
   make->announced.is_set = 1;
   defer_reading();
-  if (line.wants_reply) create_log(make, line.recipe);
+  if (line.wants_reply) prepare_logs(make, line.recipe);
   return line.wants_reply ? reply(make, is_lost ? NOT_CAPTURED : CAPTURED) : 0;
 }
 

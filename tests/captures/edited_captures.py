@@ -289,10 +289,10 @@ def in_the_middle(checks, at):
 
 
 def many_needs(checks, at):
-    """A recipe with many prerequisites, whose first line removes the directory, again if a file was added meanwhile."""
+    """A recipe with many prerequisites, whose first line removes the directory."""
     names = " ".join(f"n{number}" for number in range(40))
     for change in (f"rm -r {CAPTURES}", f"rm -r {CAPTURES}/.capture"):
-        folder = project(at(change.replace("/", "")), f"all: {names}\n\t@echo one >&2; {change} 2>/dev/null || {change}\n\t@echo two >&2\n{names}: ; @echo $@ >&2\n")
+        folder = project(at(change.replace("/", "")), f"all: {names}\n\t@echo one >&2; {change}\n\t@echo two >&2\n{names}: ; @echo $@ >&2\n")
         (status, out, lines), told = built(folder, [TOOL, *MARKING])
         checks.expect(f"{change}, by one of many needs: make", (status, out, set(lines) <= {"one"}, told), (0, "", True, [GONE]))
         checks.expect(f"{change}, by one of many needs", shown(folder, "all"), "redo  all\ntwo\n")

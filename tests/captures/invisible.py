@@ -578,6 +578,16 @@ LOOP = "all: ; @for d in */; do $(MAKE) -s -C $$d || exit; done\n"
 IN_DIRECTORY = "all: ; @echo $(notdir $(CURDIR))\n"
 TWO = {"a/Makefile": IN_DIRECTORY, "b/Makefile": IN_DIRECTORY}
 PROGRAM = "all: capture\ncapture: capture.c ; @cc -o $@ capture.c\n"
+# Each wait of redo-log-capture for events is delayed, so that it handles a recipe's start while the recipe removes the capture directory.
+SLOWLY = "strace -f -qq -o /dev/null -e trace=epoll_wait -e inject=epoll_wait:delay_enter=30000 $C make"
+IN_STEPS = f"rm -rf {CAPTURES}/.capture {CAPTURES}/* {CAPTURES}/.g*; sleep 0.3; [ ! -d {CAPTURES} ] || rmdir {CAPTURES}"
+AFTERWARDS = "\t@echo removed >&2\na b: ; @echo $@ >&2\n"
+
+
+def removal(makefile):
+    return Case(makefile + AFTERWARDS, f"{SLOWLY} && {SLOWLY}", needs="tracing", is_uncaptured=True)
+
+
 FILES_AROUND = {
     "$(wildcard */.)": Case(MATCHED, "$C make; $C make; ls", files=TWO),
     "a loop over directories": Case(LOOP, "$C make; $C make; ls", files=TWO),
@@ -588,6 +598,11 @@ FILES_AROUND = {
     "a recipe removes all": Case(
         "all: clean\n\t@echo all\nclean: ; @find . -mindepth 1 -not -name Makefile -delete; ls -A\n", setup="mkdir build", is_uncaptured=True
     ),
+    "the first recipe removes all in steps": removal(f"all: c a\nc: ; @{IN_STEPS}\n"),
+    "a recipe with prerequisites removes all in steps": removal(f"all: c b\nc: a Makefile ; @{IN_STEPS}\n"),
+    "a later line removes all in steps": removal(f"all: c a\nc: ; @echo c >&2\n\t@{IN_STEPS}\n"),
+    "the recipe of all removes all in steps": removal(f"all: a b\n\t@{IN_STEPS}\n"),
+    "a sub-make removes all in steps": removal(f"all: c a\nc: ; @true; $(MAKE) -s below\nbelow: ; @{IN_STEPS}\n"),
     "git status": Case("all: ; @git status --short\n", setup=COMMITTED, needs="git"),
     "git describe, and other files": Case(
         "all: ; @git describe --always --dirty | grep -c dirty; git ls-files -o --exclude-standard\n", setup=COMMITTED, needs="git"
