@@ -1,5 +1,5 @@
 -- Lines that are warnings, found in all lines at once.
-use Rattle.std.proofs.Common.{◌≡◌, ◌≢◌, ℕ, zero, suc, ◌+◌, ◌-◌, ◌<◌, ◌≤◌, Bool, true, false, List, [], ◌∷◌, ◌++◌, Option, None, Some, is_some, length, drop, refl, sym, ap, ◌∙◌, nat_eq, arith, add-one, append_assoc, length-append, length-drop, drop-cons, ◌⊎◌, inl, inr}
+use Rattle.std.proofs.Common.{◌≡◌, ◌≢◌, ℕ, zero, suc, ◌+◌, ◌-◌, ◌<◌, ◌≤◌, Bool, true, false, List, [], ◌∷◌, ◌++◌, Option, None, Some, is_some, length, drop, refl, sym, ap, subst, ◌∙◌, nat_eq, arith, add-one, append_assoc, length-append, length-drop, drop-cons, ◌⊎◌, inl, inr}
 use Rattle.std.specs.Prelude.{◌&&◌, ◌==◌, if◌then◌else◌, codes, count_by, take, slice_index}
 use Rattle.std.specs.List.{AllByRecursion, flat_map, starts_with}
 use Rattle.std.proofs.lemmas.Bool.{cases_lt, eqb-true, eq-eqb, false≢true, true≢false}
@@ -288,10 +288,66 @@ module _ (p : ℕ) (ps : List ℕ) where
         by None none there later = let rest = later there in counted text texts false (ap is_some none) ∙ omega (arith, rest)
         by (Some end) found here later = absurd (none-some (end ++ line_feed ∷ flat_map with_line_feed texts) (sym here))
 
+-- ---- the first occurrence
+
+-- No occurrence of the part is before the bytes that are left.
+module _ (p : ℕ) (ps : List ℕ) (bytes left : List ℕ) (from : ℕ) (left_is : left ≡ drop from bytes) (few : from ≤ length bytes)
+    (nowhere : Nowhere (OccursAt bytes (p ∷ ps)) 0 from) where
+  size : length left + from ≡ length bytes
+  size = let same = ap length left_is ∙ length-drop from bytes in omega (arith, same, few)
+
+  byte_is : (k : ℕ) → slice_index left k ≡ slice_index bytes (from + k)
+  byte_is k = ap (λ (bytes : List ℕ). slice_index bytes k) left_is ∙ get_or-drop from bytes k 0
+
+  -- The part begins with its first byte.
+  has_first : (k : ℕ) → from ≤ k → OccursAt bytes (p ∷ ps) k → Passes (is_byte p) left (k - from)
+  has_first k low occurs =
+      let same : from + (k - from) ≡ k + 0 = omega (arith, low) in
+      eq-eqb (slice_index left (k - from)) p (byte_is (k - from) ∙ ap (slice_index bytes) same ∙ occurs.reads 0 (omega arith))
+
+  in_left : (k : ℕ) → from ≤ k → OccursAt bytes (p ∷ ps) k → k - from < length left
+  in_left k low occurs = let fits = occurs.fits in omega (arith, fits, low, size)
+
+  pub occurs_nowhere : Nowhere (Passes (is_byte p) left) 0 (length left) → Nowhere (OccursAt bytes (p ∷ ps)) 0 (length bytes + 1)
+  occurs_nowhere none k low high occurs = elim (cases_lt k from) [
+    | inl sooner ↦ nowhere k low sooner occurs
+    | inr later ↦ none (k - from) (omega arith) (in_left k later occurs) (has_first k later occurs)
+  ]
+
+  -- The next place of the first byte.
+  module _ (at : ℕ) (found : NoneBefore (Passes (is_byte p) left) 0 (length left) at × Passes (is_byte p) left at) where
+    pub place_fits : from + at < length bytes
+    place_fits = let below = found.0.high in omega (arith, below, size)
+
+    none_before : Nowhere (OccursAt bytes (p ∷ ps)) 0 (from + at)
+    none_before k low high occurs = elim (cases_lt k from) [
+      | inl sooner ↦ nowhere k low sooner occurs
+      | inr later ↦ found.0.before (k - from) (omega arith) (omega (arith, later, high)) (has_first k later occurs)
+    ]
+
+    module _ (here : List ℕ) (here_is : here ≡ drop (from + at) bytes) where
+      begins_here : begins (p ∷ ps) (drop (from + at) bytes) ≡ starts_with nat_eq here (p ∷ ps)
+      begins_here = ap (begins (p ∷ ps)) (sym here_is) ∙ sym (starts-begins (p ∷ ps) here)
+
+      pub occurs_here : starts_with nat_eq here (p ∷ ps) ≡ true
+          → NoneBefore (OccursAt bytes (p ∷ ps)) 0 (length bytes + 1) (from + at) × OccursAt bytes (p ∷ ps) (from + at)
+      occurs_here is = (
+        record { low = omega arith; high = omega (arith, place_fits); before = none_before },
+        begins-occurs bytes (p ∷ ps) (from + at) (omega arith) (begins_here ∙ is),
+      )
+
+      pub not_here : starts_with nat_eq here (p ∷ ps) ≡ false → Nowhere (OccursAt bytes (p ∷ ps)) 0 (from + at + 1)
+      not_here is_not k low high occurs = elim (cases_lt k (from + at)) [
+        | inl sooner ↦ none_before k low sooner occurs
+        | inr later ↦
+            let same : k ≡ from + at = omega (arith, later, high) in
+            true≢false (sym (occurs-begins bytes (p ∷ ps) (from + at) (subst (OccursAt bytes (p ∷ ps)) same occurs)) ∙ begins_here ∙ is_not)
+      ]
+
 -- ---- warnings
 
 -- `warning:` without its first byte.
-abbrev arning : List ℕ
+abbrev pub arning : List ℕ
 arning = codes "arning:"
 
 no_line_feed : HasNoLineFeed (119 ∷ arning)

@@ -2,14 +2,14 @@
 //!
 //! Warnings are searched in whole stretches of stored lines, not line by line. An occurrence lies in one line, because the
 //! searched text has no line feed; the search goes on after the end of this line.
-ghost use Rattle.std.specs.Prelude.{◌≡◌, [], count_by};
+ghost use Rattle.std.specs.Prelude.{◌≡◌, [], codes, count_by};
+ghost use Rattle.memchr.specs.Find.{FindsNeedle};
 ghost use Rattle.redo_line.specs.Lines.{ended, rest};
 ghost use Rattle.redo_logs.specs.EntryRef.{entry_value};
 ghost use Rattle.redo_outline.specs.Facts.{closing_status, entries_at, is_warning, target_at};
 ghost use Rattle.redo_outline.specs.Private.LogFacts.{after_line, facts_of};
 
 use memchr::memchr;
-use memchr::memmem::Finder;
 use redo_logs::{EntryRef, LogTable};
 
 /// The facts about a log by itself. A count that exceeds 2^64 - 1 is 2^64 - 1.
@@ -76,14 +76,29 @@ fn count_warnings(lines: &[u8]) -> u64
     requires { rest lines.now ≡ [] }
     ensures { result ≡ count_by is_warning (ended lines.now) }
 {
-    let finder = Finder::new(b"warning:");
     let mut count = 0;
     let mut left = lines;
-    'warnings: while let Some(at) = finder.find(left) {
+    'warnings: while let Some(at) = find_warning(left) {
         left = after_line(&left[at..]);
         count += 1;
     }
     count
+}
+
+// Returns the place of the first `warning:`. It looks only where a `w` is: the output of compilers has few, while places such as
+// `a.c:12:5:` and names of C++ have many colons. A search for two of the letters at once costs more where warnings are frequent.
+fn find_warning(bytes: &[u8]) -> Option<usize>
+    ensures { FindsNeedle bytes.now (codes "warning:") 0 result }
+{
+    let mut from = 0;
+    'letters: while let Some(at) = memchr(b'w', &bytes[from..]) {
+        let place = from + at;
+        if bytes[place..].starts_with(b"warning:") {
+            return Some(place);
+        }
+        from = place + 1;
+    }
+    None
 }
 
 // Returns the bytes after the first line feed; none if there is no line feed.
