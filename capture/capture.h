@@ -154,7 +154,7 @@ struct target_run {
 /* The log of a target, which this run writes. */
 struct log_file {
   int fd;                      /* -1 while the log isn't open */
-  int is_prepared;             /* prepare_log opened it, and it hasn't begun yet */
+  int is_prepared;             /* prepare_log opened it, and it wasn't emptied since */
   int must_be_emptied, is_new; /* before it is written; is_new: no file has its name yet */
   int is_lost;                 /* somebody has removed it */
   int is_unwritable, is_full;  /* is_full: it gets no more text */
@@ -308,8 +308,10 @@ void forget_logs(void);
 void detect_lost_log(struct target *target);
 /* Writes the buffer, and returns a descriptor of the log, or -1. */
 int open_log(struct target *target);
-/* Opens the log of a target that may begin next, so that no file is created while its recipe removes the directory. */
+/* Opens the log of a target whose line may start next and remove the directory, so that no file is created meanwhile. */
 void prepare_log(struct target *target);
+/* Writes the text of a log to standard error if the log was to be created when a line has ended. */
+void forward_held_log(struct target *target);
 void close_log(struct target *target);
 /* Closes a log when logs are flushed next, if too many are open. */
 void close_log_soon(struct target *target);

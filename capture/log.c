@@ -62,38 +62,39 @@ static void mark_unwritable(struct target *target) {
   target->log.is_unwritable = 1;
 }
 
-/* Opens a new or an existing log. */
-static int open_or_create(const char *name, int is_new) {
+/* Truncates an existing log, which costs less than creating a file. Replaces it if it isn't a regular file or has another link. */
+static int open_emptied(const char *name, int is_new) {
+  struct stat found;
   int file = is_new ? open_in_directory(name, O_RDWR | O_APPEND | O_CREAT | O_EXCL) : -1;
   if (file >= 0 || (is_new && errno != EEXIST)) return file;
-  return open_in_directory(name, O_RDWR | O_APPEND | O_CREAT);
-}
-
-/* Truncates an open log, which costs less than creating a file. Replaces it if it isn't a regular file or has another link. `file`
-   is -1 if the log couldn't be opened. */
-static int emptied(int file, const char *name) {
-  struct stat found;
+  file = open_in_directory(name, O_RDWR | O_APPEND | O_CREAT);
   if (file < 0 && errno != ELOOP) return -1;
-  int is_own = file >= 0 && fstat(file, &found) == 0 && S_ISREG(found.st_mode) && found.st_nlink <= 1;
+  int is_own = file >= 0 && fstat(file, &found) == 0 && S_ISREG(found.st_mode) && found.st_nlink == 1;
   if (is_own && (found.st_size == 0 || ftruncate(file, 0) == 0)) return file;
   if (file >= 0) close(file);
   return unlinkat(directory_fd, name, 0) == 0 ? open_in_directory(name, O_RDWR | O_APPEND | O_CREAT | O_EXCL) : -1;
 }
 
-static int open_emptied(const struct log_file *log, const char *name) {
-  return emptied(log->fd >= 0 ? log->fd : open_or_create(name, log->is_new), name);
+/* Whether an open log is the only link of the file of its name: nobody has removed, moved or linked it. */
+static int is_in_place(const struct target *target) {
+  struct stat opened, named;
+  return fstat(target->log.fd, &opened) == 0 && S_ISREG(opened.st_mode) && opened.st_nlink == 1 &&
+         fstatat(directory_fd, log_file_name(target->number), &named, AT_SYMLINK_NOFOLLOW) == 0 && opened.st_dev == named.st_dev &&
+         opened.st_ino == named.st_ino;
 }
 
 static int ensure_open(struct target *target) {
   struct log_file *log = &target->log;
   if (log->fd >= 0 && !log->must_be_emptied) return log->fd;
   if (log->is_unwritable || !is_capturing() || !target->number) return -1;
-  const char *name = log_file_name(target->number);
-  if (log->fd >= 0) open_count--;
-  log->fd = log->must_be_emptied ? open_emptied(log, name) : open_to_append(name);
-  log->is_prepared = 0;
+  if (log->fd >= 0 && (!is_in_place(target) || ftruncate(log->fd, 0) < 0)) close_log(target);
+  if (log->fd < 0) {
+    const char *name = log_file_name(target->number);
+    log->fd = log->must_be_emptied ? open_emptied(name, log->is_new) : open_to_append(name);
+    open_count += log->fd >= 0;
+  }
   if (log->fd < 0) mark_unwritable(target);
-  else log->must_be_emptied = log->is_new = 0, open_count++;
+  else log->must_be_emptied = log->is_new = log->is_prepared = 0;
   return log->fd;
 }
 
@@ -148,16 +149,28 @@ static void mark_dirty(struct target *target) {
 void detect_lost_log(struct target *target) {
   struct log_file *log = &target->log;
   struct stat found;
-  if (log->fd < 0 || fstat(log->fd, &found) < 0 || found.st_nlink > 0) return;
+  if (log->fd < 0 || log->must_be_emptied || fstat(log->fd, &found) < 0 || found.st_nlink > 0) return;
   close_log(target);
   log->is_lost = 1, log->is_mid_line = 0;
   log->written_size = log->shown_size = log->header_size = log->mention_count = 0;
   log->size = log->buffer.size;
 }
 
+/* Whether somebody, probably the line that runs, has removed or moved the log before it was emptied. It is created when the line has
+   ended, because the line may be removing the directory. */
+static int is_held(const struct target *target) {
+  return target->log.is_prepared && target->log.must_be_emptied && !is_in_place(target);
+}
+
+void forward_held_log(struct target *target) {
+  struct write_buffer *buffer = &target->log.buffer;
+  if (is_held(target)) forward_lines(buffer->bytes, buffer->size);
+}
+
 /* Existing logs are emptied only if the journal says that they were begun again. */
 static void flush_dirty_log(struct target *target, int can_begin) {
   if (target->log.must_be_emptied && !can_begin) target->log.is_unwritable = 1;
+  if (target->running_lines > 0 && is_held(target)) return;
   flush_log(target);
   if (target->running_lines > 0 || target == run_target) return;
   clear_buffer(&target->log.buffer);
@@ -193,7 +206,7 @@ void prepare_log(struct target *target) {
   struct log_file *log = &target->log;
   if (target->run.has_begun || target == run_target) open_log(target);
   else if (log->fd < 0) {
-    log->fd = open_in_directory(log_file_name(target->number), O_RDWR | O_APPEND | O_CREAT);
+    log->fd = open_to_append(log_file_name(target->number));
     open_count += log->fd >= 0;
   }
   log->is_prepared = log->fd >= 0 && !target->run.has_begun;

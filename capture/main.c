@@ -182,10 +182,17 @@ static char **parse_options(char **arguments) {
   return arguments;
 }
 
+static void check_is_other(const struct export *export, const char *option, const char *path) {
+  if (path && strcmp(path, export->path) == 0) die(2, "%s: %s writes this file, too: %s", export->option, option, path);
+}
+
 static void check_exports(void) {
   for (int i = 0; i < EXPORT_COUNT; i++) {
     if (exports[i].path && !*exports[i].path) die(2, "%s: no file given", exports[i].option);
     if (exports[i].path && only_finishes) die(2, "--finish: writes no %s", exports[i].kind);
+    if (!exports[i].path) continue;
+    check_is_other(&exports[i], "--summary", summary);
+    for (int j = 0; j < i; j++) check_is_other(&exports[i], exports[j].option, exports[j].path);
   }
 }
 

@@ -101,7 +101,7 @@ static int can_capture(struct make *make, struct recipe_entry *recipe, int is_lo
 /* Writes all buffers, and opens the logs that the recipe will need, because it may remove the directory. */
 static void prepare_logs(struct make *make, uint32_t number) {
   struct recipe_entry *recipe = find_recipe(make, number);
-  struct target *target = NULL;
+  struct target *target = recipe ? recipe->target : NULL;
   if (recipe && recipe->names) target = add_target(normalize_name(make->directory, recipe->names, strlen(recipe->names)));
   int is_listed = target && (target->number > 0 || add_to_index(target) == 0);
   flush_captures();

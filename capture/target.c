@@ -75,6 +75,7 @@ int is_known_prefix(const char *name) {
 }
 
 static void clear_target(struct target *target) {
+  forward_held_log(target);
   close_log(target);
   clear_buffer(&target->log.buffer);
   free(target->log.mentions);

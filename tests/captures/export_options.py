@@ -159,6 +159,8 @@ def refused(checks, at, export):
         ([option, "none/x", "make"], 1, "cannot write none/x: No such file or directory"),
         ([option, "sub", "make"], 1, "cannot write sub: Is a directory"),
         (["--summary", "sub", "make"], 1, "cannot write sub: Is a directory"),
+        ([option, "x", "--summary", "x", "make"], 2, f"{option}: --summary writes this file, too: x"),
+        (["--json", "x", "--html", "x", "make"], 2, "--json: --html writes this file, too: x"),
     ):
         checks.expect(f"refused: {words}", ran(folder, [TOOL, *words], more), (status, "", f"redo-log-capture: {text}\n"))
     without = ":".join(place for place in os.environ["PATH"].split(":") if not os.path.exists(os.path.join(place, program)))

@@ -21,7 +21,7 @@ from collections import Counter
 from concurrent.futures import ThreadPoolExecutor
 from pathlib import Path
 
-from builds import TOOL, preloaded, project, shown, wait_for, wait_until, write
+from builds import TOOL, preloaded, project, ran, shown, text_of, wait_for, wait_until, write
 from checks import CAPTURES, environment, install_capture
 
 # A build that takes longer than this, in seconds, hangs. On an idle machine these builds take less than one second.
@@ -173,6 +173,43 @@ def has_strace(what):
         return True
     print(f"captures: {what} is left out: no strace, or no process may be traced")
     return False
+
+
+# Each wait of the server for events is delayed, so that it handles the start of a line when the line has already changed the captures.
+LATE = ["strace", "-f", "-qq", "-o", "/dev/null", "-e", "trace=epoll_wait", "-e", "inject=epoll_wait:delay_enter=300000", TOOL, "--quiet", "make"]
+REMOVED = f"rm -rf {CAPTURES}; sleep 1.5"
+REMOVED_IN_STEPS = f"rm -rf {CAPTURES}/.capture {CAPTURES}/* {CAPTURES}/.g*; sleep 1.5; rmdir {CAPTURES}"
+# For each line that changes the captures: what the second build prints, and the text of its log afterwards.
+LATE_LINES = {
+    "removed": (REMOVED, "x 2\n", ""),
+    "moved": (f"mkdir saved; mv {CAPTURES}/log.* saved; sleep 1.5", "", "x 2\n"),
+    "logs removed": (f"rm {CAPTURES}/log.*; sleep 1.5", "", "x 2\n"),
+}
+
+
+def logs_in(folder, place):
+    """The logs of a directory, except the one of `all`, which each build begins."""
+    return {path.name: path.read_bytes() for path in Path(folder, place).glob("log.[2-9]")}
+
+
+def late_server(checks, at):
+    """No file of an earlier build is emptied if a line has moved or removed it, and the line's text is in the log or printed."""
+    if not has_strace("late_server"):
+        return
+    for what, (change, printed, kept) in LATE_LINES.items():
+        folder = project(at(what), f"all: x y\ny: ; @echo y >&2\nx: ; @[ $(N) = 1 ] || {{ {change}; }}; echo x $(N) >&2\n")
+        ran(folder, [TOOL, "--quiet", "make", "N=1"])
+        subprocess.run(["cp", "-al", CAPTURES, "linked"], cwd=folder, check=True)
+        before = logs_in(folder, "linked")
+        status, _, err = ran(folder, [*LATE, "N=2"])
+        gone = f"redo-log-capture: {os.path.realpath(folder)}/{CAPTURES} was removed; its captures are lost\n"
+        checks.expect(f"{what}, late: make", (status, err.replace(gone, "")), (0, printed))
+        checks.expect(f"{what}, late: the log", text_of(folder, "x"), kept)
+        checks.expect(f"{what}, late: linked files", logs_in(folder, "linked"), before)
+        checks.expect(f"{what}, late: moved files", logs_in(folder, "saved"), before if what == "moved" else {})
+    folder = project(at("few"), f"all: x\nx: ; @echo x >&2\n\t@{REMOVED_IN_STEPS}\n")
+    few = ["sh", "-c", 'ulimit -n 1000; exec "$@"', "sh"]  # so few that no log stays open between two lines
+    checks.expect("removed by a later line, late", ran(folder, [*few, *LATE])[0], 0)
 
 
 # The system calls of the hook, and the errors that each may report. make and the dynamic loader make some of these calls too.
@@ -1127,6 +1164,6 @@ def late_start(checks, at):
 
 
 PARTS = (
-    failing_hook, failing_server, lying_make, late_start, many_processes, never_silent, few_descriptors, refused_memory, at_once_killed,
+    failing_hook, failing_server, late_server, lying_make, late_start, many_processes, never_silent, few_descriptors, refused_memory, at_once_killed,
     killed_between_messages, ends_while_nobody_reads,
 )  # fmt: skip
