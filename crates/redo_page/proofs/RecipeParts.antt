@@ -69,9 +69,9 @@ recipe_is_shown recipe =
     let earlier = length recipe.commands - 10 in
     record {
       directory = λ path is. part_earlier (commands_parts recipe.commands)
-          (subst (λ (found : Option (List ℕ)). IsPartOf (name_parts path) (directory_parts found)) (sym is)
+          (subst (λ (found : Option (List ℕ)). IsPartOf (TextPart DIRECTORY.now ∷ name_parts path) (directory_parts found)) (sym is)
           (record {
-            before = MarkupPart markup.MetaParagraph ∷ TextPart DIRECTORY.now ∷ [];
+            before = MarkupPart markup.MetaParagraph ∷ [];
             after = MarkupPart markup.EndParagraph ∷ [];
             splits = refl;
           }));
@@ -90,7 +90,7 @@ each_in (command ∷ commands) parts whole in_whole all =
 shown_in : {recipe : RecipeFacts} {parts whole : List Part} → ((inner : List Part) → IsPartOf inner parts → IsPartOf inner whole)
     → ShowsRecipe recipe parts → ShowsRecipe recipe whole
 shown_in {recipe} {parts} {whole} in_whole shows = record {
-  directory = λ path is. in_whole (name_parts path) (shows.directory path is);
+  directory = λ path is. in_whole (TextPart DIRECTORY.now ∷ name_parts path) (shows.directory path is);
   commands = each_in (drop (length recipe.commands - 10) recipe.commands) parts whole in_whole shows.commands;
 }
 

@@ -25,7 +25,7 @@ use Rattle.redo_outline.specs.Contents.{Contents, contents_of}
 use Rattle.redo_outline.specs.Contents.Contents.{Nothing, Shown, Opened}
 use Rattle.redo_outline.specs.Facts.{saturated, target_at, target_status, text_size}
 use Rattle.redo_outline.specs.Outline.{log_count}
-use Rattle.redo_page.specs.declared.labels.TheConstants.{AND_COUNT, AS_ONE_TEXT, AT_MOST, AT_ONCE, BUILD_TOOK, DEPENDENT, FAILED, FAILED_SIGN, IN_ITS_LOG, LOGS, LOGS_IN, LOG_IN, MADE_SIGN, OF, PLACE_IN_TREE, PROCESSOR_TIME, SHOWN_ABOVE, SUM_OF_TIMES, TARGETS, TARGETS_FAILED, TARGETS_MADE, TARGETS_UNFINISHED, TARGET_FAILED, TARGET_MADE, TARGET_UNFINISHED, TOOK, UNFINISHED_SIGN, WARNED_LINES}
+use Rattle.redo_page.specs.declared.labels.TheConstants.{AND_COUNT, AS_ONE_TEXT, AT_MOST, AT_ONCE, BUILD_TOOK, DEPENDENT, DIRECTORY, FAILED, FAILED_SIGN, IN_ITS_LOG, LOGS, LOGS_IN, LOG_IN, MADE_SIGN, OF, PLACE_IN_TREE, PROCESSOR_TIME, SHOWN_ABOVE, SUM_OF_TIMES, TARGETS, TARGETS_FAILED, TARGETS_MADE, TARGETS_UNFINISHED, TARGET_FAILED, TARGET_MADE, TARGET_UNFINISHED, TOOK, UNFINISHED_SIGN, WARNED_LINES}
 use Rattle.redo_page.specs.Command.{command}
 use Rattle.redo_page.specs.Errors.{cause_of}
 use Rattle.redo_page.specs.Article.{article_parts, article_took, cause_parts, max_path, path_parts, printed_by}
@@ -375,7 +375,7 @@ ContainRoots (node ∷ nodes) =
 
 -- Parts show the directory of a recipe and, of its last ten commands, each one that has at most 40,000 bytes, as a block with every byte.
 pub record ShowsRecipe (recipe : RecipeFacts) (parts : List Part) : Type 0 where
-  pub directory : (path : List ℕ) → recipe.directory ≡ Some path → IsPartOf (name_parts path) parts
+  pub directory : (path : List ℕ) → recipe.directory ≡ Some path → IsPartOf (TextPart DIRECTORY.now ∷ name_parts path) parts
   pub commands :
       AllByRecursion
       (λ (command : RecipeCommand). length command.text ≤ 40000 → IsPartOf (MarkupPart Pre ∷ TextPart command.text ∷ MarkupPart EndPre ∷ []) parts)

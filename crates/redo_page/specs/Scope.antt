@@ -58,7 +58,7 @@ pub record View : Type 0 where
 abbrev pub shown_longest : Facts → List Rank
 shown_longest facts = if is_timed facts then facts.longest else []
 
--- The recipes that were longest the only ones that ran, unless too little is known. If there was never another one, these are the recipes
+-- The recipes that ran alone for the longest time, unless too little is known. If there was never another one, these are the recipes
 -- that took longest, and not shown again.
 abbrev pub shown_alone : Facts → List Rank
 shown_alone facts = if is_timed facts && nat_lt 1 facts.most then facts.alone else []

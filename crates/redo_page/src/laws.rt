@@ -84,8 +84,8 @@ pub fn links_lead_to_ids()
 
 /// Each link to a log or to an article has the name of its target as text, or one of the page's own texts. Each log in the tree, and each
 /// article, begins with the name of its target, its status and how long it took. Each item of a list has the name of a target and its
-/// status, and each row of a table has how long it took too, or was the only one that ran, its number of warnings, or the memory of its
-/// recipe. The names, statuses and numbers are as the logs and the facts say. The page names the requested targets, with their statuses.
+/// status. So has each row of a table, with one value: how long the target took, how long it ran alone, its number of warnings, or its
+/// memory. Names, statuses and values are as the logs and the facts say. The page names the requested targets, with their statuses.
 pub fn targets_have_their_names()
     ensures names { (request : Request) (logs : List Log) (requested : List (List ℕ)) →
         (before : List Part) (tag : Markup) (after : List Part) → before ++ (MarkupPart tag ∷ after) ≡ page_parts request logs requested →

@@ -108,7 +108,7 @@ pub enum Test {
     HasTables,
     /// A target is among those that took longest.
     HasLongest,
-    /// A recipe is among those that were longest the only ones that ran.
+    /// A recipe is among those that ran alone for the longest time.
     HasAlone,
     /// The memory of a recipe is known.
     HasMemory,
@@ -127,7 +127,7 @@ pub enum Test {
 pub enum Rows {
     /// The targets that took longest.
     Longest,
-    /// The recipes that were longest the only ones that ran.
+    /// The recipes that ran alone for the longest time.
     LongestAlone,
     /// The recipes with the most memory.
     MostMemory,
@@ -369,7 +369,7 @@ fn shown_longest(summary: &Summary) -> &[Rank]
     }
 }
 
-// Returns the recipes that were longest the only ones that ran, unless too little is known, or these are all recipes.
+// Returns the recipes that ran alone for the longest time, unless too little is known, or these are all recipes.
 fn shown_alone(summary: &Summary) -> &[Rank]
     ensures { result.now ≡ shown_alone summary.now }
 {

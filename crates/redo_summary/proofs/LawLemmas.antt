@@ -260,7 +260,7 @@ longest_are nodes times =
     all_taken (HasDuration nodes times) 10 (sort rank_cmp ranks)
     (all_sorted (HasDuration nodes times) rank_cmp ranks (ranks_are nodes times (recipes_of targets) recipes))
 
--- ---- how long recipes were the only ones that ran
+-- ---- how long recipes ran alone
 
 weaker : {X : Type 0} (P Q : X → Type 0) → ((x : X) → P x → Q x) → (xs : List X) → AllByRecursion P xs → AllByRecursion Q xs
 weaker P Q so [] all = tt

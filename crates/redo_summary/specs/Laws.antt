@@ -103,7 +103,7 @@ pub record AreTotals (nodes : List Node) (facts : Facts) : Type 0 where
   pub warnings : facts.warnings ≡ saturated (sum_by (λ (node : Node). node.warnings) nodes)
   pub bytes : facts.bytes ≡ saturated (sum_by (λ (node : Node). node.bytes) nodes)
 
--- The processor time of recipes is the sum over all of them that are known. It is unknown if none is.
+-- The processor time of recipes is the sum over all known usages. It is unknown if there is none.
 abbrev pub IsProcessorTime : List Usage → Option ℕ → Type 0
 IsProcessorTime [] processor = processor ≡ None
 IsProcessorTime (usage ∷ usages) processor =
@@ -152,7 +152,7 @@ abbrev pub HasDuration : List Node → List Times → Rank → Type 0
 HasDuration nodes times rank =
     (node : Node) × (slice_get nodes rank.position ≡ Some node) × (took : ℕ) × (duration_of times node.number ≡ Some took) × (rank.value ≡ cut took)
 
--- The value of a rank is how long the recipe at its position was the only one of these that ran.
+-- The value of a rank is how long the recipe at its position ran alone among these.
 abbrev pub HasTimeAlone : List Span → Rank → Type 0
 HasTimeAlone recipes rank =
     (span : Span) × Contains recipes span × (span.position ≡ rank.position) × (rank.value ≡ cut (alone recipes span))

@@ -1,4 +1,4 @@
--- The recipes that took longest, those that were longest the only ones that ran, and the targets with the most warnings.
+-- The recipes that took longest, those that ran alone for the longest time, and the targets with the most warnings.
 use Rattle.std.specs.Prelude.{ℕ, ◌+◌, ◌-◌, ltb, List, [], ◌∷◌, map, filter, take}
 use Rattle.std.specs.declared.cmp.Ordering.{Ordering}
 use Rattle.std.specs.Ordering.{nat_cmp, ordering_then}
@@ -29,15 +29,15 @@ rank_of span = record { value = duration span; position = span.position }
 abbrev pub longest_of : List Span → List Rank
 longest_of recipes = first_ranks (map rank_of recipes)
 
--- One of some recipes as a row of a table of how long it was the only one that ran.
+-- One of some recipes as a row of a table of how long it ran alone.
 abbrev pub alone_rank : List Span → Span → Rank
 alone_rank recipes span = record { value = cut (alone recipes span); position = span.position }
 
--- Those that were the only ones that ran for some time.
+-- Those that ran alone for some time.
 abbrev pub alone_ranks : List Span → List Rank
 alone_ranks recipes = filter (λ (rank : Rank). ltb 0 rank.value) (map (alone_rank recipes) recipes)
 
--- The ten recipes that were longest the only ones that ran.
+-- The ten recipes that ran alone for the longest time.
 abbrev pub longest_alone : List Span → List Rank
 longest_alone recipes = first_ranks (alone_ranks recipes)
 

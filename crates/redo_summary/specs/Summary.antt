@@ -27,7 +27,7 @@ pub record Facts : Type 0 where
   -- The numbers of warnings, and of bytes of text, in all logs.
   pub warnings : ℕ
   pub bytes : ℕ
-  -- The ten recipes that took longest, those that were longest the only ones that ran, and the ten targets with the most warnings.
+  -- The ten recipes that took longest, those that ran alone for the longest time, and the ten targets with the most warnings.
   pub longest : List Rank
   pub alone : List Rank
   pub warned : List Rank

@@ -39,8 +39,8 @@ pub fn spans_are_of_targets()
         AllByRecursion (IsOfTarget IsMarkOf nodes times) (summary_of nodes times).marks }
 {}
 
-/// The totals are over all recipes, and over all shown targets. The processor time is the sum of the user and system times of all recipes
-/// whose usage is known, and there is none only if no usage is known.
+/// The totals are over all recipes, and over all shown targets. The processor time is the sum of the user and system times of the recipes
+/// whose usage is known, and there is none if no usage is known. Sums are at most 2^64 - 1.
 pub fn totals_are_over_all()
     ensures times { (nodes : List Node) (times : List Times) → AreTotals nodes (summary_of nodes times) }
     ensures processor { (nodes : List Node) (facts : List RecipeFacts) (recipes : List Span) →
@@ -72,8 +72,8 @@ pub fn ranks_are_in_order()
         IsTable (usage_of nodes facts recipes).memory }
 {}
 
-/// The tables have the ten recipes that took longest, those that were longest the only ones that ran, the ten targets with the most
-/// warnings, and the ten recipes with the most memory, or all of them if there are no more.
+/// The tables have the ten recipes that took longest, those that ran alone for the longest time, the ten targets with the most warnings,
+/// and the ten recipes with the most memory. If there are fewer than ten, a table has all of them. A value of 0 is only in the first one.
 pub fn tables_have_first_ranks()
     ensures longest { (nodes : List Node) (times : List Times) →
         HasFirstTen (map rank_of (summary_of nodes times).recipes) (summary_of nodes times).longest }
@@ -84,7 +84,7 @@ pub fn tables_have_first_ranks()
         HasFirstTen (memory_ranks nodes facts recipes) (usage_of nodes facts recipes).memory }
 {}
 
-/// The value of each rank says how long the target at its position took or was the only one that ran, how many warnings it has, or how
+/// The value of each rank is one of the target at its position: how long it took, how long it ran alone, its number of warnings, or how
 /// much memory its recipe had.
 pub fn ranks_have_values_of_targets()
     ensures longest { (nodes : List Node) (times : List Times) →

@@ -1,4 +1,4 @@
-//! The recipes that took longest, those that were longest the only ones that ran, and the targets with the most warnings.
+//! The recipes that took longest, those that ran alone for the longest time, and the targets with the most warnings.
 //!
 //! A table has at most ten rows, so the code never sorts all targets. It iterates over them from the last one to the first,
 //! as the definition of a sort by insertion does, and keeps the first ten so far: an insertion into a sorted list changes its
@@ -32,7 +32,7 @@ pub fn longest_of(alloc: Global, recipes: &[Span]) -> Result<Vec<Rank>, AllocErr
     Ok(ranks)
 }
 
-/// Returns the recipes that were longest the only ones that ran.
+/// Returns the recipes that ran alone for the longest time.
 pub fn longest_alone(alloc: Global, recipes: &[Span]) -> Result<Vec<Rank>, AllocError>
     ensures { IfOk result (λ ranks. ranks.items ≡ longest_alone recipes.now) }
 {

@@ -165,7 +165,7 @@ impl Summary {
         self.longest.as_slice()
     }
 
-    /// Returns the ten recipes that were longest the only ones that ran, the longest one first, and only those that ever were. If recipes
+    /// Returns the ten recipes that ran alone for the longest time, the longest one first, and only those that ever were. If recipes
     /// were equally long, the one with the lowest position is first. A duration is at most 2^44 - 1 milliseconds.
     pub fn alone(&self) -> &[Rank]
         ensures { result.now ≡ self.now.alone }

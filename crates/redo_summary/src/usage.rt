@@ -1,7 +1,7 @@
 //! What the recipes of a build used.
 //!
 //! The usage of a recipe that ran others has theirs in it, so a sum over both would count them twice. [`Summary::recipes`] has only
-//! recipes that ran no others.
+//! recipes that ran no others, as far as times are known.
 //!
 //! [`Summary::recipes`]: crate::Summary::recipes
 ghost use Rattle.std.specs.Prelude.{◌≡◌, IfOk};
@@ -51,8 +51,8 @@ impl UsageSummary {
         })
     }
 
-    /// Returns the processor time that all recipes used, inside and outside of the kernel, in milliseconds: at most 2^64 - 1. It is
-    /// `None` if the usage of none of them is known.
+    /// Returns the processor time that the recipes used whose usage is known, inside and outside of the kernel, in milliseconds: at
+    /// most 2^64 - 1. It is `None` if the usage of none of them is known.
     pub fn processor(&self) -> Option<u64>
         ensures { result ≡ self.now.processor }
     {

@@ -23,7 +23,7 @@ pub fn ends(alloc: Global, spans: &[Span]) -> Result<Vec<u64>, AllocError>
     spans.iter().map(|span| end_of(span)).collect(alloc)
 }
 
-/// Returns when a span ended, if it began before.
+/// Returns when a span ended, or when it began if that is later.
 pub fn end_of(span: &Span) -> u64
     ensures { result ≡ end_of span.now }
 {

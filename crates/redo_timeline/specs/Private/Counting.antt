@@ -7,7 +7,7 @@ use Rattle.redo_timeline.specs.declared.span.Span.{Span}
 abbrev pub AreSortedTimes : List ℕ → List ℕ → Type 0
 AreSortedTimes times sorted = IsPermutation times sorted × IsNonDecreasing sorted
 
--- When a span ended, if it began before.
+-- When a span ended, or when it began if that is later.
 abbrev pub end_of : Span → ℕ
 end_of span = max span.began span.ended
 
