@@ -2,6 +2,8 @@ mod ChangeRows
 pub mod FindingLemmas
 mod FindingRows
 pub mod KindLemmas
+mod LogChangeLemmas
+mod LogLemmas
 mod OutcomeRows
 pub mod PartLemmas
 pub mod PickedLemmas

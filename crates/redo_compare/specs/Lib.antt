@@ -1,5 +1,6 @@
 pub mod Changes
 pub mod Laws
+pub mod LogChanges
 pub mod Occurrences
 pub mod Outcomes
 pub mod Private

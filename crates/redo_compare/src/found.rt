@@ -91,6 +91,13 @@ impl LogDiagnostics {
         self.occurrences.as_slice()
     }
 
+    /// Returns whether the last line so far is a diagnostic. Then the next one may show its source line.
+    pub(crate) fn is_last(&self) -> bool
+        ensures { result ≡ self.now.is_last }
+    {
+        self.is_last
+    }
+
     /// Adds the next text line of the log, without its line feed. `position` is the number of lines before it. The only error is that
     /// an allocation failed. Then the diagnostics are unspecified.
     pub fn add(&mut self, alloc: Global, position: usize, line: &[u8]) -> Result<(), AllocError>

@@ -22,6 +22,8 @@
 mod changes;
 mod found;
 mod laws;
+mod log;
+mod log_changes;
 mod outcome;
 mod remaining;
 mod rounds;
@@ -33,4 +35,5 @@ pub use laws::{
     known_source_lines_are_not_new, new_are_counted, new_are_in_order, same_log_has_nothing_new,
     targets_of_one_build, when_nothing_is_new,
 };
+pub use log_changes::{LogChanges, compare_log};
 pub use outcome::{Outcome, is_fixed, newly_fails};
