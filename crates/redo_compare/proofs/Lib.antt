@@ -3,6 +3,7 @@ pub mod FindingLemmas
 mod FindingRows
 pub mod KindLemmas
 mod LogChangeLemmas
+mod LogChangeRows
 mod LogLemmas
 mod OutcomeRows
 pub mod PartLemmas

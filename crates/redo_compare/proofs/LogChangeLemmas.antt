@@ -198,5 +198,5 @@ same-build logs table number = same-before logs logs number (by (slice_get (targ
     by (Some target) there =
         let here : 0 + number ≡ number = omega arith in
         ap (λ (other : Option ℕ). all_or_none (option_map (diagnostics_in logs) other))
-        (position_from-zero (pointwise nat_eq target) (targets_of logs) ∙ own-from (targets_of logs) 0 number target table.targets_differ there
-        ∙ ap Some here)
+        (position_from-zero (pointwise nat_eq target) (targets_of logs)
+        ∙ own-from (targets_of logs) 0 number target table.targets_differ there ∙ ap Some here)

@@ -7,14 +7,14 @@ use Rattle.std.proofs.lemmas.Option.{none-some, same_Some, slice_get_within}
 use Rattle.memchr.specs.Find.{NoneBefore, Nowhere, Passes, is_byte}
 use Rattle.redo_diagnostics.specs.Diagnostic.{DiagnosticValue, diagnostic_of}
 use Rattle.redo_line.proofs.CutLemmas.{free_before, holds_none, upto_feed}
-use Rattle.redo_line.proofs.LineLemmas.{ended-free, ended-line, only_lines, rest-free, rest-line}
+use Rattle.redo_line.proofs.LineLemmas.{ended-free, ended-line, only_lines, rest-line}
 use Rattle.redo_line.specs.Lines.{HasNoLineFeed, ended, line_feed, rest, with_line_feed}
 use Rattle.redo_line.specs.declared.entry.Entry.{Entry}
 use Rattle.redo_line.specs.declared.entry.Entry.TheVariants.{Text, Mention, Done, Closing, Note}
 use Rattle.redo_logs.specs.Logs.{Log, entry_at}
 use Rattle.redo_logs.specs.Numbering.{AreLinesAt, AreTexts, HasText}
 use Rattle.redo_outline.specs.Facts.{entries_at, text_of, texts_of}
-use Rattle.redo_compare.specs.Occurrences.{FoundValue, IsFoundIn, OccurrenceValue, ends_with_diagnostic, occurrence_if, occurrences_of}
+use Rattle.redo_compare.specs.Occurrences.{FoundValue, IsFoundIn, occurrence_if, occurrences_of}
 use Rattle.redo_compare.specs.Private.Finding.{IsFirstLine, with_source_if}
 use Rattle.redo_compare.specs.Source.{source_of}
 use Rattle.redo_compare.proofs.FindingLemmas.{ends-push, occurrences-push}
@@ -79,7 +79,8 @@ pub record Added (stretch left : List ℕ) (position at : ℕ) (old found : Foun
   pub at_is : at ≡ position + length lines
   pub is : (before : List (List ℕ)) → position ≡ length before → IsFoundIn before old → IsFoundIn (before ++ lines) found
 
-pub add-none : (stretch : List ℕ) (position : ℕ) (found : FoundValue) → rest stretch ≡ [] → Added stretch stretch position position found found
+pub add-none : (stretch : List ℕ) (position : ℕ) (found : FoundValue) → rest stretch ≡ []
+    → Added stretch stretch position position found found
 add-none stretch position found complete = record {
   complete = complete;
   lines = [];

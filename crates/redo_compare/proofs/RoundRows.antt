@@ -1,8 +1,11 @@
 -- Rows of what is new since earlier diagnostics. A program in another language gave the expected values.
-use Rattle.std.proofs.Common.{◌≡◌, ℕ, ◌≤◌, Bool, true, false, cond, List, [], ◌∷◌, length, refl, arith}
+use Rattle.std.proofs.Common.{◌≡◌, ℕ, ◌≤◌, Bool, true, false, cond, List, [], ◌∷◌, length, map, refl, arith}
 use Rattle.std.specs.Prelude.{codes}
-use Rattle.std.specs.List.{AllByRecursion}
+use Rattle.std.specs.List.{AllByRecursion, IsDistinct}
 use Rattle.redo_diagnostics.specs.declared.severity.Severity.TheVariants.{Error}
+use Rattle.redo_line.specs.declared.entry.Entry.TheVariants.{Text}
+use Rattle.redo_logs.specs.Logs.{IsTable, Log}
+use Rattle.redo_logs.specs.declared.log_state.LogState.TheVariants.{Ended}
 use Rattle.std.specs.Str.{bytes_eq}
 use Rattle.redo_compare.specs.Laws.{IsPart, key_count}
 use Rattle.redo_compare.specs.Laws.IsPart.{none, kept, dropped}
@@ -78,3 +81,14 @@ as_many key = by (bytes_eq (codes "k") key)
     by : (is : Bool) → length (cond is (k 1 b ∷ []) []) ≤ length (cond is (k 0 a ∷ []) [])
     by true = omega arith
     by false = omega arith
+
+-- A log with these lines, and a build of two targets.
+abbrev log_of : List ℕ → List (List ℕ) → Log
+log_of target lines = record { target = target; entries = map Text lines; state = Ended }
+
+abbrev error_x : List ℕ
+error_x = codes "error: x"
+
+two_logs : (one other : List (List ℕ)) → IsTable (log_of a one ∷ log_of b other ∷ [])
+unfolding IsDistinct
+two_logs one other = record { size = omega arith; targets_differ = ((refl, tt), (tt, tt)) }

@@ -1,9 +1,12 @@
 //! Laws, which are theorems about the definitions alone: each contract is a theorem, and the bodies are empty.
 ghost use Rattle.std.specs.Prelude.{◌≡◌, ◌-◌, ◌≤◌, ℕ, List, [], Option, None, Some};
+ghost use Rattle.redo_logs.specs.Logs.{IsTable, Log};
+ghost use Rattle.redo_outline.specs.Facts.{entries_at, texts_of};
 ghost use Rattle.redo_compare.specs.Changes.{gone_in_target, new_in_target};
 ghost use Rattle.redo_compare.specs.Laws.{IsPart, key_count, kind_count};
+ghost use Rattle.redo_compare.specs.LogChanges.{are_new, diagnostics_in, earlier_number, gone_in_log, new_in_log};
 ghost use Rattle.redo_compare.specs.Occurrences.{OccurrenceValue};
-ghost use Rattle.redo_compare.specs.Rounds.{new_since};
+ghost use Rattle.redo_compare.specs.Rounds.{new_since, picked};
 
 /// Of each key, as many diagnostics are new as there are more than before. So neither the order of diagnostics nor code that moves within its file
 /// changes this number.
@@ -40,4 +43,32 @@ pub fn known_source_lines_are_not_new()
 pub fn targets_of_one_build()
     ensures only_now { (now : List OccurrenceValue) → new_in_target None (Some now) ≡ now }
     ensures only_before { (before : Option (List OccurrenceValue)) → gone_in_target before None ≡ [] }
+{}
+
+/// The flags of a log pick its new diagnostics, in order.
+pub fn flags_pick_new()
+    ensures { (earlier logs : List Log) (number : ℕ) →
+        picked (are_new earlier logs number) (diagnostics_in logs number) ≡ new_in_log earlier logs number }
+{}
+
+/// If the earlier build has no log of the same target, all diagnostics of a log are new, and none is gone.
+pub fn log_of_new_target()
+    ensures new { (earlier logs : List Log) (number : ℕ) → earlier_number earlier logs number ≡ None →
+        new_in_log earlier logs number ≡ diagnostics_in logs number }
+    ensures gone { (earlier logs : List Log) (number : ℕ) → earlier_number earlier logs number ≡ None →
+        gone_in_log earlier logs number ≡ [] }
+{}
+
+/// If the earlier log of the same target has the same text lines, no diagnostic of a log is new, and none is gone.
+pub fn log_with_same_lines()
+    ensures new { (earlier logs : List Log) (number other : ℕ) → earlier_number earlier logs number ≡ Some other →
+        texts_of (entries_at other earlier) ≡ texts_of (entries_at number logs) → new_in_log earlier logs number ≡ [] }
+    ensures gone { (earlier logs : List Log) (number other : ℕ) → earlier_number earlier logs number ≡ Some other →
+        texts_of (entries_at other earlier) ≡ texts_of (entries_at number logs) → gone_in_log earlier logs number ≡ [] }
+{}
+
+/// Nothing is new in a log since the same build, and nothing is gone.
+pub fn same_build_has_nothing_new()
+    ensures new { (logs : List Log) (number : ℕ) → IsTable logs → new_in_log logs logs number ≡ [] }
+    ensures gone { (logs : List Log) (number : ℕ) → IsTable logs → gone_in_log logs logs number ≡ [] }
 {}

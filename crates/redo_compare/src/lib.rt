@@ -1,8 +1,10 @@
 //! What is new in a build since an earlier one, the *baseline*: new and gone diagnostics, and targets that newly fail or are fixed.
 //!
-//! [`LogDiagnostics`] collects the diagnostics of a log, line by line. [`compare`] says of each whether it is new, and of each earlier
-//! one whether it is gone. [`newly_fails`] and [`is_fixed`] compare how a target ended. Laws say how many diagnostics are new, and that
-//! none is if no key occurs more often than before.
+//! [`compare_log`] compares a log of a table with the log of the same target in an earlier table. It says of each diagnostic whether it is
+//! new, and how many are gone. [`newly_fails`] and [`is_fixed`] compare how a target ended.
+//!
+//! [`LogDiagnostics`] has the diagnostics of a log, and [`compare`] compares those of two. Laws say how many diagnostics are new, that none
+//! is if no key occurs more often than before, and that none is since the same build.
 //!
 //! # Terms
 //!
@@ -32,7 +34,8 @@ mod source;
 pub use changes::{Changes, compare};
 pub use found::{LogDiagnostics, Occurrence};
 pub use laws::{
-    known_source_lines_are_not_new, new_are_counted, new_are_in_order, same_log_has_nothing_new,
+    flags_pick_new, known_source_lines_are_not_new, log_of_new_target, log_with_same_lines,
+    new_are_counted, new_are_in_order, same_build_has_nothing_new, same_log_has_nothing_new,
     targets_of_one_build, when_nothing_is_new,
 };
 pub use log_changes::{LogChanges, compare_log};

@@ -7,3 +7,5 @@ mod compare;
 mod logs;
 #[cfg(test)]
 mod outcomes;
+#[cfg(test)]
+mod tables;

@@ -1,4 +1,4 @@
-use Rattle.std.proofs.Common.{◌+◌, arith}
+use Rattle.std.proofs.Common.{arith}
 use Rattle.redo_compare.proofs.LogLemmas.{add-line, add-none, added-all, next-fits}
 use Rattle.redo_compare.proofs.log.add_each.Goals as goal
 

@@ -1,4 +1,4 @@
-use Rattle.std.proofs.Common.{◌≡◌, ℕ, Bool, List, Option, count_by, option_map, sym, ap, ◌∙◌}
+use Rattle.std.proofs.Common.{◌≡◌, ℕ, Bool, List, Option, count_by, option_map, ap, ◌∙◌}
 use Rattle.redo_compare.specs.Changes.{all_or_none}
 use Rattle.redo_compare.specs.LogChanges.{diagnostics_in, earlier_diagnostics}
 use Rattle.redo_compare.proofs.LogChangeLemmas.{gone-count, new-flags}

@@ -1,5 +1,4 @@
-use Rattle.std.proofs.Common.{◌+◌, ◌<◌, List, length, sym, subst, arith}
-use Rattle.redo_line.specs.Lines.{ended}
+use Rattle.std.proofs.Common.{◌<◌, List, sym, subst, arith}
 use Rattle.redo_logs.specs.EntryRef.{entry_value}
 use Rattle.redo_logs.specs.Logs.{Log}
 use Rattle.redo_logs.specs.Numbering.{AreLinesAt, HasText}
@@ -12,7 +11,8 @@ entries-init c = found-none (entries_at c.args.number c.args.table.now) c.new-fo
 
 pub add_lines-requires-clause-complete : goal.add_lines-requires-clause-complete
 add_lines-requires-clause-complete c =
-    complete c.numbered-logs.result.logs c.args.number c.entries.at c.lines-count.result.0.now c.lines-count.result.1 c.lines-count.ensures.lines
+    complete c.numbered-logs.result.logs c.args.number c.entries.at c.lines-count.result.0.now c.lines-count.result.1
+    c.lines-count.ensures.lines
 
 pub add_lines-requires-clause-no_overflow : goal.add_lines-requires-clause-no_overflow
 add_lines-requires-clause-no_overflow c =
