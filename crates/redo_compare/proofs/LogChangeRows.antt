@@ -26,7 +26,7 @@ y = Text (codes "error: y")
 
 -- The targets `a`, `b` and `d` were built, and now `c`, `b` and `a`.
 abbrev earlier : List Log
-earlier = log (codes "a") (x ∷ y ∷ []) ∷ log (codes "b") (y ∷ Closing 7 (pos 1) ∷ x ∷ []) ∷ log (codes "d") (x ∷ []) ∷ []
+earlier = log (codes "a") (x ∷ y ∷ []) ∷ log (codes "b") (y ∷ Closing 7 (pos 1) ∷ x ∷ []) ∷ log (codes "d") [] ∷ []
 
 abbrev logs : List Log
 logs = log (codes "c") (x ∷ []) ∷ log (codes "b") (Text (codes "b") ∷ y ∷ y ∷ x ∷ []) ∷ log (codes "a") (Closing 7 (pos 0) ∷ y ∷ []) ∷ []
@@ -43,24 +43,20 @@ these_logs = (refl, refl, refl, refl)
 
 these_diagnostics : (diagnostics_in logs 1 ≡ found_y 1 ∷ found_y 2 ∷ found_x 3 ∷ [])
     × (diagnostics_in logs 2 ≡ found_y 0 ∷ []) × (diagnostics_in logs 3 ≡ [])
-unfolding after_prefix split_once number is_sequence sequence_len plain_after first_place place_of before_bracket
-    split_flag masked_after diagnostic_of source_of
+unfolding after_prefix split_once number is_sequence sequence_len plain_after first_place place_of before_bracket split_flag masked_after diagnostic_of source_of
 these_diagnostics = (refl, refl, refl)
 
 these_new_in_logs : (new_in_log earlier logs 0 ≡ found_x 0 ∷ []) × (new_in_log earlier logs 1 ≡ found_y 2 ∷ [])
     × (new_in_log earlier logs 2 ≡ []) × (new_in_log earlier logs 3 ≡ [])
-unfolding after_prefix split_once number is_sequence sequence_len plain_after first_place place_of before_bracket
-    split_flag masked_after diagnostic_of source_of
+unfolding after_prefix split_once number is_sequence sequence_len plain_after first_place place_of before_bracket split_flag masked_after diagnostic_of source_of
 these_new_in_logs = (refl, refl, refl, refl)
 
 these_gone : (gone_in_log earlier logs 0 ≡ []) × (gone_in_log earlier logs 1 ≡ [])
     × (gone_in_log earlier logs 2 ≡ found_x 0 ∷ [])
-unfolding after_prefix split_once number is_sequence sequence_len plain_after first_place place_of before_bracket
-    split_flag masked_after diagnostic_of source_of
+unfolding after_prefix split_once number is_sequence sequence_len plain_after first_place place_of before_bracket split_flag masked_after diagnostic_of source_of
 these_gone = (refl, refl, refl)
 
 these_flags : (are_new earlier logs 0 ≡ true ∷ []) × (are_new earlier logs 1 ≡ false ∷ true ∷ false ∷ [])
     × (are_new earlier logs 2 ≡ false ∷ []) × (are_new earlier logs 3 ≡ [])
-unfolding after_prefix split_once number is_sequence sequence_len plain_after first_place place_of before_bracket
-    split_flag masked_after diagnostic_of source_of
+unfolding after_prefix split_once number is_sequence sequence_len plain_after first_place place_of before_bracket split_flag masked_after diagnostic_of source_of
 these_flags = (refl, refl, refl, refl)

@@ -17,7 +17,8 @@ use std::alloc::{AllocError, Global};
 impl LogDiagnostics {
     /// Returns the diagnostics of the text lines of log `number`. A log that doesn't exist has no lines.
     ///
-    /// Other lines are not copied. For n bytes, this takes O(n) time. The only error is that an allocation failed.
+    /// It copies keys and source lines, and nothing of other lines. For n bytes, this takes O(n) time. The only error is that an allocation
+    /// failed.
     pub fn of_log(
         alloc: Global,
         table: &LogTable,

@@ -23,8 +23,8 @@ pub struct LogChanges {
 /// Compares the diagnostics of log `number` of a table with those of the same target in an earlier build. If this has no log of the target,
 /// all are new, and none is gone. A log that doesn't exist has no diagnostics.
 ///
-/// Keys and source lines are hashed with `keys`, as [`compare`] does. For n bytes of both logs this takes O(n) time, and O(n) look-ups. The
-/// only error is that an allocation failed.
+/// Keys and source lines are hashed with `keys`, as in [`compare`]. If both logs have n bytes, this takes O(n) time, and a few look-ups for
+/// each diagnostic. The only error is that an allocation failed.
 pub fn compare_log(
     alloc: Global,
     keys: HashKeys,
