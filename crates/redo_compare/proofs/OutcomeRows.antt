@@ -1,8 +1,9 @@
 -- Rows of how targets ended before and now.
-use Rattle.std.proofs.Common.{◌≡◌, Bool, true, false, List, [], ◌∷◌, Option, None, Some, ℤ, pos, negsuc, refl}
+use Rattle.std.proofs.Common.{◌≡◌, ℕ, Bool, true, false, List, [], ◌∷◌, Option, None, Some, ℤ, pos, negsuc, refl}
 use Rattle.std.specs.List.{AllByRecursion}
+use Rattle.redo_outline.specs.declared.node.Node.{Node}
 use Rattle.redo_compare.specs.declared.outcome.Outcome.{Outcome}
-use Rattle.redo_compare.specs.Outcomes.{is_fixed, newly_fails}
+use Rattle.redo_compare.specs.Outcomes.{is_fixed, newly_fails, outcome_in}
 
 record Row : Type 0 where
   before : Option Outcome
@@ -85,3 +86,29 @@ these_ends = (
     ),
   ),
 )
+
+-- The node of a log.
+abbrev node : ℕ → Option ℤ → Bool → Node
+node number status fails_below = record {
+  number = number;
+  parent = None;
+  status = status;
+  lines = 3;
+  bytes = 20;
+  warnings = 1;
+  below = 1;
+  children = 1;
+  others = true;
+  warnings_below = 0;
+  fails_below = fails_below;
+  silent = 0;
+  took = None;
+  ended = None;
+}
+
+abbrev nodes : List Node
+nodes = node 4 (Some (pos 2)) true ∷ node 7 (Some (pos 0)) false ∷ node 0 None false ∷ []
+
+these_outcomes : (outcome_in nodes (Some 4) ≡ dependent) × (outcome_in nodes (Some 7) ≡ succeeded) × (outcome_in nodes (Some 0) ≡ unknown)
+    × (outcome_in nodes (Some 1) ≡ None) × (outcome_in nodes None ≡ None)
+these_outcomes = (refl, refl, refl, refl, refl)

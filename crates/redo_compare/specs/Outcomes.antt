@@ -1,5 +1,6 @@
 -- How targets ended, in the baseline and now.
-use Rattle.std.specs.Prelude.{Bool, true, false, not, ◌&&◌, ℤ, pos, zero, Option, None, Some}
+use Rattle.std.specs.Prelude.{ℕ, ◌==◌, Bool, true, false, not, ◌&&◌, ℤ, pos, zero, List, Option, None, Some, option_and_then, option_map, position, slice_get}
+use Rattle.redo_outline.specs.declared.node.Node.{Node}
 use Rattle.redo_outline.specs.Facts.{is_failure}
 use Rattle.redo_compare.specs.declared.outcome.Outcome.{Outcome}
 
@@ -30,3 +31,12 @@ newly_fails before now = is_root_failure now && not (has_failed before)
 -- Whether a target that failed before, without a failure below it, succeeded.
 abbrev pub is_fixed : Option Outcome → Option Outcome → Bool
 is_fixed before now = is_root_failure before && has_succeeded now
+
+abbrev pub outcome_of : Node → Outcome
+outcome_of node = record { status = node.status; fails_below = node.fails_below }
+
+-- How the target of a log ended, as the outline of its build says. There may be no log, or none in the outline.
+abbrev pub outcome_in : List Node → Option ℕ → Option Outcome
+outcome_in nodes None = None
+outcome_in nodes (Some number) =
+    option_map outcome_of (option_and_then (slice_get nodes) (position (λ (node : Node). node.number == number) nodes))

@@ -1,7 +1,7 @@
 //! What is new in a build since an earlier one, the *baseline*: new and gone diagnostics, and targets that newly fail or are fixed.
 //!
 //! [`compare_log`] compares a log of a table with the log of the same target in an earlier table. It says of each diagnostic whether it is
-//! new, and how many are gone. [`newly_fails`] and [`is_fixed`] compare how a target ended.
+//! new, and how many are gone. [`newly_fails`] and [`is_fixed`] compare how a target ended, which [`outcome_in`] takes from an outline.
 //!
 //! [`LogDiagnostics`] has the diagnostics of a log, and [`compare`] compares those of two. Laws say how many diagnostics are new, that none
 //! is if no key occurs more often than before, and that none is since the same build.
@@ -39,4 +39,4 @@ pub use laws::{
     targets_of_one_build, when_nothing_is_new,
 };
 pub use log_changes::{LogChanges, compare_log};
-pub use outcome::{Outcome, is_fixed, newly_fails};
+pub use outcome::{Outcome, is_fixed, newly_fails, outcome_in, outcome_of};

@@ -3,6 +3,8 @@ ghost use Rattle.std.specs.Prelude.{◌≡◌};
 ghost use Rattle.redo_outline.specs.Facts as facts;
 ghost use Rattle.redo_compare.specs.Outcomes as spec;
 
+use redo_outline::{Node, Outline};
+
 /// How a target ended, as far as a capture says.
 #[derive(Clone, Copy, Debug, PartialEq, Eq)]
 pub struct Outcome {
@@ -25,6 +27,25 @@ pub fn is_fixed(before: Option<Outcome>, now: Option<Outcome>) -> bool
     ensures { result ≡ spec.is_fixed before now }
 {
     is_root_failure(before) && has_succeeded(now)
+}
+
+/// Returns how the target of a log ended, as the outline of its build says. `None` means that there is no log, or none in the outline.
+pub fn outcome_in(outline: &Outline, number: Option<u32>) -> Option<Outcome>
+    ensures { result ≡ spec.outcome_in outline.now number }
+{
+    let position = outline.position_of(number?)?;
+    let node = outline.nodes().get(position)?;
+    Some(outcome_of(node))
+}
+
+/// Returns how the target of a node ended.
+pub fn outcome_of(node: &Node) -> Outcome
+    ensures { result ≡ spec.outcome_of node.now }
+{
+    Outcome {
+        status: node.status,
+        fails_below: node.fails_below,
+    }
 }
 
 fn is_root_failure(outcome: Option<Outcome>) -> bool
