@@ -81,6 +81,11 @@ module _ (left front behind : List ℕ) (parts : split_once slash left ≡ Some 
   pub masked-slash : begins_temporary behind ≡ false → masked left ≡ front ++ slash ∷ masked behind
   masked-slash is = masked-step ∙ ap (λ is. front ++ step is) is
 
+  -- If nothing is replaced behind the slash, nothing is replaced at all.
+  pub kept-slash : begins_temporary behind ≡ false → masked behind ≡ behind → masked left ≡ left
+  kept-slash is same =
+      masked-slash is ∙ ap (λ (bs : List ℕ). front ++ slash ∷ bs) same ∙ sym (are_parts slash left (front, behind) parts).whole
+
 -- Short bytes don't begin with such a name.
 pub short_is_none : (bytes : List ℕ) → length bytes ≤ 8 → begins_temporary bytes ≡ false
 short_is_none bytes short = and_right _ _ (ap (λ (byte : ℕ). byte == period) (get_or_past bytes 8 0 short))

@@ -131,11 +131,11 @@ impl Diagnostic {
 pub fn read_diagnostic(alloc: Global, line: &[u8]) -> Result<Option<Diagnostic>, AllocError>
     ensures { IfOk result (λ diagnostic. diagnostic ≡ diagnostic_of line.now) }
 {
-    if memchr(b':', line).is_none() {
-        return Ok(None);
-    }
     if memchr(ESCAPE, line).is_none() {
         return read_plain(alloc, line);
+    }
+    if memchr(b':', line).is_none() {
+        return Ok(None);
     }
     let mut plain = Vec::new(alloc);
     push_plain(line, &mut plain)?;

@@ -1,5 +1,5 @@
 //! The key of a diagnostic.
-ghost use Rattle.std.specs.Prelude.{◌≡◌, ◌++◌, IfOk, codes};
+ghost use Rattle.std.specs.Prelude.{◌≡◌, false, ◌++◌, IfOk, codes};
 ghost use Rattle.std.specs.Char.{is_ascii_alphanumeric};
 ghost use Rattle.std.specs.List.{list_all};
 ghost use Rattle.redo_diagnostics.specs.Diagnostic as spec;
@@ -11,10 +11,24 @@ use std::alloc::{AllocError, Global};
 pub fn key_of(alloc: Global, head: &[u8], tail: &[u8]) -> Result<Vec<u8>, AllocError>
     ensures { IfOk result (λ key. key.items ≡ spec.masked (spec.origin_of head.now ++ codes ": " ++ tail.now)) }
 {
-    let mut bytes = origin_of(head).to_vec(alloc)?;
+    let bytes = whole_key(alloc, origin_of(head), tail)?;
+    if has_temporary(&bytes) {
+        masked(alloc, &bytes)
+    } else {
+        Ok(bytes)
+    }
+}
+
+// Returns the key before names of temporary files are replaced in it. One allocation has all of it.
+fn whole_key(alloc: Global, origin: &[u8], tail: &[u8]) -> Result<Vec<u8>, AllocError>
+    ensures { IfOk result (λ key. key.items ≡ origin.now ++ codes ": " ++ tail.now) }
+{
+    let size = origin.len().saturating_add(tail.len()).saturating_add(2);
+    let mut bytes = Vec::with_capacity(alloc, size)?;
+    bytes.extend_from_slice(origin)?;
     bytes.extend_from_slice(b": ")?;
     bytes.extend_from_slice(tail)?;
-    masked(alloc, &bytes)
+    Ok(bytes)
 }
 
 // Returns what precedes the first colon, if there is one.
@@ -25,6 +39,20 @@ fn origin_of(head: &[u8]) -> &[u8]
         Some((origin, _)) => origin,
         None => b"",
     }
+}
+
+// Returns true unless no name of a temporary file is in a text, which then has nothing to replace.
+fn has_temporary(text: &[u8]) -> bool
+    ensures { result ≡ false → spec.masked text.now ≡ text.now }
+{
+    let mut left = text;
+    'slashes: while let Some((_, behind)) = split_at_first(b'/', left) {
+        if begins_temporary(behind) {
+            return true;
+        }
+        left = behind;
+    }
+    false
 }
 
 // Returns a text in which the random part of each temporary file's name is `*`.

@@ -11,17 +11,17 @@ use Rattle.redo_diagnostics.specs.declared.severity.Severity.TheVariants.{Warnin
 use Rattle.redo_diagnostics.specs.Diagnostic.{PlaceValue}
 use Rattle.redo_json.specs.Diagnostics.{LogDiagnostic, diagnostic_fields, diagnostic_objects, diagnostics_field, diagnostics_of, severity_name}
 use Rattle.redo_json.specs.Fields.{Field, bytes_fields, field, number_value, object_with, optional_bytes_fields}
-use Rattle.redo_json.specs.Private.Parts.{comma_field, comma_fields, comma_if, diagnostic_text, diagnostics_text, field_text}
+use Rattle.redo_json.specs.Private.Parts.{comma_field, comma_fields, comma_if, diagnostic_text, diagnostics_text, field_text, place_text, string_start}
 use Rattle.redo_json.proofs.ObjectLemmas.{then, then_one}
 use Rattle.redo_json.proofs.PrintLemmas.{print_number, print_object, value_then}
 
-abbrev pub file_of : Option PlaceValue → Option (List ℕ)
+abbrev file_of : Option PlaceValue → Option (List ℕ)
 file_of place = option_map (λ (place : PlaceValue). place.file) place
 
-abbrev pub row_of : Option PlaceValue → Option ℕ
+abbrev row_of : Option PlaceValue → Option ℕ
 row_of place = option_map (λ (place : PlaceValue). place.row) place
 
-abbrev pub column_of : Option PlaceValue → Option ℕ
+abbrev column_of : Option PlaceValue → Option ℕ
 column_of place = option_and_then (λ (place : PlaceValue). place.column) place
 
 -- A borrowed value that may not be known.
@@ -47,8 +47,77 @@ pub fatal_text : (severity : Severity) → severity ≡ FatalError → codes ",\
 unfolding escape_byte print_from
 fatal_text severity is = ap severity_field (sym is)
 
+-- A borrowed place that may not be known.
+pub known_place : (value : Option PlaceValue) (result : Option (Bor PlaceValue)) → IfSome result (λ place. value ≡ Some place.now)
+    → IfNone result (value ≡ None) → option_copied result ≡ value
+known_place value None some none = sym none
+known_place value (Some place) some none = sym some
+
+pub flag_start : codes ",\"flag\":\"" ≡ string_start (codes "flag")
+unfolding escape_byte
+flag_start = refl
+
+pub file_start : codes ",\"file\":\"" ≡ string_start (codes "file")
+unfolding escape_byte
+file_start = refl
+
+pub message_start : codes ",\"message\":\"" ≡ string_start (codes "message")
+unfolding escape_byte
+message_start = refl
+
+pub key_start : codes ",\"key\":\"" ≡ string_start (codes "key")
+unfolding escape_byte
+key_start = refl
+
+-- ---- what isn't known
+
+pub no_flag : codes ",\"flag\":null" ≡ comma_fields (optional_bytes_fields (codes "flag") None)
+unfolding escape_byte print_from
+no_flag = refl
+
+pub no_place : codes ",\"file\":null,\"row\":null,\"column\":null" ≡ place_text None
+unfolding escape_byte print_from
+no_place = refl
+
+pub no_column : codes "null" ≡ print (json_tokens (number_value None))
+unfolding print_from
+no_column = refl
+
+-- ---- a place
+
+pub column_is : (column : ℕ) → decimal column ++ [] ≡ print (json_tokens (number_value (Some column)))
+column_is column = append-nil (decimal column) ∙ sym (print_number (decimal column))
+
+-- The row, and the start of the column.
+abbrev pub row_text : ℕ → List ℕ
+row_text row = codes ",\"row\":" ++ (decimal row ++ (codes ",\"column\":" ++ []))
+
+pub place_parts : (place : PlaceValue)
+    → comma_fields (bytes_fields (codes "file") place.file) ++ (row_text place.row ++ print (json_tokens (number_value place.column)))
+    ≡ place_text (Some place)
+unfolding escape_byte
+place_parts place =
+    let column = print (json_tokens (number_value place.column)) in
+    ap (λ (l : List ℕ). comma_fields (bytes_fields (codes "file") place.file) ++ l)
+    (ap (λ (l : List ℕ). codes ",\"row\":" ++ l) (append_assoc (decimal place.row) (codes ",\"column\":") column)
+    ∙ ap (λ (l : List ℕ). codes ",\"row\":" ++ (l ++ (codes ",\"column\":" ++ column))) (sym (print_number (decimal place.row))))
+
 abbrev pub first_text : Bool → ℕ → List ℕ
 first_text is_first position = comma_if is_first ++ (codes "{\"line\":" ++ (decimal position ++ []))
+
+pub first_is : (is_first : Bool) (position : ℕ) (start : List ℕ) → start ≡ comma_if is_first ++ codes "{\"line\":"
+    → start ++ (decimal position ++ []) ≡ first_text is_first position
+first_is is_first position start is =
+    ap (λ (l : List ℕ). l ++ (decimal position ++ [])) is
+    ∙ append_assoc (comma_if is_first) (codes "{\"line\":") (decimal position ++ [])
+
+-- The last member, and the end of the object.
+abbrev pub last_text : ℕ → List ℕ
+last_text nth = comma_field (field (codes "nth") (number (decimal nth))) ++ 125 ∷ []
+
+pub last_is : (nth : ℕ) → codes ",\"nth\":" ++ (decimal nth ++ (125 ∷ [])) ≡ last_text nth
+unfolding escape_byte
+last_is nth = ap (λ (l : List ℕ). codes ",\"nth\":" ++ (l ++ 125 ∷ [])) (sym (print_number (decimal nth)))
 
 module _ (one : LogDiagnostic) where
   abbrev line_field : Field
@@ -81,24 +150,32 @@ module _ (one : LogDiagnostic) where
   abbrev others_text : List ℕ
   others_text =
       comma_field (field (codes "severity") (string (severity_name one.value.severity)))
-      ++ (comma_fields (optional_bytes_fields (codes "file") (file_of one.value.place))
-      ++ (comma_field (field (codes "row") (number_value (row_of one.value.place)))
-      ++ (comma_field (field (codes "column") (number_value (column_of one.value.place)))
+      ++ (place_text one.value.place
       ++ (comma_fields (bytes_fields (codes "message") one.value.message)
       ++ (comma_fields (optional_bytes_fields (codes "flag") one.value.flag)
       ++ (comma_fields (bytes_fields (codes "key") one.value.key)
-      ++ (comma_field (field (codes "nth") (number (decimal one.nth))) ++ 125 ∷ [])))))))
+      ++ last_text one.nth))))
+
+  place_on : (left : List ℕ) → comma_fields message_on ++ 125 ∷ [] ≡ left
+      → comma_fields file_on ++ 125 ∷ [] ≡ place_text one.value.place ++ left
+  place_on left is =
+      let file = comma_fields (optional_bytes_fields (codes "file") (file_of one.value.place)) in
+      let row = comma_field (field (codes "row") (number_value (row_of one.value.place))) in
+      let column = comma_field (field (codes "column") (number_value (column_of one.value.place))) in
+      then (optional_bytes_fields (codes "file") (file_of one.value.place)) row_on (125 ∷ []) _
+      (then_one (field (codes "row") (number_value (row_of one.value.place))) column_on (125 ∷ []) _
+      (then_one (field (codes "column") (number_value (column_of one.value.place))) message_on (125 ∷ []) _ is))
+      ∙ ap (λ (l : List ℕ). file ++ l) (sym (append_assoc row column left))
+      ∙ sym (append_assoc file (row ++ column) left)
 
   others_are : comma_fields severity_on ++ 125 ∷ [] ≡ others_text
   others_are =
       then_one (field (codes "severity") (string (severity_name one.value.severity))) file_on (125 ∷ []) _
-      (then (optional_bytes_fields (codes "file") (file_of one.value.place)) row_on (125 ∷ []) _
-      (then_one (field (codes "row") (number_value (row_of one.value.place))) column_on (125 ∷ []) _
-      (then_one (field (codes "column") (number_value (column_of one.value.place))) message_on (125 ∷ []) _
+      (place_on _
       (then (bytes_fields (codes "message") one.value.message) flag_on (125 ∷ []) _
       (then (optional_bytes_fields (codes "flag") one.value.flag) key_on (125 ∷ []) _
       (then (bytes_fields (codes "key") one.value.key) nth_on (125 ∷ []) _
-      (then_one (field (codes "nth") (number (decimal one.nth))) [] (125 ∷ []) _ refl)))))))
+      (then_one (field (codes "nth") (number (decimal one.nth))) [] (125 ∷ []) _ refl)))))
 
   line_is : codes "{\"line\":" ++ (decimal one.line ++ []) ≡ 123 ∷ field_text line_field
   unfolding escape_byte

@@ -11,7 +11,7 @@ use Rattle.redo_json.specs.Diagnostics.{diagnostics_field}
 use Rattle.redo_json.specs.Fields.{Field, exact_fields, exact_name, field, list_fields, optional_bytes_fields}
 use Rattle.redo_json.specs.Object.{LogValues, number_fields}
 use Rattle.redo_json.specs.Text.{exact_of, text_of}
-use Rattle.redo_json.specs.Private.Parts.{comma_field, comma_fields, commands_part, directory_part, exact_target, field_text, first_part, from_commands, from_directory, from_exact, from_needs, from_numbers, from_parent, front_text, lines_part, needs_part, numbers_part, parent_part}
+use Rattle.redo_json.specs.Private.Parts.{comma_field, comma_fields, commands_part, directory_part, exact_target, field_text, first_part, from_commands, from_directory, from_exact, from_needs, from_numbers, from_parent, front_text, lines_part, needs_part, numbers_part, parent_part, string_start}
 use Rattle.redo_json.proofs.PrintLemmas.{print_object, print_string}
 
 -- Members, other members, and what is after them.
@@ -26,6 +26,14 @@ pub then_one : (one : Field) (others : List Field) (more left : List ℕ) → co
     → comma_fields (one ∷ others) ++ more ≡ comma_field one ++ left
 then_one one others more left is =
     append_assoc (comma_field one) (comma_fields others) more ∙ ap (λ (l : List ℕ). comma_field one ++ l) is
+
+pub parent_start : codes ",\"parent\":\"" ≡ string_start (codes "parent")
+unfolding escape_byte
+parent_start = refl
+
+pub directory_start : codes ",\"directory\":\"" ≡ string_start (codes "directory")
+unfolding escape_byte
+directory_start = refl
 
 module _ (values : LogValues) where
   abbrev last_on : List Field

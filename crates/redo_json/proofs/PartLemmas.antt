@@ -12,7 +12,7 @@ use Rattle.json.specs.Tree.{json_tokens}
 use Rattle.bstr.specs.Utf8.{lossy_chars}
 use Rattle.redo_json.specs.Fields.{Field, bytes_fields, exact_fields, exact_items, exact_list, exact_name, field, object_with, strings}
 use Rattle.redo_json.specs.Text.{base64_of, exact_of, text_of}
-use Rattle.redo_json.specs.Private.Parts.{IsNextExact, comma_field, comma_fields, exact_item, field_text, item_text, items_text}
+use Rattle.redo_json.specs.Private.Parts.{IsNextExact, comma_field, comma_fields, exact_item, field_text, item_text, items_text, string_start}
 use Rattle.redo_json.proofs.EscapeLemmas.{escape-append}
 use Rattle.redo_json.proofs.PrintLemmas.{print_list, print_null, print_number, print_object, print_string}
 
@@ -96,6 +96,14 @@ text_member name bytes is =
     ∙ sym (append-nil (comma_field (field name (string (text_of bytes)))))
     ∙ ap (λ (fields : List Field). comma_field (field name (string (text_of bytes))) ++ comma_fields fields)
     (sym (no_exact (exact_name name) bytes is))
+
+-- The same, from what the member has before the text.
+pub text_member_from : (name start bytes : List ℕ) → start ≡ string_start name → is_utf8 bytes ≡ true
+    → start ++ (escape bytes ++ 34 ∷ []) ≡ comma_fields (bytes_fields name bytes)
+text_member_from name start bytes starts is =
+    ap (λ (l : List ℕ). l ++ (escape bytes ++ 34 ∷ [])) starts
+    ∙ ap (λ (l : List ℕ). 44 ∷ 34 ∷ l) (append_assoc (escape name) (34 ∷ 58 ∷ 34 ∷ []) (escape bytes ++ 34 ∷ []))
+    ∙ text_member name bytes is
 
 pub exact_member : (name bytes : List ℕ) → is_utf8 bytes ≡ false
     → 44 ∷ 34 ∷ (escape name ++ (codes "_base64\":" ++ (quoted (base64_of bytes) ++ [])))

@@ -1,16 +1,16 @@
 //! The member of an object with the diagnostics of a log.
-ghost use Rattle.std.specs.Prelude.{◌≡◌, true, codes, option_and_then, option_copied, option_map};
+ghost use Rattle.std.specs.Prelude.{◌≡◌, ◌++◌, Some, true, codes, option_copied};
 ghost use Rattle.json.specs.Json.{string};
+ghost use Rattle.json.specs.Print.{print};
+ghost use Rattle.json.specs.Tree.{json_tokens};
 ghost use Rattle.redo_device.specs.Sink.{Writes};
 ghost use Rattle.redo_outline.specs.Facts.{entries_at, texts_of};
 ghost use Rattle.redo_view.specs.Form.{FormWrites};
-ghost use Rattle.redo_diagnostics.specs.Diagnostic.{PlaceValue};
 ghost use Rattle.redo_json.specs.Diagnostics.{diagnostics_field, diagnostics_of, severity_name};
-ghost use Rattle.redo_json.specs.Fields.{field};
-ghost use Rattle.redo_json.specs.Private.Parts.{comma_field, diagnostic_text, diagnostics_text};
+ghost use Rattle.redo_json.specs.Fields.{field, number_value, optional_bytes_fields};
+ghost use Rattle.redo_json.specs.Private.Parts.{comma_field, comma_fields, comma_if, diagnostic_text, diagnostics_text, place_text};
 
-use crate::field::{write_bytes, write_number, write_optional_bytes};
-use crate::list::comma_after;
+use crate::field::write_bytes;
 use crate::log_lines::LogLines;
 use crate::part::{Part, write_parts};
 use redo_device::{Broken, Sink, push_all};
@@ -72,24 +72,37 @@ fn write_diagnostic<W: Sink>(
     ensures { Writes (W.written out.old) (W.written out.new)
         (diagnostic_text is_first (record { line = position; value = diagnostic.now; nth = nth })) result }
 {
-    let place = place_of(diagnostic);
     write_parts(
         &[
-            Part::Json(comma_after(is_first)),
-            Part::Json(b"{\"line\":"),
+            Part::Json(object_start(is_first)),
             Part::Number(position as u64),
         ],
         out,
     )?;
     write_severity(diagnostic.severity(), out)?;
-    write_optional_bytes(b"file", place.file, out)?;
-    write_number(b"row", place.row, out)?;
-    write_number(b"column", place.column, out)?;
-    write_bytes(b"message", diagnostic.message(), out)?;
-    write_optional_bytes(b"flag", diagnostic.flag(), out)?;
-    write_bytes(b"key", diagnostic.key(), out)?;
-    write_number(b"nth", Some(nth), out)?;
-    push_all(out, b"}")
+    write_place(diagnostic.place(), out)?;
+    write_bytes(b"message", b",\"message\":\"", diagnostic.message(), out)?;
+    write_flag(diagnostic.flag(), out)?;
+    write_bytes(b"key", b",\"key\":\"", diagnostic.key(), out)?;
+    write_parts(
+        &[
+            Part::Json(b",\"nth\":"),
+            Part::Number(nth),
+            Part::Json(b"}"),
+        ],
+        out,
+    )
+}
+
+// Returns the start of a diagnostic's object up to the position of its line, with the comma before an object that isn't the first one.
+fn object_start(is_first: bool) -> &'static [u8]
+    ensures { result.now ≡ comma_if is_first ++ codes "{\"line\":" }
+{
+    if is_first {
+        b"{\"line\":"
+    } else {
+        b",{\"line\":"
+    }
 }
 
 fn write_severity<W: Sink>(severity: Severity, out: &mut W) -> Result<(), Broken>
@@ -103,38 +116,47 @@ fn write_severity<W: Sink>(severity: Severity, out: &mut W) -> Result<(), Broken
     }
 }
 
-// The place of a diagnostic. What isn't known is `None`.
-#[derive(Clone, Copy)]
-pub struct KnownPlace<'a> {
-    pub file: Option<&'a [u8]>,
-    pub row: Option<u64>,
-    pub column: Option<u64>,
-}
-
-fn place_of(diagnostic: &Diagnostic) -> KnownPlace<'_>
-    ensures file { option_copied result.file ≡ option_map (λ (place : PlaceValue). place.file) diagnostic.now.place }
-    ensures row { result.row ≡ option_map (λ (place : PlaceValue). place.row) diagnostic.now.place }
-    ensures column { result.column ≡ option_and_then (λ (place : PlaceValue). place.column) diagnostic.now.place }
+// Writes the members with the place of a diagnostic. What isn't known is `null`.
+fn write_place<W: Sink>(place: Option<&Place>, out: &mut W) -> Result<(), Broken>
+    ensures { Writes (W.written out.old) (W.written out.new) (place_text (option_copied place.entry)) result }
 {
-    match diagnostic.place() {
-        Some(place) => KnownPlace {
-            file: Some(place.file()),
-            row: Some(place.row() as u64),
-            column: column_of(place),
-        },
-        None => KnownPlace {
-            file: None,
-            row: None,
-            column: None,
-        },
+    match place {
+        None => push_all(out, b",\"file\":null,\"row\":null,\"column\":null"),
+        Some(place) => write_known_place(place, out),
     }
 }
 
-fn column_of(place: &Place) -> Option<u64>
-    ensures { result ≡ place.now.column }
+fn write_known_place<W: Sink>(place: &Place, out: &mut W) -> Result<(), Broken>
+    ensures { Writes (W.written out.old) (W.written out.new) (place_text (Some place.now)) result }
 {
-    match place.column() {
-        Some(column) => Some(column as u64),
-        None => None,
+    write_bytes(b"file", b",\"file\":\"", place.file(), out)?;
+    write_parts(
+        &[
+            Part::Json(b",\"row\":"),
+            Part::Number(place.row() as u64),
+            Part::Json(b",\"column\":"),
+        ],
+        out,
+    )?;
+    write_column(place.column(), out)
+}
+
+fn write_column<W: Sink>(column: Option<u32>, out: &mut W) -> Result<(), Broken>
+    ensures { Writes (W.written out.old) (W.written out.new) (print (json_tokens (number_value column))) result }
+{
+    match column {
+        None => push_all(out, b"null"),
+        Some(column) => write_parts(&[Part::Number(column as u64)], out),
+    }
+}
+
+// Writes the member with the flag of a diagnostic, or `null`.
+fn write_flag<'a, W: Sink>(flag: Option<&'a [u8]>, out: &mut W) -> Result<(), Broken>
+    ensures { Writes (W.written out.old) (W.written out.new)
+        (comma_fields (optional_bytes_fields (codes "flag") (option_copied flag.entry))) result }
+{
+    match flag {
+        None => push_all(out, b",\"flag\":null"),
+        Some(flag) => write_bytes(b"flag", b",\"flag\":\"", flag, out),
     }
 }

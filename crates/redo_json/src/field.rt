@@ -3,7 +3,7 @@ ghost use Rattle.std.specs.Prelude.{◌≡◌, option_copied};
 ghost use Rattle.redo_device.specs.Sink.{Writes};
 ghost use Rattle.redo_json.specs.Fields.{bytes_fields, exact_fields, exact_name, field, number_value, optional_bytes_fields, signed_value};
 ghost use Rattle.redo_json.specs.Text.{exact_of};
-ghost use Rattle.redo_json.specs.Private.Parts.{comma_field, comma_fields};
+ghost use Rattle.redo_json.specs.Private.Parts.{comma_field, comma_fields, string_start};
 ghost use Rattle.json.specs.Json.{null, number};
 ghost use Rattle.std.specs.Fmt.{signed_decimal};
 ghost use Rattle.std.specs.Str.{is_utf8};
@@ -11,19 +11,20 @@ ghost use Rattle.std.specs.Str.{is_utf8};
 use crate::part::{Part, write_parts};
 use redo_device::{Broken, Sink};
 
-/// Writes a member with bytes, and another one with the exact bytes if their text doesn't have them.
-pub fn write_bytes<'a, W: Sink>(name: &'a [u8], bytes: &'a [u8], out: &mut W) -> Result<(), Broken>
+/// Writes a member with bytes, and another one with the exact bytes if their text doesn't have them. `start` is what the member has
+/// before the text.
+pub fn write_bytes<'a, W: Sink>(
+    name: &'a [u8],
+    start: &'a [u8],
+    bytes: &'a [u8],
+    out: &mut W,
+) -> Result<(), Broken>
+    requires { start.now ≡ string_start name.now }
     ensures { Writes (W.written out.old) (W.written out.new) (comma_fields (bytes_fields name.now bytes.now)) result }
 {
     if is_text(bytes) {
         return write_parts(
-            &[
-                Part::Json(b",\""),
-                Part::Escaped(name),
-                Part::Json(b"\":\""),
-                Part::Escaped(bytes),
-                Part::Json(b"\""),
-            ],
+            &[Part::Json(start), Part::Escaped(bytes), Part::Json(b"\"")],
             out,
         );
     }
@@ -65,18 +66,20 @@ pub fn is_text(bytes: &[u8]) -> bool
     simdutf8::is_utf8(bytes)
 }
 
-/// Writes a member with bytes, or `null` if they are not known.
+/// Writes a member with bytes, or `null` if they are not known. `start` is what the member has before the text.
 pub fn write_optional_bytes<'a, W: Sink>(
     name: &'a [u8],
+    start: &'a [u8],
     bytes: Option<&'a [u8]>,
     out: &mut W,
 ) -> Result<(), Broken>
+    requires { start.now ≡ string_start name.now }
     ensures { Writes (W.written out.old) (W.written out.new)
         (comma_fields (optional_bytes_fields name.now (option_copied bytes.entry))) result }
 {
     match bytes {
         None => write_null(name, out),
-        Some(bytes) => write_bytes(name, bytes, out),
+        Some(bytes) => write_bytes(name, start, bytes, out),
     }
 }
 

@@ -68,9 +68,9 @@ fn write_front<W: Sink>(log: &LogObject<'_>, out: &mut W) -> Result<(), Broken>
 {
     write_parts(&[Part::Json(b"{\"target\":"), Part::Text(log.target)], out)?;
     write_exact(b"target", log.target, out)?;
-    write_optional_bytes(b"parent", log.parent, out)?;
+    write_optional_bytes(b"parent", b",\"parent\":\"", log.parent, out)?;
     write_numbers(log, out)?;
-    write_optional_bytes(b"directory", log.directory, out)?;
+    write_optional_bytes(b"directory", b",\"directory\":\"", log.directory, out)?;
     write_list(b"commands", log.commands, out)?;
     write_list(b"needs", log.needs, out)?;
     write_lines(b"lines", log.table, log.number, out)

@@ -1,5 +1,5 @@
 -- The postconditions of the writers of objects.
-use Rattle.std.specs.Prelude.{◌≡◌, ℕ, ◌+◌, ◌<◌, ◌≤◌, Bool, false, List, [], ◌∷◌, ◌++◌, length, drop, get_or, codes, decimal, if◌then◌else◌}
+use Rattle.std.specs.Prelude.{◌≡◌, ℕ, ◌+◌, ◌<◌, ◌≤◌, Bool, false, List, [], ◌∷◌, ◌++◌, Option, option_and_then, option_map, length, drop, get_or, codes, decimal, if◌then◌else◌}
 use Rattle.std.specs.Fmt.{signed_decimal}
 use Rattle.std.specs.List.{flat_map}
 use Rattle.json.specs.Json.{string}
@@ -7,8 +7,9 @@ use Rattle.json.specs.Print.{escape, print, quoted}
 use Rattle.json.specs.Tree.{json_tokens}
 use Rattle.redo_json.specs.declared.part.Part.{Part}
 use Rattle.redo_json.specs.declared.part.Part.TheVariants.{Base64, Escaped, Json, Number, Position, Signed, Text}
+use Rattle.redo_diagnostics.specs.Diagnostic.{PlaceValue}
 use Rattle.redo_json.specs.Diagnostics.{LogDiagnostic, diagnostic_fields}
-use Rattle.redo_json.specs.Fields.{Field, exact_fields, exact_items, exact_name, field, list_fields, object_with, optional_bytes_fields}
+use Rattle.redo_json.specs.Fields.{Field, exact_fields, exact_items, exact_name, field, list_fields, number_value, object_with, optional_bytes_fields}
 use Rattle.redo_json.specs.Object.{LogValues, number_fields}
 use Rattle.redo_json.specs.Text.{base64_of, exact_of, text_of}
 
@@ -32,6 +33,10 @@ comma_field one = 44 ∷ field_text one
 abbrev pub comma_fields : List Field → List ℕ
 comma_fields fields = flat_map comma_field fields
 
+-- What a member with a string has before the string's first byte.
+abbrev pub string_start : List ℕ → List ℕ
+string_start name = 44 ∷ 34 ∷ (escape name ++ (34 ∷ 58 ∷ 34 ∷ []))
+
 -- An item of a list, with the comma before it.
 abbrev pub item_text : Bool → List ℕ → List ℕ
 item_text is_first bytes = (if is_first then [] else 44 ∷ []) ++ quoted (text_of bytes)
@@ -54,6 +59,13 @@ pub record IsNextExact (list : List (List ℕ)) (from at : ℕ) : Type 0 where
 -- A comma, unless it would be before the first item.
 abbrev pub comma_if : Bool → List ℕ
 comma_if is_first = if is_first then [] else 44 ∷ []
+
+-- The members with the place of a diagnostic, as they are printed.
+abbrev pub place_text : Option PlaceValue → List ℕ
+place_text place =
+    comma_fields (optional_bytes_fields (codes "file") (option_map (λ (place : PlaceValue). place.file) place))
+    ++ (comma_field (field (codes "row") (number_value (option_map (λ (place : PlaceValue). place.row) place)))
+    ++ comma_field (field (codes "column") (number_value (option_and_then (λ (place : PlaceValue). place.column) place))))
 
 -- The object of a diagnostic, with the comma before it.
 abbrev pub diagnostic_text : Bool → LogDiagnostic → List ℕ

@@ -6,11 +6,12 @@ use Rattle.redo_diagnostics.proofs.ReadLemmas.{of_line, of_no_colon, of_plain}
 use Rattle.redo_diagnostics.proofs.diagnostic.read_diagnostic.Goals as goal
 
 pub returns-then-is_none : goal.returns-then-is_none
-returns-then-is_none c = of_no_colon c.args.line.now c.memchr.result c.memchr.ensures (c.is_none.ensures ∙ ap not c.if-is_none.true)
+returns-then-is_none c = subst (λ (value : Option DiagnosticValue). IfOk c.read_plain.result (λ diagnostic. diagnostic ≡ value))
+    (of_line c.args.line.now c.memchr.result c.memchr.ensures (c.is_none.ensures ∙ ap not c.if-is_none.true)) c.read_plain.ensures
 
 pub returns-then-is_none-2 : goal.returns-then-is_none-2
-returns-then-is_none-2 c = subst (λ (value : Option DiagnosticValue). IfOk c.read_plain.result (λ diagnostic. diagnostic ≡ value))
-    (of_line c.args.line.now c.memchr-2.result c.memchr-2.ensures (c.is_none-2.ensures ∙ ap not c.if-is_none-2.true)) c.read_plain.ensures
+returns-then-is_none-2 c =
+    of_no_colon c.args.line.now c.memchr-2.result c.memchr-2.ensures (c.is_none-2.ensures ∙ ap not c.if-is_none-2.true)
 
 pub returns : goal.returns
 returns c = subst (λ (value : Option DiagnosticValue). IfOk c.read_plain-2.result (λ diagnostic. diagnostic ≡ value))

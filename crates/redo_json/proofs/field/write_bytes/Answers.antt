@@ -4,7 +4,7 @@ use Rattle.redo_device.proofs.WritesLemmas.{at_first, at_last}
 use Rattle.redo_json.specs.Fields.{bytes_fields, exact_fields, exact_name, field}
 use Rattle.redo_json.specs.Text.{exact_of, text_of}
 use Rattle.redo_json.specs.Private.Parts.{comma_field, comma_fields}
-use Rattle.redo_json.proofs.PartLemmas.{named_string, text_member}
+use Rattle.redo_json.proofs.PartLemmas.{named_string, text_member_from}
 use Rattle.redo_json.proofs.WritingLemmas.{writes_as}
 use Rattle.redo_json.proofs.field.write_bytes.Goals as goal
 
@@ -12,8 +12,8 @@ pub returns-then-is_text : goal.returns-then-is_text
 returns-then-is_text g c =
     let name = c.args.name.now in
     let bytes = c.args.bytes.now in
-    writes_as _ _ _ (comma_fields (bytes_fields name bytes)) _ (text_member name bytes (sym c.is_text.ensures ∙ c.if-is_text.true))
-    c.write_parts.ensures
+    writes_as _ _ _ (comma_fields (bytes_fields name bytes)) _
+    (text_member_from name c.args.start.now bytes c.requires (sym c.is_text.ensures ∙ c.if-is_text.true)) c.write_parts.ensures
 
 pub returns-in_err-write_parts : goal.returns-in_err-write_parts
 returns-in_err-write_parts g c =

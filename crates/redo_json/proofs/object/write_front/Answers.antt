@@ -2,7 +2,14 @@ use Rattle.std.proofs.Common.{refl}
 use Rattle.redo_json.specs.Private.Parts.{commands_part, directory_part, exact_target, first_part, from_commands, from_directory, from_exact, from_needs, from_numbers, from_parent, front_text, lines_part, needs_part, numbers_part, parent_part}
 use Rattle.redo_json.specs.Private.Values.{values_of}
 use Rattle.redo_json.proofs.WritingLemmas.{begin, failed_part, wrote_more, wrote_rest}
+use Rattle.redo_json.proofs.ObjectLemmas.{directory_start, parent_start}
 use Rattle.redo_json.proofs.object.write_front.Goals as goal
+
+pub write_optional_bytes-requires : goal.write_optional_bytes-requires
+write_optional_bytes-requires g c = parent_start
+
+pub write_optional_bytes-requires-2 : goal.write_optional_bytes-requires-2
+write_optional_bytes-requires-2 g c = directory_start
 
 pub returns-in_err-write_parts : goal.returns-in_err-write_parts
 returns-in_err-write_parts g c =
