@@ -12,7 +12,7 @@ pub fn plain_len(bytes: &[u8]) -> usize
     ensures { ArePlain bytes.now result }
 {
     let len = plain_strides_len(bytes);
-    if ends_with_plain_stride(bytes, len) {
+    if bytes.len() - len < STRIDE && ends_with_plain_stride(bytes, len) {
         return bytes.len();
     }
     len + plain_bytes_len(&bytes[len..])
