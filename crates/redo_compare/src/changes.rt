@@ -19,9 +19,10 @@ pub struct Changes {
 
 /// Compares the diagnostics of a target in two builds. A build that has no log of the target has none, and then nothing is gone.
 ///
-/// Keys and source lines are hashed with `keys`. If these are random, only pairs of a key and a source line that are equal when joined
-/// can be chosen to collide, at most one for each of their bytes. For n occurrences this takes O(n) look-ups. It allocates up to some
-/// 250 bytes for each occurrence, and copies no key. The only error is that an allocation failed.
+/// Keys and source lines are hashed with `keys`. If these are random, nobody can choose diagnostics that collide, except a key and a source
+/// line which are equal to others when joined. Each text can be split into as many such pairs as it has bytes. For n occurrences this
+/// takes O(n) look-ups. It allocates up to some 250 bytes for each occurrence, and copies no key. The only error is that an allocation
+/// failed.
 pub fn compare<'a>(
     alloc: Global,
     keys: HashKeys,

@@ -8,8 +8,8 @@ ghost use Rattle.redo_compare.specs.LogChanges.{are_new, diagnostics_in, earlier
 ghost use Rattle.redo_compare.specs.Occurrences.{OccurrenceValue};
 ghost use Rattle.redo_compare.specs.Rounds.{new_since, picked};
 
-/// Of each key, as many diagnostics are new as there are more than before. So neither the order of diagnostics nor code that moves within its file
-/// changes this number.
+/// Of each key, as many diagnostics are new as there are more than before. So neither the order of diagnostics nor code that moves within
+/// its file changes this number.
 pub fn new_are_counted()
     ensures { (earlier now : List OccurrenceValue) (key : List ℕ) →
         key_count key (new_since earlier now) ≡ key_count key now - key_count key earlier }

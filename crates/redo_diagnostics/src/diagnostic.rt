@@ -142,8 +142,8 @@ pub fn read_diagnostic(alloc: Global, line: &[u8]) -> Result<Option<Diagnostic>,
     read_plain(alloc, &plain)
 }
 
-/// Returns true unless none of these lines is a diagnostic. Each line ends with a line feed. It allocates nothing, and takes much less time
-/// than [`read_diagnostic`] for each line.
+/// Returns false only if none of these lines is a diagnostic. Each line ends with a line feed. How often it returns true changes only the
+/// speed of callers. It allocates nothing, and takes much less time than [`read_diagnostic`] for each line.
 pub fn may_have_diagnostic(lines: &[u8]) -> bool
     ensures { result ≡ false → AllByRecursion (λ line. diagnostic_of line ≡ None) (ended lines.now) }
 {

@@ -13,8 +13,9 @@
 //!   Otherwise `warning:y warning: z` and `warning: warning: z` would have the same key.
 //! - What precedes the word doesn't count without a colon. It names no file and no program, and is often a number that changes: of a
 //!   step (`[ 3%] warning: x`), or of a row that a compiler quotes.
-//! - Pages use wider definitions, by which people miss less. `redo_outline` counts each line with `warning:`, such as `x.c:3:warning: y`.
-//!   `redo_page` also takes lines of shells, tests and make for causes. Neither copies a line to remove its colours.
+//! - Pages use other definitions, by which people miss less. `redo_outline` counts each line with `warning:`, such as `x.c:3:warning: y`,
+//!   and `redo_page` also takes lines of shells, tests and make for causes. Neither copies a line to remove its colours, so a word that
+//!   has sequences inside isn't found.
 #![tactic(auto)]
 
 mod counts;

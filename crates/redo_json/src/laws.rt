@@ -47,15 +47,16 @@ pub fn objects_are_read()
         AreReadBack (build_json request logs requested) (build_values request logs requested) }
 {}
 
-/// The numbers of a build's objects are below 2^53 if its times are in their range, its facts and the statuses in its logs have as many digits
-/// as lines and records may have, and no log has more than 2^53 entries.
+/// The numbers of a build's objects are below 2^53 if its times are in their range, its facts and the statuses in its logs have as many
+/// digits as lines and records may have, and no log has more than 2^53 entries.
 pub fn numbers_are_exact()
     ensures { (request : Request) (logs : List Log) (requested : List (List ℕ)) → HasExactInputs request logs →
         AllByRecursion HasExactNumbers (build_values request logs requested) }
 {}
 
 /// There is an object for each log that is opened for the requested targets, in this order, if each of these targets has a log. No two
-/// objects have the same target. Each target that has a log has an object if all targets are requested ([`every_target`](crate::every_target)).
+/// objects have the same target. Each target that has a log has an object if all targets are requested
+/// ([`every_target`](crate::every_target)).
 pub fn each_log_has_one_object()
     ensures opened { (request : Request) (logs : List Log) (requested : List (List ℕ)) → find_unknown logs requested ≡ None →
         targets_in (build_values request logs requested) ≡ opened_for logs (options_of request) requested }
@@ -97,7 +98,7 @@ pub fn needs_are_mentioned()
     ensures own { (target : List ℕ) (entries : List Entry) → times_of target (needs_of target entries) ≡ 0 }
 {}
 
-/// An object has the diagnostics of all lines, in order, each with the position of its line. The law `ids_are_distinct` of
+/// An object has the diagnostics of all lines, in order, each with the position of a line that is it. The law `ids_are_distinct` of
 /// `redo_diagnostics` is about their keys and numbers.
 pub fn diagnostics_are_of_lines()
     ensures all { (lines : List (List ℕ)) → found_values (diagnostics_of lines) ≡ filter_map diagnostic_of lines }
