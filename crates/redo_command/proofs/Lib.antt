@@ -1,4 +1,6 @@
 mod ArgumentRows
+pub mod BaselineLemmas
+mod BaselineRows
 mod ExplanationRows
 pub mod FactLemmas
 mod FileLemmas

@@ -12,10 +12,12 @@ use Rattle.redo_index.specs.Index.{listed_targets, numbers_of}
 use Rattle.redo_line.specs.declared.stream_fault.StreamFault.{StreamFault}
 use Rattle.redo_line.specs.declared.stream_fault.StreamFault.TheVariants as stream
 use Rattle.redo_run.specs.declared.run_fault.RunFault.TheVariants as run
+use Rattle.redo_command.specs.declared.baseline_fault.BaselineFault.{BaselineFault}
+use Rattle.redo_command.specs.declared.baseline_fault.BaselineFault.TheVariants as baseline
 use Rattle.redo_command.specs.declared.error_keeper.WriteError.{WriteError}
 use Rattle.redo_command.specs.declared.error_keeper.WriteError.TheVariants.{ClosedPipe, NoSpace, Other, QuotaExceeded}
 use Rattle.redo_command.specs.declared.failure.Failure.{Failure}
-use Rattle.redo_command.specs.declared.failure.Failure.TheVariants.{Index, Memory, NamesMissing, NamesRead, Run, Words}
+use Rattle.redo_command.specs.declared.failure.Failure.TheVariants.{Baseline, Index, Memory, NamesMissing, NamesRead, Run, Words}
 use Rattle.redo_command.specs.Failure.{message_line}
 
 -- ---- a path for a shell
@@ -81,6 +83,11 @@ write_remedy (Some Other) = []
 
 -- ---- the file `names`
 
+-- The remedy if `names` can't be read.
+abbrev pub unreadable_names : List ℕ → List ℕ
+unreadable_names dir =
+    codes "not readable: " ++ names_word dir ++ codes "; it must be a file of at most 1073741824 bytes that you may read"
+
 -- The command that removes this line from `names`.
 abbrev pub leave_line_out : List ℕ → ℕ → List ℕ
 leave_line_out dir line = codes "leave this line out: sed -i " ++ decimal line ++ codes "d " ++ names_word dir
@@ -119,16 +126,25 @@ stream_remedy dir position number stream.Read = read_remedy dir position number
 stream_remedy dir position number stream.OutOfMemory = memory_remedy
 stream_remedy dir position number other = leave_out dir number
 
+-- ---- a baseline
+
+-- The remedy for a fault of the baseline with this directory.
+abbrev pub baseline_remedy : List ℕ → BaselineFault → List ℕ
+baseline_remedy dir baseline.NamesMissing =
+    codes "no file " ++ names_word dir ++ codes "; --baseline takes the capture directory of an earlier build"
+baseline_remedy dir baseline.NamesRead = unreadable_names dir
+baseline_remedy dir (baseline.Index fault) = index_remedy dir fault
+baseline_remedy dir (baseline.Log position number fault) = stream_remedy dir position number fault
+
 -- ---- any failure
 
--- The remedy for a failure to show logs: empty if none is known. `write_error` is the error of the last failed write, if there was
--- one.
+-- The remedy for a failure to show logs: empty if none is known. `dir` is the capture directory that the failure is about.
+-- `write_error` is the error of the last failed write, if there was one.
 abbrev pub remedy : List ℕ → Option WriteError → List IndexEntry → List (List ℕ) → Failure → List ℕ
 remedy dir write_error index arguments (Words fault) = []
 remedy dir write_error index arguments NamesMissing =
     codes "no file " ++ names_word dir ++ codes "; without --dir DIR, a capture is looked for here, in .redo-log and in capture"
-remedy dir write_error index arguments NamesRead =
-    codes "not readable: " ++ names_word dir ++ codes "; it must be a file of at most 1073741824 bytes that you may read"
+remedy dir write_error index arguments NamesRead = unreadable_names dir
 remedy dir write_error index arguments (Index fault) = index_remedy dir fault
 remedy dir write_error index arguments (Run (run.Unknown place)) =
     unknown_remedy dir (length index) (suggestions (get_or arguments place []) (listed_targets index))
@@ -137,13 +153,15 @@ remedy dir write_error index arguments (Run (run.Stream position fault)) =
 remedy dir write_error index arguments (Run run.OutOfMemory) = memory_remedy
 remedy dir write_error index arguments (Run run.Write) = write_remedy write_error
 remedy dir write_error index arguments Memory = memory_remedy
+remedy dir write_error index arguments (Baseline fault) = baseline_remedy dir fault
 
 -- A line with this text; nothing without one.
 abbrev pub explanation_line : List ℕ → List ℕ → List ℕ
 explanation_line program [] = []
 explanation_line program (byte ∷ text) = message_line program (byte ∷ text)
 
--- The explanation of a program for a failure to show logs. `dir` is the capture directory, and `arguments` request targets of its index.
+-- The explanation of a program for a failure to show logs. `dir` is the capture directory that the failure is about, and `arguments`
+-- request targets of the index.
 abbrev pub explanation_as : List ℕ → List ℕ → Option WriteError → List IndexEntry → List (List ℕ) → Failure → List ℕ
 explanation_as program dir write_error index arguments failure = explanation_line program (remedy dir write_error index arguments failure)
 

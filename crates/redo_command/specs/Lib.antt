@@ -1,7 +1,9 @@
+pub mod Baseline
 pub mod Explanation
 pub mod Facts
 pub mod Failure
 pub mod Job
+pub mod Laws
 pub mod LogFile
 pub mod Logs
 pub mod NamesFile

@@ -3,6 +3,7 @@ use Rattle.std.specs.Prelude.{◌≡◌, ◌⊎◌, ℕ, List, [], ◌∷◌, Op
 use Rattle.redo_device.specs.Feed.{Stream}
 use Rattle.redo_device.specs.Sink.{Output}
 use Rattle.redo_logs.specs.Logs.{Log}
+use Rattle.redo_gather.specs.Streams.{KnownInput}
 use Rattle.redo_index.specs.declared.index_entry.IndexEntry.{IndexEntry}
 use Rattle.redo_index.specs.Index.{listed_targets, numbers_of}
 use Rattle.redo_view.specs.Written.{WroteAll, WroteNothing, WrotePrefix, WroteUntilFailed}
@@ -10,7 +11,7 @@ use Rattle.redo_run.specs.declared.run_fault.RunFault.{RunFault}
 use Rattle.redo_run.specs.declared.run_fault.RunFault.TheVariants.{Unknown, Stream as OfStream, OutOfMemory, Write}
 use Rattle.redo_run.specs.Rendered.{IsSomeRenderedFault, RenderCall, SomeRenderedText}
 use Rattle.redo_command.specs.declared.failure.Failure.{Failure}
-use Rattle.redo_command.specs.declared.failure.Failure.TheVariants.{Run}
+use Rattle.redo_command.specs.declared.failure.Failure.TheVariants.{Memory, Run}
 use Rattle.redo_command.specs.NamesFile.{byte_limit}
 
 -- The known stream of the log with a number, if all logs are files: none.
@@ -32,6 +33,10 @@ AllGive [] [] = Unit {0}
 AllGive (known ∷ logs) (contents ∷ readers) = Gives known contents × AllGive logs readers
 AllGive logs readers = ⊥
 
+-- What is known of the streams of the logs that an index lists, in order, and whether each log must be closed.
+abbrev pub listed_inputs : (ℕ → Option Stream) → List IndexEntry → List KnownInput
+listed_inputs known index = map (λ entry. record { must_close = entry.must_close; stream = known entry.number }) index
+
 -- A call of `run_as` with the readers of the logs that an index lists.
 abbrev pub logs_call : (ℕ → Option Stream) → (List Log → List (List ℕ) → List ℕ) → List IndexEntry → List (List ℕ) → RenderCall
 logs_call known text index arguments = record {
@@ -39,7 +44,7 @@ logs_call known text index arguments = record {
   targets = listed_targets index;
   max_bytes = byte_limit;
   arguments = arguments;
-  inputs = map (λ entry. record { must_close = entry.must_close; stream = known entry.number }) index;
+  inputs = listed_inputs known index;
 }
 
 -- The output of a run, by its result and the known output of the writer before and after: the whole text of the call, or a prefix
@@ -52,8 +57,9 @@ IsRunWritten call before after (Err (OfStream number fault)) = IsSomeRenderedFau
 IsRunWritten call before after (Err OutOfMemory) = WroteNothing before after ⊎ SomeRenderedText call (WrotePrefix before after)
 IsRunWritten call before after (Err Write) = SomeRenderedText call (WroteUntilFailed before after)
 
--- The output of a run, for a result that may also be a failure before the run. After such a failure, nothing was written.
+-- The output of a run, for a result that may also be that memory ran out before the run. Then nothing was written.
 abbrev pub IsWriteResult : RenderCall → Option Output → Option Output → Result (Unit {0}) Failure → Type 0
 IsWriteResult call before after (Ok done) = IsRunWritten call before after (Ok done)
 IsWriteResult call before after (Err (Run fault)) = IsRunWritten call before after (Err fault)
-IsWriteResult call before after (Err other) = WroteNothing before after
+IsWriteResult call before after (Err Memory) = WroteNothing before after
+IsWriteResult call before after (Err other) = ⊥

@@ -6,12 +6,13 @@ ghost use Rattle.std.specs.Prelude.{◌≡◌, ◌≤◌, ◌<◌, ◌++◌, ◌
 ghost use Rattle.std.specs.List.{flat_map};
 ghost use Rattle.std.specs.String.{string_bytes};
 ghost use Rattle.redo_args.specs.Rejection.{rejection};
-ghost use Rattle.redo_command.specs.Explanation.{ending_with, explanation_as, explanation_line, fault_explanation_as, file_word, index_remedy, leave_line_out, leave_out, listed, memory_remedy, names_word, open_logs, outcome_explanation_as, quoted_byte, read_remedy, rejection_explanation, remedy, stream_remedy, suggestions, targets_remedy, unknown_remedy, unreadable_log, arguments_explanation, write_remedy};
+ghost use Rattle.redo_command.specs.Explanation.{baseline_remedy, ending_with, explanation_as, explanation_line, fault_explanation_as, file_word, index_remedy, leave_line_out, leave_out, listed, memory_remedy, names_word, open_logs, outcome_explanation_as, quoted_byte, read_remedy, rejection_explanation, remedy, stream_remedy, suggestions, targets_remedy, unknown_remedy, unreadable_log, unreadable_names, arguments_explanation, write_remedy};
 ghost use Rattle.redo_command.specs.Private.Suggested.{after_comma};
 ghost use Rattle.redo_command.specs.Failure.{IfStreamFailure, IfUnknownFailure, IsReportable};
 ghost use Rattle.redo_index.specs.Index.{listed_targets, numbers_of};
 ghost use Rattle.redo_options.specs.Arguments.{argument_bytes};
 
+use crate::baseline_fault::BaselineFault;
 use crate::directory::Shown;
 use crate::error_keeper::WriteError;
 use crate::failure::Failure;
@@ -159,7 +160,8 @@ pub fn outcome_explanation_as(
 
 /// Returns what to do about a failure to show logs: one line, with its line feed, that begins with the program's name.
 /// It says which file `names` is missing, which targets may be meant, how many there are, or which command leaves a damaged
-/// log out. It is empty if no remedy is known. `dir` is the capture directory. The rest is as for [`crate::fault_line_as`].
+/// log out. It is empty if no remedy is known. `dir` is the capture directory that the failure is about. The rest is as for
+/// [`crate::fault_line_as`].
 pub fn explanation_as(
     alloc: Global,
     program: &str,
@@ -210,18 +212,47 @@ fn remedy(
             dir,
             b"; without --dir DIR, a capture is looked for here, in .redo-log and in capture",
         ),
-        Failure::NamesRead => about_names(
-            alloc,
-            b"not readable: ",
-            dir,
-            b"; it must be a file of at most 1073741824 bytes that you may read",
-        ),
+        Failure::NamesRead => unreadable_names(alloc, dir),
         Failure::Index(fault) => index_remedy(alloc, dir, fault),
         Failure::Run(RunFault::OutOfMemory) => memory_remedy(alloc),
         Failure::Run(RunFault::Write) => { concat(alloc, &[write_remedy(write_error).as_bytes()]) },
         Failure::Memory => memory_remedy(alloc),
         Failure::Words(_) => Ok(Vec::new(alloc)),
+        Failure::Baseline(fault) => baseline_remedy(alloc, dir, fault),
     }
+}
+
+// Returns what to do about a fault of a baseline.
+fn baseline_remedy(alloc: Global, dir: &str, fault: BaselineFault) -> Result<Vec<u8>, AllocError>
+    ensures { IfOk result (λ text. text.items ≡ baseline_remedy dir.now fault) }
+{
+    match fault {
+        BaselineFault::NamesMissing => about_names(
+            alloc,
+            b"no file ",
+            dir,
+            b"; --baseline takes the capture directory of an earlier build",
+        ),
+        BaselineFault::NamesRead => unreadable_names(alloc, dir),
+        BaselineFault::Index(fault) => index_remedy(alloc, dir, fault),
+        BaselineFault::Log {
+            position,
+            number,
+            fault,
+        } => stream_remedy(alloc, dir, position, number, fault),
+    }
+}
+
+// Returns what to do if the file `names` can't be read.
+fn unreadable_names(alloc: Global, dir: &str) -> Result<Vec<u8>, AllocError>
+    ensures { IfOk result (λ text. text.items ≡ unreadable_names dir.now) }
+{
+    about_names(
+        alloc,
+        b"not readable: ",
+        dir,
+        b"; it must be a file of at most 1073741824 bytes that you may read",
+    )
 }
 
 // Returns a text with the path of the file `names`.

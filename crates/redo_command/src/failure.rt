@@ -1,7 +1,8 @@
 ghost use Rattle.std.specs.Prelude.{◌≡◌};
 ghost use Rattle.redo_command.specs.declared.failure.Failure.TheVariants.{Memory};
-ghost use Rattle.redo_command.specs.Failure.{status_of, stream_status};
+ghost use Rattle.redo_command.specs.Failure.{baseline_status, index_status, status_of, stream_status};
 
+use crate::baseline_fault::BaselineFault;
 use redo_args::WordsFault;
 use redo_index::IndexFault;
 use redo_line::StreamFault;
@@ -30,6 +31,9 @@ pub enum Failure {
     /// An allocation failed before the run began.
     #[error("there is no memory")]
     Memory,
+    /// The baseline has no logs. All else is in order, but nothing was written.
+    #[error("the baseline has no logs: {0:?}")]
+    Baseline(BaselineFault),
 }
 
 impl From<AllocError> for Failure {
@@ -55,14 +59,34 @@ pub fn status(failure: &Failure) -> u8
     match *failure {
         Failure::Words(WordsFault::Help) => 0,
         Failure::Words(WordsFault::Refused) => 2,
-        Failure::Index(IndexFault::OutOfMemory) => 7,
-        Failure::Index(_) => 3,
+        Failure::Index(fault) => index_status(fault),
         Failure::Run(RunFault::Stream { fault, .. }) => stream_status(fault),
         Failure::NamesMissing | Failure::NamesRead => 5,
         Failure::Run(RunFault::Write) => 6,
         Failure::Run(RunFault::Unknown { .. }) => 24,
         Failure::Words(WordsFault::OutOfMemory) | Failure::Run(RunFault::OutOfMemory) => 7,
         Failure::Memory => 7,
+        Failure::Baseline(fault) => baseline_status(fault),
+    }
+}
+
+// Returns the exit status, which is that of the same fault of the build's own capture.
+fn baseline_status(fault: BaselineFault) -> u8
+    ensures { result ≡ baseline_status fault }
+{
+    match fault {
+        BaselineFault::NamesMissing | BaselineFault::NamesRead => 5,
+        BaselineFault::Index(fault) => index_status(fault),
+        BaselineFault::Log { fault, .. } => stream_status(fault),
+    }
+}
+
+fn index_status(fault: IndexFault) -> u8
+    ensures { result ≡ index_status fault }
+{
+    match fault {
+        IndexFault::OutOfMemory => 7,
+        _ => 3,
     }
 }
 

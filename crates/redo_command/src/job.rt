@@ -2,7 +2,10 @@
 //!
 //! A [`Job`] reads and renders, and starts no thread. [`write_job`] and [`show_job`] are functions, because Rattle can't prove that
 //! what the threads of a trait's method get is `Send`.
-ghost use Rattle.std.specs.Prelude.{◌≡◌, ◌≢◌, ℕ, true, None, IfErr, IfOk, List, Option, length};
+//!
+//! A baseline is read before the job's own logs, and its fault is kept. A fault of the job's own capture comes first, so that it isn't
+//! hidden: the own logs are then read as always, but no text is written of them.
+ghost use Rattle.std.specs.Prelude.{◌≡◌, ◌≢◌, ℕ, true, None, IfErr, IfOk, List, [], Option, is_some, length, option_copied, option_map};
 ghost use Rattle.std.specs.List.{list_all};
 ghost use Rattle.redo_device.specs.Feed.{Stream};
 ghost use Rattle.redo_index.specs.declared.index_entry.IndexEntry.{IndexEntry};
@@ -11,11 +14,14 @@ ghost use Rattle.redo_options.specs.Arguments.{argument_bytes};
 ghost use Rattle.redo_options.specs.Limits.{IsCapacity, IsSenderCount};
 ghost use Rattle.redo_view.specs.Form.{FormWrites};
 ghost use Rattle.redo_view.specs.View.{find_unknown};
+ghost use Rattle.redo_command.specs.Baseline.{IsReadIfAsked, IsReadOfFiles};
 ghost use Rattle.redo_command.specs.Failure.{IsReportable, status_of};
-ghost use Rattle.redo_command.specs.Job.{IsJobWritten};
-ghost use Rattle.redo_command.specs.Logs.{opaque_logs};
+ghost use Rattle.redo_command.specs.Job.{IsBaselineReported, IsJobWritten, IsTextWritten};
+ghost use Rattle.redo_command.specs.Logs.{IsWriteResult, logs_call, opaque_logs};
 ghost use Rattle.redo_command.specs.Shown.{IsShown, IsShownOrNotCreated};
 
+use crate::baseline::{BaselineFiles, BaselineLogs, open_baseline, read_baseline};
+use crate::baseline_fault::BaselineFault;
 use crate::buffer::{buffered, flush_after};
 use crate::directory::{Shown, find_index};
 use crate::error_keeper::ErrorKeeper;
@@ -42,14 +48,21 @@ pub trait Job {
     /// Whether these are the facts, from what is known of the log with each number and of the file `facts`, and the index.
     ghost are_facts: { Self → (ℕ → Option Stream) → Option Stream → List IndexEntry → Self.Facts → Type 0 };
 
-    /// The text, from the facts, the logs and the requested targets.
-    ghost text: { Self → Self.Facts → List Log → List (List ℕ) → List ℕ };
+    /// The text, from the facts, the logs of the baseline, if there is one, the logs and the requested targets.
+    ghost text: { Self → Self.Facts → Option (List Log) → List Log → List (List ℕ) → List ℕ };
 
     /// The arguments that name the requested targets.
     ghost arguments: { Self → List (List ℕ) };
 
+    /// The directory of the baseline, if one is asked for.
+    ghost baseline_dir: { Self → Option (List ℕ) };
+
     /// Returns the capture directory.
     fn dir(&self) -> &str;
+
+    /// Returns the directory of the baseline, the capture of an earlier build with which this one is compared, if one is asked for.
+    fn baseline(&self) -> Option<&str>
+        ensures { option_map (λ dir. dir.now) result ≡ baseline_dir self.now };
 
     /// Returns the path of the file that the text is written to. Without it, the text goes to standard output.
     fn output(&self) -> Option<&str>;
@@ -79,6 +92,7 @@ pub trait Job {
     fn render<W: Sink>(
         &self,
         facts: &Self::Facts,
+        baseline: Option<&BaselineLogs>,
         alloc: Global,
         table: &LogTable,
         requested: &[TargetName],
@@ -86,18 +100,20 @@ pub trait Job {
     ) -> Result<(), FormFault>
         requires ended { list_all has_ended table.now ≡ true }
         requires known { find_unknown table.now requested.now ≡ None }
-        ensures { FormWrites (W.written out.old) (W.written out.new) (text self.now facts.now table.now requested.now) result };
+        ensures { FormWrites (W.written out.old) (W.written out.new)
+            (text self.now facts.now (option_copied baseline.entry) table.now requested.now) result };
 }
 
-// The text of a job with these facts.
+// The text of a job with these facts and this baseline.
 #[derive(Drop)]
 struct JobText<'a, J: Job> {
     job: &'a J,
     facts: &'a J::Facts,
+    baseline: Option<&'a BaselineLogs>,
 }
 
 impl<J: Job> Render for JobText<'_, J> {
-    ghost text = { λ text. J.text text.job.now text.facts.now };
+    ghost text = { λ text. J.text text.job.now text.facts.now (option_copied text.baseline) };
 
     fn render<W: Sink>(
         &self,
@@ -106,12 +122,30 @@ impl<J: Job> Render for JobText<'_, J> {
         requested: &[TargetName],
         out: &mut W,
     ) -> Result<(), FormFault> {
-        self.job.render(self.facts, alloc, table, requested, out)
+        self.job
+            .render(self.facts, self.baseline, alloc, table, requested, out)
     }
 }
 
-/// Writes the text of a job, from the logs that an index lists. It reads the facts from `first`, and then all logs from `second`.
-/// Nothing is written before that. `out` isn't flushed.
+// No text.
+struct NoText;
+
+impl Render for NoText {
+    ghost text = { λ _ logs requested. [] };
+
+    fn render<W: Sink>(
+        &self,
+        _alloc: Global,
+        _table: &LogTable,
+        _requested: &[TargetName],
+        _out: &mut W,
+    ) -> Result<(), FormFault> {
+        Ok(())
+    }
+}
+
+/// Writes the text of a job, from the logs that an index lists. It reads the facts from `first`, then the logs of the baseline, if
+/// there is one, and then all logs from `second`. Nothing is written before that. `out` isn't flushed.
 ///
 /// The clause states the text, for any logs and writer. It may be of other streams than its facts: a file may change between the
 /// two readings.
@@ -120,22 +154,111 @@ pub fn write_job<
     J: Job,
     F: OpenLog + OpenFacts,
     S: OpenLog<Log: Send>,
+    B: OpenLog,
     W: Sink,
->(rt: &T, job: &J, first: &F, second: &S, index: &Index, out: &mut W) -> Result<(), Failure>
-    ensures written { IsJobWritten (J.are_facts job.now (F.known first.now) (F.known_facts first.now) index.now) (J.text job.now)
-        (S.known second.now) index.now (J.arguments job.now) (W.written out.old) (W.written out.new) result }
+>(
+    rt: &T,
+    job: &J,
+    first: &F,
+    second: &S,
+    index: &Index,
+    baseline: Option<&BaselineFiles<B>>,
+    out: &mut W,
+) -> Result<(), Failure>
+    ensures written { IsJobWritten (J.are_facts job.now (F.known first.now) (F.known_facts first.now) index.now)
+        (IsReadOfFiles B.known (option_copied baseline.entry)) (J.text job.now) (S.known second.now) index.now (J.arguments job.now)
+        (W.written out.old) (W.written out.new) result }
     ensures reportable { IfErr result (IsReportable (length index.now) (length (J.arguments job.now))) }
     ensures nonzero_status { IfErr result (λ failure. status_of failure ≢ 0) }
 {
-    let facts = job.read_facts(rt.alloc(), first, index)?;
-    let text = JobText { job, facts: &facts };
+    let alloc = rt.alloc();
+    let facts = job.read_facts(alloc, first, index)?;
+    let read = read_baseline(alloc, baseline)?;
+    write_with(rt, job, &facts, &read, second, index, out)
+}
+
+// Writes the text of a job with these facts and what was read of its baseline, or reports the baseline's fault.
+fn write_with<T: Threads + Wait + Sync + AllocGlobal, J: Job, S: OpenLog<Log: Send>, W: Sink>(
+    rt: &T,
+    job: &J,
+    facts: &J::Facts,
+    read: &Option<Result<BaselineLogs, BaselineFault>>,
+    logs: &S,
+    index: &Index,
+    out: &mut W,
+) -> Result<(), Failure>
+    ensures written { IsTextWritten (J.text job.now facts.now) read.now (S.known logs.now) index.now (J.arguments job.now)
+        (W.written out.old) (W.written out.new) result }
+    ensures reportable { IfErr result (IsReportable (length index.now) (length (J.arguments job.now))) }
+    ensures nonzero_status { IfErr result (λ failure. status_of failure ≢ 0) }
+{
+    match read {
+        None => write_text(rt, job, facts, None, logs, index, out),
+        Some(Ok(baseline)) => write_text(rt, job, facts, Some(baseline), logs, index, out),
+        Some(Err(fault)) => report_baseline(rt, job, *fault, logs, index, out),
+    }
+}
+
+// Reports the fault of a baseline, unless the job's own logs or arguments have one.
+fn report_baseline<T: Threads + Wait + Sync + AllocGlobal, J: Job, S: OpenLog<Log: Send>, W: Sink>(
+    rt: &T,
+    job: &J,
+    fault: BaselineFault,
+    logs: &S,
+    index: &Index,
+    out: &mut W,
+) -> Result<(), Failure>
+    ensures written { IsBaselineReported fault (S.known logs.now) index.now (J.arguments job.now) (W.written out.old) (W.written out.new)
+        result }
+    ensures reportable { IfErr result (IsReportable (length index.now) (length (J.arguments job.now))) }
+    ensures nonzero_status { IfErr result (λ failure. status_of failure ≢ 0) }
+{
+    write_rendered(rt, job, &NoText, logs, index, out).and(Err(Failure::Baseline(fault)))
+}
+
+// Writes the text of a job with these facts and this baseline, from the logs that an index lists.
+fn write_text<'a, T: Threads + Wait + Sync + AllocGlobal, J: Job, S: OpenLog<Log: Send>, W: Sink>(
+    rt: &T,
+    job: &'a J,
+    facts: &'a J::Facts,
+    baseline: Option<&'a BaselineLogs>,
+    logs: &S,
+    index: &Index,
+    out: &mut W,
+) -> Result<(), Failure>
+    ensures written { IsWriteResult (logs_call (S.known logs.now) (J.text job.now facts.now (option_copied baseline.entry)) index.now
+        (J.arguments job.now)) (W.written out.old) (W.written out.new) result }
+    ensures reportable { IfErr result (IsReportable (length index.now) (length (J.arguments job.now))) }
+    ensures nonzero_status { IfErr result (λ failure. status_of failure ≢ 0) }
+{
+    let text = JobText {
+        job,
+        facts,
+        baseline,
+    };
+    write_rendered(rt, job, &text, logs, index, out)
+}
+
+// Writes a text, from the logs that an index lists, as the job requests.
+fn write_rendered<
+    T: Threads + Wait + Sync + AllocGlobal,
+    J: Job,
+    V: Render,
+    S: OpenLog<Log: Send>,
+    W: Sink,
+>(rt: &T, job: &J, text: &V, logs: &S, index: &Index, out: &mut W) -> Result<(), Failure>
+    ensures written { IsWriteResult (logs_call (S.known logs.now) (V.text text.now) index.now (J.arguments job.now))
+        (W.written out.old) (W.written out.new) result }
+    ensures reportable { IfErr result (IsReportable (length index.now) (length (J.arguments job.now))) }
+    ensures nonzero_status { IfErr result (λ failure. status_of failure ≢ 0) }
+{
     write_logs(
         rt,
-        second,
+        logs,
         index,
         job.senders(),
         job.capacity(),
-        &text,
+        text,
         job.targets(),
         out,
     )
@@ -143,7 +266,7 @@ pub fn write_job<
 
 /// Writes the text of a job: to its output file, or else to `out`. It reads the index and the log files of the job's directory, and
 /// writes what [`write_job`] states, unless the index couldn't be read, the output file couldn't be created or closed, the buffer
-/// couldn't be flushed, or memory ran out.
+/// couldn't be flushed, or memory ran out. If the job asks for a baseline, it reads one.
 ///
 /// Nothing is known of the files, and nothing is stated about the bytes that `out` takes.
 pub fn show_job<
@@ -151,8 +274,8 @@ pub fn show_job<
     J: Job,
     W: Write,
 >(rt: &R, job: &J, out: &mut W) -> Shown
-    ensures shown { IsShownOrNotCreated (IsJobWritten (J.are_facts job.now opaque_logs None result.index) (J.text job.now) opaque_logs
-        result.index (J.arguments job.now) None None) result.outcome }
+    ensures shown { IsShownOrNotCreated (IsJobWritten (J.are_facts job.now opaque_logs None result.index)
+        (IsReadIfAsked (J.baseline_dir job.now)) (J.text job.now) opaque_logs result.index (J.arguments job.now) None None) result.outcome }
     ensures reportable { IfErr result.outcome (IsReportable (length result.index) (length (J.arguments job.now))) }
     ensures nonzero_status { IfErr result.outcome (λ failure. status_of failure ≢ 0) }
 {
@@ -183,8 +306,8 @@ fn show_in_file<R: Files<File: Send> + RandomSource + Threads + Wait + Sync + Al
     job: &J,
     output: Output<'_, R::File>,
 ) -> Shown
-    ensures shown { IsShown (IsJobWritten (J.are_facts job.now opaque_logs None result.index) (J.text job.now) opaque_logs
-        result.index (J.arguments job.now) None None) result.outcome }
+    ensures shown { IsShown (IsJobWritten (J.are_facts job.now opaque_logs None result.index)
+        (IsReadIfAsked (J.baseline_dir job.now)) (J.text job.now) opaque_logs result.index (J.arguments job.now) None None) result.outcome }
     ensures reportable { IfErr result.outcome (IsReportable (length result.index) (length (J.arguments job.now))) }
     ensures nonzero_status { IfErr result.outcome (λ failure. status_of failure ≢ 0) }
 {
@@ -203,8 +326,8 @@ fn show_logs<
     J: Job,
     W: Write,
 >(rt: &R, job: &J, out: &mut W) -> Shown
-    ensures shown { IsShown (IsJobWritten (J.are_facts job.now opaque_logs None result.index) (J.text job.now) opaque_logs
-        result.index (J.arguments job.now) None None) result.outcome }
+    ensures shown { IsShown (IsJobWritten (J.are_facts job.now opaque_logs None result.index)
+        (IsReadIfAsked (J.baseline_dir job.now)) (J.text job.now) opaque_logs result.index (J.arguments job.now) None None) result.outcome }
     ensures reportable { IfErr result.outcome (IsReportable (length result.index) (length (J.arguments job.now))) }
     ensures nonzero_status { IfErr result.outcome (λ failure. status_of failure ≢ 0) }
 {
@@ -224,20 +347,41 @@ fn show_logs<
 
 // Writes the text of a job through a buffer, from the log files that an index lists. Facts are read from regular files only, because
 // a pipe can be read only once.
-fn show_text<R: Files<File: Send> + Threads + Wait + Sync + AllocGlobal, J: Job, W: Write>(
-    rt: &R,
-    job: &J,
-    index: &Index,
-    out: &mut W,
-) -> Result<(), Failure>
-    ensures shown { IsShown (IsJobWritten (J.are_facts job.now opaque_logs None index.now) (J.text job.now) opaque_logs
-        index.now (J.arguments job.now) None None) result }
+fn show_text<
+    R: Files<File: Send> + RandomSource + Threads + Wait + Sync + AllocGlobal,
+    J: Job,
+    W: Write,
+>(rt: &R, job: &J, index: &Index, out: &mut W) -> Result<(), Failure>
+    ensures shown { IsShown (IsJobWritten (J.are_facts job.now opaque_logs None index.now) (IsReadIfAsked (J.baseline_dir job.now))
+        (J.text job.now) opaque_logs index.now (J.arguments job.now) None None) result }
     ensures reportable { IfErr result (IsReportable (length index.now) (length (J.arguments job.now))) }
     ensures nonzero_status { IfErr result (λ failure. status_of failure ≢ 0) }
 {
     let regular_files = RegularLogFiles { rt, dir: job.dir() };
     let files = LogFiles { rt, dir: job.dir() };
+    let baseline = job_baseline(rt, job)?;
     let mut buffer = buffered(rt.alloc(), out)?;
-    let outcome = write_job(rt, job, &regular_files, &files, index, &mut buffer);
+    let outcome = write_job(
+        rt,
+        job,
+        &regular_files,
+        &files,
+        index,
+        baseline.as_ref(),
+        &mut buffer,
+    );
     flush_after(outcome, buffer)
+}
+
+// Opens the baseline of a job, if one is asked for.
+fn job_baseline<'a, R: Files<File: Send> + RandomSource + AllocGlobal, J: Job>(
+    rt: &'a R,
+    job: &'a J,
+) -> Result<Option<BaselineFiles<RegularLogFiles<'a, R>>>, AllocError>
+    ensures { IfOk result (λ files. is_some files ≡ is_some (J.baseline_dir job.now)) }
+{
+    match job.baseline() {
+        Some(dir) => Ok(Some(open_baseline(rt, dir)?)),
+        None => Ok(None),
+    }
 }

@@ -9,6 +9,8 @@
 //! Files are opaque, so [`write_job`] is generic over logs and a writer: its contract states the text that is written.
 #![tactic(auto)]
 
+mod baseline;
+mod baseline_fault;
 mod buffer;
 mod directory;
 mod error_keeper;
@@ -26,6 +28,8 @@ mod process;
 mod program;
 mod reports;
 
+pub use baseline::{BaselineFiles, BaselineLogs, open_baseline, read_baseline};
+pub use baseline_fault::BaselineFault;
 pub use buffer::{buffered, flush_after};
 pub use directory::{Shown, find_index};
 pub use error_keeper::{ErrorKeeper, WriteError};
@@ -36,7 +40,7 @@ pub use explanation::{
 pub use facts::{BuildFacts, read_build_facts, read_log_times, read_recipe_facts};
 pub use failure::{Failure, status};
 pub use job::{Job, show_job, write_job};
-pub use laws::suggestions_are_listed_targets;
+pub use laws::{baseline_fails_last, suggestions_are_listed_targets};
 pub use log_file::{LogFile, LogFiles, RegularLogFiles};
 pub use logs::{OpenFacts, OpenLog, open_logs, write_logs};
 pub use message::fault_line_as;

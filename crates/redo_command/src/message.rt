@@ -1,8 +1,10 @@
-ghost use Rattle.std.specs.Prelude.{◌≡◌, ◌<◌, ◌++◌, IfOk, codes, flat_map, length};
-ghost use Rattle.redo_command.specs.Failure.{IfStreamFailure, IfUnknownFailure, failure_message_as, index_message, message_line, with_line_number, stream_fault_text};
+ghost use Rattle.std.specs.Prelude.{◌≡◌, ◌<◌, ◌++◌, IfOk, codes, decimal, flat_map, length};
+ghost use Rattle.std.specs.String.{string_bytes};
+ghost use Rattle.redo_command.specs.Failure.{IfStreamFailure, baseline_message, IfUnknownFailure, failure_message_as, index_message, message_line, with_line_number, stream_fault_text};
 ghost use Rattle.redo_index.specs.Index.{listed_targets};
 ghost use Rattle.redo_options.specs.Arguments.{argument_bytes};
 
+use crate::baseline_fault::BaselineFault;
 use crate::failure::Failure;
 use itoa::Buffer;
 use redo_args::WordsFault;
@@ -13,12 +15,13 @@ use std::alloc::{AllocError, Global};
 
 /// Returns the error message of a program for a failure: one line, with its line feed, that begins with the program's
 /// name. It is empty for help. Names and arguments are written byte for byte: a name as in the index, an argument as it
-/// was given.
+/// was given. `dir` is the capture directory that the failure is about; only a message about a baseline names it.
 ///
 /// A stream's number must be a position in the index, and an argument's position must be one in `arguments`.
 pub fn fault_line_as(
     alloc: Global,
     program: &str,
+    dir: &str,
     failure: &Failure,
     index: &Index,
     arguments: &[Vec<u8>],
@@ -26,7 +29,7 @@ pub fn fault_line_as(
     requires stream_in_range { IfStreamFailure failure.now (λ number. number < length index.now) }
     requires argument_in_range { IfUnknownFailure failure.now (λ place. place < length arguments.now) }
     ensures { IfOk result (λ line.
-        line.items ≡ failure_message_as program.now (listed_targets index.now) (argument_bytes arguments.now) failure.now) }
+        line.items ≡ failure_message_as program.now dir.now (listed_targets index.now) (argument_bytes arguments.now) failure.now) }
 {
     match *failure {
         Failure::Words(WordsFault::Help) => Ok(Vec::new(alloc)),
@@ -50,7 +53,40 @@ pub fn fault_line_as(
         Failure::Run(RunFault::OutOfMemory) => message_line(alloc, program, &[b"out of memory"]),
         Failure::Run(RunFault::Write) => message_line(alloc, program, &[b"cannot write"]),
         Failure::Memory => message_line(alloc, program, &[b"out of memory"]),
+        Failure::Baseline(fault) => {
+            let names = baseline_names(alloc, program, dir)?;
+            baseline_message(alloc, &names, fault)
+        }
     }
+}
+
+// Returns the beginning of an error message about a baseline: the names of the program and of the baseline.
+fn baseline_names(alloc: Global, program: &str, dir: &str) -> Result<String, AllocError>
+    ensures { IfOk result (λ names. string_bytes names ≡ program.now ++ codes ": baseline " ++ dir.now) }
+{
+    [program, ": baseline ", dir].concat(alloc)
+}
+
+fn baseline_message(alloc: Global, names: &str, fault: BaselineFault) -> Result<Vec<u8>, AllocError>
+    ensures { IfOk result (λ line. line.items ≡ baseline_message names.now fault) }
+{
+    match fault {
+        BaselineFault::NamesMissing => message_line(alloc, names, &[b"names: cannot be read"]),
+        BaselineFault::NamesRead => message_line(alloc, names, &[b"names: cannot be read"]),
+        BaselineFault::Index(fault) => index_message(alloc, names, fault),
+        BaselineFault::Log { number, fault, .. } => {
+            let log = log_name(alloc, number)?;
+            stream_message(alloc, names, log.as_bytes(), fault)
+        }
+    }
+}
+
+// Returns the name of the log file with this number.
+fn log_name(alloc: Global, number: u32) -> Result<String, AllocError>
+    ensures { IfOk result (λ name. string_bytes name ≡ codes "log." ++ decimal number) }
+{
+    let mut buffer = Buffer::new();
+    ["log.", buffer.format(number)].concat(alloc)
 }
 
 fn index_message(alloc: Global, program: &str, fault: IndexFault) -> Result<Vec<u8>, AllocError>

@@ -98,9 +98,10 @@ fn run_arguments<
     match program.job(alloc, arguments) {
         Ok(job) => {
             let shown = show_job(rt, &job, out);
-            let status = exit_status(alloc, name, &shown, job.targets(), err);
+            let dir = dir_of_outcome(&job, &shown.outcome);
+            let status = exit_status(alloc, name, dir, &shown, job.targets(), err);
             if explains {
-                explain_shown(alloc, name, job.dir(), &shown, job.targets(), err);
+                explain_shown(alloc, name, dir, &shown, job.targets(), err);
             }
             status
         }
@@ -112,5 +113,13 @@ fn run_arguments<
             }
             status
         }
+    }
+}
+
+// Returns the capture directory that an outcome is about: that of the baseline if the baseline failed, and otherwise the job's own.
+fn dir_of_outcome<'a, J: Job>(job: &'a J, outcome: &Result<(), Failure>) -> &'a str {
+    match outcome {
+        Err(Failure::Baseline(_)) => job.baseline().unwrap_or(""),
+        _ => job.dir(),
     }
 }

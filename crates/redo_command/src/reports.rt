@@ -24,15 +24,16 @@ pub fn report_before_run_as<E: Write>(
     requires { IsBeforeRun failure.now }
     ensures { (result ≡ status_of failure.now) ⊎ (result ≡ status_of Memory) }
 {
-    report(alloc, program, failure, &Index::new(alloc), &[], err)
+    report(alloc, program, "", failure, &Index::new(alloc), &[], err)
 }
 
 /// Returns the exit status of a program that showed logs: 0 if the whole text was written. Otherwise it writes the
 /// failure's error message, which begins with the program's name, and returns its status. If an allocation fails, it
-/// writes the message for `Failure::Memory` and returns its status instead.
+/// writes the message for `Failure::Memory` and returns its status instead. `dir` is as for [`crate::fault_line_as`].
 pub fn exit_status<E: Write>(
     alloc: Global,
     program: &str,
+    dir: &str,
     shown: &Shown,
     arguments: &[Vec<u8>],
     err: &mut E,
@@ -44,7 +45,7 @@ pub fn exit_status<E: Write>(
 {
     match &shown.outcome {
         Ok(()) => 0,
-        Err(failure) => report(alloc, program, failure, &shown.index, arguments, err),
+        Err(failure) => report(alloc, program, dir, failure, &shown.index, arguments, err),
     }
 }
 
@@ -86,6 +87,7 @@ pub fn print_help<W: Write, E: Write>(
 fn report<E: Write>(
     alloc: Global,
     program: &str,
+    dir: &str,
     failure: &Failure,
     index: &Index,
     arguments: &[Vec<u8>],
@@ -94,7 +96,7 @@ fn report<E: Write>(
     requires { IsReportable (length index.now) (length arguments.now) failure.now }
     ensures { (result ≡ status_of failure.now) ⊎ (result ≡ status_of Memory) }
 {
-    match fault_line_as(alloc, program, failure, index, arguments) {
+    match fault_line_as(alloc, program, dir, failure, index, arguments) {
         Ok(line) => {
             let _ = err.write_all(&line).and_then(|()| err.flush());
             status(failure)

@@ -3,7 +3,7 @@ ghost use Rattle.redo_page.specs.Page.{page_html, request_of};
 ghost use Rattle.redo_command.specs.Facts.{AreBuildFacts};
 ghost use Rattle.redo_html_cli.specs.Request.{request_for, title_for};
 
-use redo_command::{BuildFacts, Index, Job, OpenFacts, OpenLog, read_build_facts};
+use redo_command::{BaselineLogs, BuildFacts, Index, Job, OpenFacts, OpenLog, read_build_facts};
 use redo_html_args::PageJob;
 use redo_line::{Sink, TargetName};
 use redo_logs::LogTable;
@@ -26,12 +26,18 @@ impl Job for HtmlJob {
 
     ghost are_facts = { λ html logs file index facts. AreBuildFacts logs file index facts };
 
-    ghost text = { λ html facts. page_html (request_for html.job facts.times.items facts.recipes.items) };
+    ghost text = { λ html facts baseline. page_html (request_for html.job facts.times.items facts.recipes.items) };
 
     ghost arguments = { λ html. html.job.targets };
 
+    ghost baseline_dir = { λ html. None };
+
     fn dir(&self) -> &str {
         self.job.dir()
+    }
+
+    fn baseline(&self) -> Option<&str> {
+        None
     }
 
     fn output(&self) -> Option<&str> {
@@ -62,6 +68,7 @@ impl Job for HtmlJob {
     fn render<W: Sink>(
         &self,
         facts: &BuildFacts,
+        _baseline: Option<&BaselineLogs>,
         alloc: Global,
         table: &LogTable,
         requested: &[TargetName],

@@ -3,7 +3,7 @@ ghost use Rattle.redo_command.specs.Facts.{AreBuildFacts};
 ghost use Rattle.redo_json.specs.Build.{request_of};
 ghost use Rattle.redo_json_cli.specs.Request.{job_json, request_for};
 
-use redo_command::{BuildFacts, Index, Job, OpenFacts, OpenLog, read_build_facts};
+use redo_command::{BaselineLogs, BuildFacts, Index, Job, OpenFacts, OpenLog, read_build_facts};
 use redo_json::{BuildRequest, every_target, write_build};
 use redo_json_args::JsonJob;
 use redo_line::{Sink, TargetName};
@@ -26,12 +26,18 @@ impl Job for BuildJob {
 
     ghost are_facts = { λ build logs file index facts. AreBuildFacts logs file index facts };
 
-    ghost text = { λ build facts. job_json build.job facts.times.items facts.recipes.items };
+    ghost text = { λ build facts baseline. job_json build.job facts.times.items facts.recipes.items };
 
     ghost arguments = { λ build. build.job.targets };
 
+    ghost baseline_dir = { λ build. None };
+
     fn dir(&self) -> &str {
         self.job.dir()
+    }
+
+    fn baseline(&self) -> Option<&str> {
+        None
     }
 
     fn output(&self) -> Option<&str> {
@@ -62,6 +68,7 @@ impl Job for BuildJob {
     fn render<W: Sink>(
         &self,
         facts: &BuildFacts,
+        _baseline: Option<&BaselineLogs>,
         alloc: Global,
         table: &LogTable,
         requested: &[TargetName],

@@ -2,7 +2,7 @@ ghost use Rattle.std.specs.Prelude.{⊤, true, None};
 ghost use Rattle.redo_view.specs.Expansion.{expansion};
 
 use redo_args::Job;
-use redo_command::{Index, OpenFacts, OpenLog};
+use redo_command::{BaselineLogs, Index, OpenFacts, OpenLog};
 use redo_line::{Sink, TargetName};
 use redo_logs::LogTable;
 use redo_view::{FormFault, PlainText, Render};
@@ -20,12 +20,18 @@ impl redo_command::Job for TextJob {
 
     ghost are_facts = { λ text logs file index facts. ⊤ };
 
-    ghost text = { λ text facts logs requested. expansion logs text.job.options requested };
+    ghost text = { λ text facts baseline logs requested. expansion logs text.job.options requested };
 
     ghost arguments = { λ text. text.job.targets };
 
+    ghost baseline_dir = { λ text. None };
+
     fn dir(&self) -> &str {
         self.job.dir()
+    }
+
+    fn baseline(&self) -> Option<&str> {
+        None
     }
 
     fn output(&self) -> Option<&str> {
@@ -56,6 +62,7 @@ impl redo_command::Job for TextJob {
     fn render<W: Sink>(
         &self,
         _facts: &(),
+        _baseline: Option<&BaselineLogs>,
         alloc: Global,
         table: &LogTable,
         requested: &[TargetName],

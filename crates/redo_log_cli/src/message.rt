@@ -20,5 +20,5 @@ pub fn fault_line(
     requires argument_in_range { IfUnknownFailure failure.now (λ place. place < length arguments.now) }
     ensures { IfOk result (λ line. line.items ≡ failure_message (listed_targets index.now) (argument_bytes arguments.now) failure.now) }
 {
-    fault_line_as(alloc, "redo-log", failure, index, arguments)
+    fault_line_as(alloc, "redo-log", "", failure, index, arguments)
 }

@@ -1,15 +1,17 @@
 -- The files of a capture directory that are opened, the output file, and the result of opening one.
-use Rattle.std.specs.Prelude.{◌≡◌, ℕ, List, ◌++◌, Result, Ok, Err, IsErrAnd, codes, decimal}
+use Rattle.std.specs.Prelude.{◌≡◌, ℕ, List, ◌++◌, Option, None, Some, Result, Ok, Err, IsErrAnd, codes, decimal}
 use Rattle.std.specs.IoError.{error_kind}
 use Rattle.std.specs.declared.io.Error.{Error}
 use Rattle.std.specs.declared.io.ErrorKind.{ErrorKind}
 use Rattle.std.specs.declared.io.ErrorKind.TheVariants.{BrokenPipe, NotFound, OutOfMemory, QuotaExceeded, StorageFull}
+use Rattle.redo_command.specs.declared.baseline_fault.BaselineFault.{BaselineFault}
+use Rattle.redo_command.specs.declared.baseline_fault.BaselineFault.TheVariants as baseline
 use Rattle.redo_command.specs.declared.error_keeper.WriteError.{WriteError}
 use Rattle.redo_command.specs.declared.error_keeper.WriteError.TheVariants as write_error
 use Rattle.redo_command.specs.declared.log_file.LogFile.{LogFile}
 use Rattle.redo_command.specs.declared.log_file.LogFile.TheVariants.{Open, Missing, Unreadable}
 use Rattle.redo_command.specs.declared.failure.Failure.{Failure}
-use Rattle.redo_command.specs.declared.failure.Failure.TheVariants.{NamesMissing, NamesRead, Memory, Run}
+use Rattle.redo_command.specs.declared.failure.Failure.TheVariants.{Index, NamesMissing, NamesRead, Memory, Run}
 use Rattle.redo_run.specs.declared.run_fault.RunFault.TheVariants as run
 
 -- The path of the file `names`.
@@ -44,6 +46,13 @@ abbrev pub failure_after : ErrorKind → Failure
 failure_after NotFound = NamesMissing
 failure_after OutOfMemory = Memory
 failure_after _ = NamesRead
+
+-- The fault of a baseline whose index can't be read for this reason: none if memory ran out.
+abbrev pub fault_of_index : Failure → Option BaselineFault
+fault_of_index NamesMissing = Some baseline.NamesMissing
+fault_of_index NamesRead = Some baseline.NamesRead
+fault_of_index (Index fault) = Some (baseline.Index fault)
+fault_of_index _ = None
 
 -- The failure if the output file can't be created, from the kind of the error.
 abbrev pub write_failure_after : ErrorKind → Failure

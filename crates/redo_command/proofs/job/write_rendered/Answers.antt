@@ -1,0 +1,11 @@
+use Rattle.std.proofs.Common.{subst}
+use Rattle.redo_command.specs.Logs.{IsWriteResult, logs_call}
+use Rattle.redo_command.proofs.job.write_rendered.Goals as goal
+
+pub returns-clause-written : goal.returns-clause-written
+returns-clause-written g c =
+    subst
+    (λ arguments. IsWriteResult
+    (logs_call (g.S.OpenLog.known c.args.logs.now) (g.V.Render.text c.args.text.now) c.args.index.now arguments)
+    (g.W.Sink.written c.args.out.now) (g.W.Sink.written c.write_logs.new.out) c.write_logs.result)
+    c.targets.ensures c.write_logs.ensures.written
