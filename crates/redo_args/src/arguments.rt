@@ -73,6 +73,19 @@ pub fn dir<'a>(alloc: Global) -> Arg<'a>
     )
 }
 
+/// `--baseline DIR`: the capture directory of an earlier build, with which this one is compared.
+pub fn baseline<'a>(alloc: Global) -> Arg<'a>
+    ensures rule { rule_of result ≡ text_rule (codes "baseline") }
+    ensures local { result.global ≡ false }
+{
+    text_option(
+        alloc,
+        "baseline",
+        "DIR",
+        "Compare with an earlier build: DIR is its capture directory",
+    )
+}
+
 /// `-u` and `--unchanged`: whether targets are shown that needed no rebuild.
 pub fn unchanged<'a>(alloc: Global) -> Arg<'a>
     ensures rule { rule_of result ≡ letter_rule (codes "unchanged") 117 }

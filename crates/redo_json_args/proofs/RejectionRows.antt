@@ -16,6 +16,8 @@ rejections =
     (codes "--senders=0" ∷ [], codes "--senders=0: not in 1 to 64") ∷
     (codes "all" ∷ codes "--output" ∷ [], codes "--output: a value is missing") ∷
     (codes "--dir" ∷ codes "--every" ∷ [], codes "--dir: a value is missing") ∷
+    (codes "--baseline" ∷ codes "--every" ∷ [], codes "--baseline: a value is missing") ∷
+    (codes "--baseline" ∷ codes "a" ∷ codes "--baseline=b" ∷ [], codes "--baseline=b: this option is given twice") ∷
     (codes "--every" ∷ codes "all" ∷ codes "--every" ∷ [], codes "--every: this option is given twice") ∷
     (codes "-u" ∷ codes "--unchanged" ∷ codes "a" ∷ [], codes "--unchanged: this option is given twice") ∷
     (codes "--output" ∷ codes "a" ∷ codes "--output" ∷ codes "b" ∷ [], codes "--output b: this option is given twice") ∷
@@ -24,4 +26,4 @@ rejections =
 
 these_rejections : AllByRecursion (λ row. rejection redo_log_json row.0 ≡ row.1) rejections
 unfolding redo_log_json clap_on_literals rejected_within
-these_rejections = (refl, (refl, (refl, (refl, (refl, (refl, (refl, (refl, (refl, (refl, (refl, tt)))))))))))
+these_rejections = (refl, (refl, (refl, (refl, (refl, (refl, (refl, (refl, (refl, (refl, (refl, (refl, (refl, tt)))))))))))))

@@ -12,15 +12,27 @@ record Row : Type 0 where
   words : List (List ℕ)
   parts_are : JsonParts
 
--- A row: the arguments, and their directory, output file, whether unchanged and all other targets are included, number of senders, and
--- targets.
-abbrev asks : List (List ℕ) → List ℕ → Option (List ℕ) → Bool → Bool → ℕ → List (List ℕ) → Row
-asks words dir output unchanged every senders targets =
+-- A row: the arguments, and their directory, baseline, output file, whether unchanged and all other targets are included, number of
+-- senders, and targets.
+abbrev compares : List (List ℕ) → List ℕ → Option (List ℕ) → Option (List ℕ) → Bool → Bool → ℕ → List (List ℕ) → Row
+compares words dir baseline output unchanged every senders targets =
     record {
       words = words;
       parts_are =
-          record { dir = dir; output = output; unchanged = unchanged; every = every; senders = senders; targets = targets };
+          record {
+            dir = dir;
+            baseline = baseline;
+            output = output;
+            unchanged = unchanged;
+            every = every;
+            senders = senders;
+            targets = targets;
+          };
     }
+
+-- A row without a baseline.
+abbrev asks : List (List ℕ) → List ℕ → Option (List ℕ) → Bool → Bool → ℕ → List (List ℕ) → Row
+asks words dir output unchanged every senders targets = compares words dir None output unchanged every senders targets
 
 -- Whether arguments are valid and describe a job.
 abbrev AsksFor : Row → Type 0
@@ -61,10 +73,26 @@ these_combinations : AllByRecursion AsksFor combinations
 unfolding redo_log_json clap_on_literals
 these_combinations = ((refl, refl), ((refl, refl), ((refl, refl), ((refl, refl), ((refl, refl), tt)))))
 
+-- A baseline, alone, after `=`, empty, and beside other options.
+abbrev baselines : List Row
+baselines =
+    compares (codes "--baseline" ∷ codes "d" ∷ []) (codes ".") (Some (codes "d")) None false false 4 (codes "all" ∷ []) ∷
+    compares (codes "--baseline=d" ∷ codes "--dir=e" ∷ codes "--output=f" ∷ codes "a" ∷ [])
+    (codes "e") (Some (codes "d")) (Some (codes "f")) false false 4 (codes "a" ∷ []) ∷
+    compares (codes "a" ∷ codes "--baseline=" ∷ codes "--every" ∷ []) (codes ".") (Some []) None false true 4 (codes "a" ∷ []) ∷
+    compares (codes "--" ∷ codes "--baseline" ∷ codes "d" ∷ [])
+    (codes ".") None None false false 4 (codes "--baseline" ∷ codes "d" ∷ []) ∷
+    []
+
+these_baselines : AllByRecursion AsksFor baselines
+unfolding redo_log_json clap_on_literals
+these_baselines = ((refl, refl), ((refl, refl), ((refl, refl), ((refl, refl), tt))))
+
 -- Options that are given twice.
 abbrev given_twice : List (List (List ℕ))
 given_twice =
     (codes "--dir" ∷ codes "a" ∷ codes "--dir" ∷ codes "b" ∷ []) ∷
+    (codes "--baseline" ∷ codes "a" ∷ codes "--baseline" ∷ codes "b" ∷ []) ∷
     (codes "-u" ∷ codes "-u" ∷ []) ∷
     (codes "-u" ∷ codes "--unchanged" ∷ []) ∷
     (codes "-uu" ∷ []) ∷
@@ -75,7 +103,7 @@ given_twice =
 
 these_given_twice : AllByRecursion (λ words. fault_of_words words ≡ Some Refused) given_twice
 unfolding redo_log_json clap_on_literals
-these_given_twice = (refl, (refl, (refl, (refl, (refl, (refl, (refl, tt)))))))
+these_given_twice = (refl, (refl, (refl, (refl, (refl, (refl, (refl, (refl, tt))))))))
 
 -- Values that are out of range or missing, or that an option doesn't take.
 abbrev bad_values : List (List (List ℕ))
@@ -88,6 +116,7 @@ bad_values =
     (codes "--unchanged=true" ∷ []) ∷
     (codes "--every=all" ∷ []) ∷
     (codes "--dir" ∷ []) ∷
+    (codes "--baseline" ∷ []) ∷
     (codes "all" ∷ codes "--output" ∷ []) ∷
     (codes "--senders" ∷ []) ∷
     (codes "--output" ∷ codes "--every" ∷ []) ∷
@@ -95,7 +124,7 @@ bad_values =
 
 these_bad_values : AllByRecursion (λ words. fault_of_words words ≡ Some Refused) bad_values
 unfolding redo_log_json clap_on_literals
-these_bad_values = (refl, (refl, (refl, (refl, (refl, (refl, (refl, (refl, (refl, (refl, (refl, tt)))))))))))
+these_bad_values = (refl, (refl, (refl, (refl, (refl, (refl, (refl, (refl, (refl, (refl, (refl, (refl, tt))))))))))))
 
 -- Unknown options.
 abbrev unknown : List (List (List ℕ))

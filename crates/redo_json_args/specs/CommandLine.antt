@@ -1,4 +1,4 @@
--- The definition of the command line of `redo-log-json` for `clap`: six arguments, each with a rule.
+-- The definition of the command line of `redo-log-json` for `clap`: seven arguments, each with a rule.
 --
 -- `redo_args` defines the kinds of rules and says what their fields mean.
 use Rattle.std.specs.Prelude.{List, [], ◌∷◌, codes}
@@ -7,10 +7,11 @@ use Rattle.clap.specs.Walk.{Rule}
 use Rattle.clap.specs.declared.builder.action.ArgAction.TheVariants.{SetTrue}
 use Rattle.redo_args.specs.CommandLine.{flag_rule, letter_rule, number_rule, optional_words_rule, plain, text_rule, with_rules}
 
--- `--dir DIR`, `-u` and `--unchanged`, `--every`, `--output FILE`, `--senders N`, `TARGET..`
+-- `--dir DIR`, `--baseline DIR`, `-u` and `--unchanged`, `--every`, `--output FILE`, `--senders N`, `TARGET..`
 abbrev pub rules : List Rule
 rules =
     text_rule (codes "dir") ∷
+    text_rule (codes "baseline") ∷
     letter_rule (codes "unchanged") 117 ∷
     flag_rule (codes "every") (codes "every") SetTrue ∷
     text_rule (codes "output") ∷

@@ -6,10 +6,11 @@ use Rattle.std.specs.Prelude.{ℕ, Bool, List, Option, codes}
 use Rattle.clap.specs.Walk.{Row, first_of}
 use Rattle.redo_args.specs.Job.{dir_of, is_on, number_or, targets_or_all}
 
--- The capture directory, the output file, whether targets that needed no rebuild are included, whether all other listed targets
+-- The capture directory, that of the baseline, the output file, whether targets that needed no rebuild are included, whether all other listed targets
 -- follow, the number of senders, and the arguments that name the requested targets.
 pub record JsonParts : Type 0 where
   pub dir : List ℕ
+  pub baseline : Option (List ℕ)
   pub output : Option (List ℕ)
   pub unchanged : Bool
   pub every : Bool
@@ -19,6 +20,7 @@ pub record JsonParts : Type 0 where
 abbrev pub parts_of : List Row → JsonParts
 parts_of rows = record {
   dir = dir_of rows;
+  baseline = first_of (codes "baseline") rows;
   output = first_of (codes "output") rows;
   unchanged = is_on (codes "unchanged") rows;
   every = is_on (codes "every") rows;

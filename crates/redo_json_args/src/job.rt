@@ -22,6 +22,7 @@ const DEFAULT_TARGETS: &[&str] = &["all"];
 #[derive(Drop)]
 pub struct JsonJob {
     dir: String,
+    baseline: Option<String>,
     output: Option<String>,
     unchanged: bool,
     every: bool,
@@ -37,11 +38,11 @@ impl Model for JsonJob {
 
     ghost Value = { JsonParts };
 
-    ghost view = { λ job. parts_with (string_bytes job.dir) (option_map string_bytes job.output) job.unchanged job.every job.senders
-        job.targets.items };
+    ghost view = { λ job. parts_with (string_bytes job.dir) (option_map string_bytes job.baseline) (option_map string_bytes job.output)
+        job.unchanged job.every job.senders job.targets.items };
 
-    ghost invariant = { λ job. IsJsonJob (parts_with (string_bytes job.dir) (option_map string_bytes job.output) job.unchanged job.every
-        job.senders job.targets.items) };
+    ghost invariant = { λ job. IsJsonJob (parts_with (string_bytes job.dir) (option_map string_bytes job.baseline)
+        (option_map string_bytes job.output) job.unchanged job.every job.senders job.targets.items) };
 }
 
 impl JsonJob {
@@ -51,6 +52,14 @@ impl JsonJob {
         ensures { result.now ≡ self.now.dir }
     {
         self.dir.as_str()
+    }
+
+    /// Returns the capture directory of an earlier build, with which this one is compared, as it was given, if it was. The rest is as
+    /// for [`JsonJob::dir`].
+    pub fn baseline(&self) -> Option<&str>
+        ensures { option_map (λ text. text.now) result ≡ self.now.baseline }
+    {
+        self.baseline.as_deref()
     }
 
     /// Returns the path of the file that the objects are written to, as it was given. Without it, they go to standard
@@ -102,6 +111,7 @@ pub(crate) fn job_from_matches(
     ensures { IfOk result (λ job. job ≡ parts_of (rows_of (found_of matches.now))) }
 {
     let dir = matches.get_str("dir").unwrap_or(DEFAULT_DIR);
+    let baseline = matches.get_str("baseline");
     let output = matches.get_str("output");
     let unchanged = matches.get_flag("unchanged");
     let every = matches.get_flag("every");
@@ -109,6 +119,7 @@ pub(crate) fn job_from_matches(
     let targets = matches.get_strs("target").unwrap_or(DEFAULT_TARGETS);
     Ok(JsonJob {
         dir: String::from_str(alloc, dir)?,
+        baseline: copy_of(alloc, baseline)?,
         output: copy_of(alloc, output)?,
         unchanged,
         every,

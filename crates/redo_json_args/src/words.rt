@@ -8,7 +8,7 @@ ghost use Rattle.redo_json_args.specs.Words.{fault_of_words, parse_parts};
 use crate::job::{JsonJob, job_from_matches};
 use clap::{Arg, ArgAction, Command};
 use redo_args::arguments::{
-    command_line, dir, flag, help_of, optional_targets, senders, text_option, unchanged,
+    baseline, command_line, dir, flag, help_of, optional_targets, senders, text_option, unchanged,
 };
 use redo_args::{CommandLine, WordsFault, parse};
 use std::alloc::{AllocError, Global};
@@ -31,7 +31,7 @@ Exit status:
 
 /// Parses the command-line arguments, without the name of the program:
 ///
-/// `[--dir DIR] [-u|--unchanged] [--every] [--output FILE] [--senders N] [TARGET..]`
+/// `[--dir DIR] [--baseline DIR] [-u|--unchanged] [--every] [--output FILE] [--senders N] [TARGET..]`
 ///
 /// By default, the directory is `.`, the number of senders is 4, and the target is `all`. The rules are the same as for
 /// `redo-log` ([`redo_args::read_words`]), except that no target need be named.
@@ -73,6 +73,7 @@ fn arguments<'a>(alloc: Global) -> Result<Vec<Arg<'a>>, AllocError>
 {
     vec![in alloc;
         dir(alloc),
+        baseline(alloc).hide(true),
         unchanged(alloc),
         flag(
             alloc,

@@ -30,14 +30,14 @@ impl Job for BuildJob {
 
     ghost arguments = { λ build. build.job.targets };
 
-    ghost baseline_dir = { λ build. None };
+    ghost baseline_dir = { λ build. build.job.baseline };
 
     fn dir(&self) -> &str {
         self.job.dir()
     }
 
     fn baseline(&self) -> Option<&str> {
-        None
+        self.job.baseline()
     }
 
     fn output(&self) -> Option<&str> {

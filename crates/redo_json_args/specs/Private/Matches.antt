@@ -16,9 +16,10 @@ pub record AreSound (rows : List Row) : Type 0 where
   pub some_target : 0 < length (targets_or_all rows)
 
 -- The parts of a job with these fields. Its targets are stored as bytes.
-abbrev pub parts_with : List ℕ → Option (List ℕ) → Bool → Bool → ℕ → List (Vec ℕ) → JsonParts
-parts_with dir output unchanged every senders targets = record {
+abbrev pub parts_with : List ℕ → Option (List ℕ) → Option (List ℕ) → Bool → Bool → ℕ → List (Vec ℕ) → JsonParts
+parts_with dir baseline output unchanged every senders targets = record {
   dir = dir;
+  baseline = baseline;
   output = output;
   unchanged = unchanged;
   every = every;
