@@ -5,7 +5,7 @@ functions -q __redo_log_names; or source (status dirname)/redo-log.fish
 
 complete -c redo-log-json -f -k -a '(__redo_log_names)'
 complete -c redo-log-json -s u -l unchanged -d 'Show targets that needed no rebuild too'
-complete -c redo-log-json -l every -d 'Append all other listed targets, in the order of `names`'
+complete -c redo-log-json -l every -d 'Also write the logs of all other listed targets'
 complete -c redo-log-json -l dir -x -a '(__fish_complete_directories (commandline -ct))' \
     -d 'The capture directory: `names`, and a `log.NUMBER` for each line of it'
 complete -c redo-log-json -l output -r -F -d 'Write the objects to FILE, which they replace once they are complete'

@@ -12,7 +12,7 @@ use redo_view::FormFault;
 use std::alloc::{AllocError, Global};
 use std::marker::Model;
 
-/// The capacity of the mailbox. It is no option, and `--senders` is one, although no byte of a page depends on either.
+/// The capacity of the mailbox. There is no option for it. No byte of a page depends on it.
 const CAPACITY: u32 = 64;
 
 /// A job whose text is a page of the requested targets.
@@ -78,7 +78,7 @@ impl Job for HtmlJob {
     }
 }
 
-// Returns what the page of a job is asked.
+// Returns the request for the page of a job.
 fn request_for<'a>(job: &'a PageJob, facts: &'a BuildFacts) -> PageRequest<'a>
     ensures { request_of result ≡ request_for job.entry.now facts.entry.now.times.items facts.entry.now.recipes.items }
 {

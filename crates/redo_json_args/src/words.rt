@@ -17,7 +17,7 @@ const ABOUT: &str =
     "Writes the logs of a parallel build as data: one JSON object per log, each on a line of its own.";
 
 const AFTER_HELP: &str = "Example:
-  redo-log-json --dir captures --every --output build.jsonl    writes all logs of a build
+  redo-log-json --dir captures --every --output build.jsonl    writes all logs of a capture
 
 Exit status:
    0  the objects, this help or the version was written
@@ -80,7 +80,7 @@ fn arguments<'a>(alloc: Global) -> Result<Vec<Arg<'a>>, AllocError>
             "every",
             "every",
             ArgAction::SetTrue,
-            "Append all other listed targets, in the order of `names`",
+            "Also write the logs of all other listed targets",
         ),
         text_option(
             alloc,

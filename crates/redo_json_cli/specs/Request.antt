@@ -1,4 +1,4 @@
--- What the JSON of a job is asked.
+-- The request for the JSON of a job.
 use Rattle.std.specs.Prelude.{ℕ, List, if◌then◌else◌}
 use Rattle.redo_facts.specs.Facts.{RecipeFacts}
 use Rattle.redo_logs.specs.Logs.{Log}
@@ -7,7 +7,7 @@ use Rattle.redo_json.specs.Build.{Request, build_json}
 use Rattle.redo_json.specs.Every.{every_target}
 use Rattle.redo_json_args.specs.Job.{JsonParts}
 
--- What the JSON of a job is asked, if these are the times of all targets and the facts of their recipes.
+-- The request for the JSON of a job, if these are the times of all targets and the facts of their recipes.
 abbrev pub request_for : JsonParts → List Times → List RecipeFacts → Request
 request_for job times recipes = record { unchanged = job.unchanged; times = times; facts = recipes }
 

@@ -12,10 +12,10 @@ use redo_view::FormFault;
 use std::alloc::{AllocError, Global};
 use std::marker::Model;
 
-/// The capacity of the mailbox. It is no option, and `--senders` is one, although no byte of the JSON depends on either.
+/// The capacity of the mailbox. There is no option for it. No byte of the JSON depends on it.
 const CAPACITY: u32 = 64;
 
-/// A job whose text is the JSON of the requested targets, or of every target of the build.
+/// A job whose text is the JSON of the requested targets, or of every listed target.
 #[derive(Drop)]
 pub struct BuildJob {
     pub job: JsonJob,
@@ -84,7 +84,7 @@ impl Job for BuildJob {
     }
 }
 
-// Returns what the JSON of a job is asked.
+// Returns the request for the JSON of a job.
 fn request_for<'a>(job: &JsonJob, facts: &'a BuildFacts) -> BuildRequest<'a>
     ensures { request_of result ≡ request_for job.entry.now facts.entry.now.times.items facts.entry.now.recipes.items }
 {
