@@ -6,6 +6,7 @@ mod ReaderLemmas
 mod ReaderRows
 mod ReportLemmas
 mod ReportedLemmas
+mod SkipLemmas
 mod StreamLemmas
 mod TallyLemmas
 mod TimeLemmas

@@ -4,8 +4,10 @@ use Rattle.std.proofs.lemmas.List.{append-nil, append_assoc, length-drop, take_a
 use Rattle.std.proofs.lemmas.List.Elements.{filter_map-append}
 use Rattle.memchr.specs.Find.{Nowhere, NoneBefore, Passes, is_byte}
 use Rattle.redo_line.specs.Lines.{ended, line_feed, rest}
+use Rattle.redo_line.specs.Record.{at_sign}
 use Rattle.redo_line.proofs.CutLemmas.{line_in, none_in}
 use Rattle.redo_line.proofs.LineLemmas.{ended-append, ended-free, rest-append}
+use Rattle.redo_times.proofs.SkipLemmas.{HasNo, no_reports}
 use Rattle.redo_times.specs.declared.report.Report.{Report}
 use Rattle.redo_times.specs.declared.tally.Tally.{Tally}
 use Rattle.redo_times.specs.Report.{report_of, reports_in}
@@ -58,6 +60,30 @@ module _ (bytes hay : List ℕ) (upto : ℕ) (hay_is : hay ≡ drop upto bytes) 
         subst (λ (bs : List ℕ). AreTalliesAfter targets log reports bs tallies) joined
         (after_lines targets log reports (take upto bytes) (take (at + 1) hay) (line ∷ [])
         (cut_there.0 ∙ ap (λ (l : List ℕ). ended (take upto bytes) ++ l ∷ []) (sym line_is)) tallies are)
+
+  -- Complete lines follow, none of which has an `@`.
+  module _ (size : ℕ) (complete : rest (take size hay) ≡ []) (none : HasNo at_sign (take size hay)) where
+    skipped : take (upto + size) bytes ≡ take upto bytes ++ take size hay
+    skipped = take-add upto size bytes ∙ ap (λ (h : List ℕ). take upto bytes ++ take size h) (sym hay_is)
+
+    pub skipped_rest : rest (take (upto + size) bytes) ≡ []
+    skipped_rest = ap rest skipped ∙ rest-append (take upto bytes) (take size hay)
+        ∙ ap (λ (last : List ℕ). rest (last ++ take size hay)) no_rest ∙ complete
+
+    pub skipped_lines : (targets : List (List ℕ)) (log : List ℕ) (reports : List Report) (tallies : List Tally)
+        → AreTalliesAfter targets log reports (take upto bytes) tallies
+        → AreTalliesAfter targets log reports (take (upto + size) bytes) tallies
+    skipped_lines targets log reports tallies are =
+        subst (λ (more : List Report). AreTallies targets (reports ++ more) tallies) (sym same) are
+      where
+        cut : ended (take (upto + size) bytes) ≡ ended (take upto bytes) ++ ended (take size hay)
+        cut = ap ended skipped ∙ ended-append (take upto bytes) (take size hay)
+            ∙ ap (λ (last : List ℕ). ended (take upto bytes) ++ ended (last ++ take size hay)) no_rest
+
+        same : reports_in log (ended (take (upto + size) bytes)) ≡ reports_in log (ended (take upto bytes))
+        same = ap (reports_in log) cut ∙ reports-append log (ended (take upto bytes)) (ended (take size hay))
+            ∙ ap (λ (more : List Report). reports_in log (ended (take upto bytes)) ++ more) (no_reports log (take size hay) none)
+            ∙ append-nil (reports_in log (ended (take upto bytes)))
 
   -- No further line ends.
   module _ (nowhere : Nowhere (Passes (is_byte line_feed) hay) 0 (length hay)) where

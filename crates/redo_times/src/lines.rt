@@ -1,17 +1,20 @@
 //! The reports of the lines of a chunk of a log.
 //!
-//! A line is skipped unless it begins with `@@REDO:`. Only `do` and `done` records are resolved and looked up. A record that
-//! is not valid is skipped, because a run reports it. A stream with a fault has times too.
-ghost use Rattle.std.specs.Prelude.{◌≡◌, ◌≤◌, ℕ, List, ◌++◌, ◌∷◌, [], drop, length, IfOk, OnOk};
+//! A line is skipped unless it begins with `@@REDO:`. Most lines have no `@`, and these are skipped many at once. Only `do` and
+//! `done` records are resolved and looked up. A record that is not valid is skipped, because a run reports it. A stream with a fault
+//! has times too.
+ghost use Rattle.std.specs.Prelude.{◌≡◌, ◌≢◌, ◌≤◌, ℕ, List, ◌++◌, ◌∷◌, [], drop, length, take, IfOk, OnOk};
+ghost use Rattle.std.specs.List.{AllByRecursion};
 ghost use Rattle.redo_index.specs.Index.{listed_targets, IsIndex};
 ghost use Rattle.redo_line.specs.Lines.{ended, rest};
+ghost use Rattle.redo_line.specs.Record.{at_sign};
 ghost use Rattle.redo_times.specs.declared.report.Report.{Report};
 ghost use Rattle.redo_times.specs.Private.Tally.{AreTallies, AreTalliesAfter};
 ghost use Rattle.redo_times.specs.Report.{reports_in};
 
 use crate::report::read_report;
 use crate::tally::{Tally, add_report};
-use memchr::memchr;
+use memchr::{memchr, memrchr};
 use redo_index::Index;
 use redo_line::TargetName;
 use std::alloc::{AllocError, Global};
@@ -61,11 +64,38 @@ fn add_lines(
         → OnOk result (AreTalliesAfter (listed_targets index.now) log.now reports bytes.now tallies.new) }
 {
     let mut upto = 0;
-    'lines: while let Some(at) = memchr(b'\n', &bytes[upto..]) {
+    'lines: loop {
+        upto += skip_lines(&bytes[upto..]);
+        let Some(at) = memchr(b'\n', &bytes[upto..]) else {
+            return Ok(upto);
+        };
         add_line(alloc, index, tallies, log, &bytes[upto..upto + at])?;
         upto += at + 1;
     }
-    Ok(upto)
+}
+
+// Returns the start of the first line that has an `@`, or of the last line if none has one.
+fn skip_lines(bytes: &[u8]) -> usize
+    ensures range { result ≤ length bytes.now }
+    ensures complete { rest (take result bytes.now) ≡ [] }
+    ensures none { AllByRecursion (λ byte. byte ≢ at_sign) (take result bytes.now) }
+{
+    let end = find_at(bytes);
+    match memrchr(b'\n', &bytes[..end]) {
+        Some(last) => last + 1,
+        None => 0,
+    }
+}
+
+// Returns the place of the first `@`, or the number of bytes if there is none.
+fn find_at(bytes: &[u8]) -> usize
+    ensures range { result ≤ length bytes.now }
+    ensures none { AllByRecursion (λ byte. byte ≢ at_sign) (take result bytes.now) }
+{
+    match memchr(b'@', bytes) {
+        Some(at) => at,
+        None => bytes.len(),
+    }
 }
 
 // Adds the report of an ended line.
