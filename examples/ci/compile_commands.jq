@@ -1,15 +1,15 @@
 # Makes compile_commands.json, for clangd, cppcheck and others, from the commands of a capture with `redo-log-capture --commands`.
 #     jq -s --arg base "$PWD" -f compile_commands.jq build.jsonl >compile_commands.json
-# `--arg base DIR` says where the build began. What only a shell knows is left out: sources that variables, patterns or loops name.
+# `--arg base DIR` says where the build began. What only a shell knows is left out: sources that variables, patterns or loops name, what
+# follows the first line of a here-document, and what runs after `pushd`, or after `cd` in a shell that also has `|` or `&`.
 include "lib" {search: "./"};
-# The commands in a script, each with its words as they are written, without redirections. `(` and `)` are commands.
+# The commands in a script, each with the separator before it, and its words as they are written, without redirections.
 def simple_commands:
   "(?:\\\\.|'[^']*'|\"(?:\\\\.|[^\"\\\\])*\"|`[^`]*`|\\$\\([^()]*\\)|[^\\s;&|<>()'\"`\\\\])+" as $word
-  | reduce (split("\\\n") | join("") | scan("#[^\\n]*|[0-9]*[<>]+[&|]?[ \\t]*\($word)|\($word)|[;&|()\\n]")) as $token
-      ([[]]; if $token | IN("(", ")") then . + [[$token], []] elif $token | test("\\A[;&|\\n]") then . + [[]]
-             elif $token | test("\\A(#|[0-9]*[<>])") then . else .[-1] += [$token] end) | .[];
-# A command without the reserved words before it.
-def bare: if .[0] | IN("{", "!", "if", "then", "elif", "else", "while", "until", "do") then .[1:] | bare else . end;
+  | split("\\\n") | join("") | sub("(?<line>(?<!<)<<(?!<).*)\\n(?s:.*)"; .line)
+  | reduce scan("#[^\\n]*|[0-9]*[<>]+[&|]?[ \\t]*\($word)|\($word)|&&|\\|\\||[;&|()\\n]") as $token
+      ([{words: []}]; if $token | test("\\A[;&|()\\n]") then . + [{after: $token, words: []}]
+             elif $token | test("\\A(#|[0-9]*[<>])") then . else .[-1].words += [$token] end) | .[];
 # A word as the command gets it. Automake's words have `test -f FILE || echo DIRECTORY`, which prints the directory.
 def unquoted:
   if test("['\"\\\\`]") then [scan("\\\\.|'[^']*'|\"(?:\\\\.|[^\"\\\\])*\"|`[^`]*`|[^\\\\'\"`]+")
@@ -17,19 +17,28 @@ def unquoted:
       elif startswith("\\") then .[1:] elif startswith("`") then (capture("echo '?(?<echoed>[^'`]*)'?`$").echoed // .)
       else . end] | join("")
   else . end;
-def after(names): . as $words | [range(1; length) | select($words[. - 1] | IN(names)) | $words[.]];
-# The words of a compiler, if a command runs one, also by ccache, libtool and the like.
+def is_pattern: test("[$`*?\\[{]|\\A~");
+# A command without what may precede a compiler: reserved words, assignments, and programs that run others, with their options.
+def bare:
+  "ccache|command|depcomp|distcc|env|exec|libtool|nice|nohup|sccache|(ba)?sh|time" as $programs
+  | if .[0] // "" | unquoted | test("\\A(-|\\w+=|([{!0-9]+|if|then|elif|else|while|until|do|(.*/)?(\($programs)))\\z)")
+    then .[1:] | bare else . end;
+# The words of a command, if it is a compiler.
 def compilation:
-  def is_compiler: test("\\A([^=]*[/-])?(cc|gcc|g\\+\\+|c\\+\\+|clang|clang\\+\\+|c99|c11)(-[0-9.]+)?\\z");
-  . as $words | select(.[0] | IN("echo", "printf", ":", "test", "[") | not)
-  | $words[first(range(length) | select($words[.] | unquoted | is_compiler)):] | map(unquoted) | select(any(IN("-E", "-M", "-MM")) | not);
+  select(.[0] // "" | unquoted | test("\\A(.*[/-])?(cc|gcc|g\\+\\+|c\\+\\+|clang|clang\\+\\+|c99|c11)(-[0-9.]+)?\\z"))
+  | map(unquoted) | select(any(IN("-E", "-M", "-MM")) | not);
+# The words that follow one for which f holds.
+def after(f): range(1; length) as $at | select(.[$at - 1] | f) | .[$at];
 def sources:
-  (.[1:] - after("-o", "-MF", "-MT", "-MQ", "-include", "-imacros", "-I", "-isystem", "-D", "-U"))[]
-  | select((startswith("-") or test("[$`*?]") | not) and test("\\.(c|cc|cp|cpp|cxx|c\\+\\+|C|m|mm)\\z"));
+  after(test("\\A-(o|M[FTQ]|i[a-z-]+|X.+|[ADILTUluxz]|-param|arch|target|mllvm|wrapper)\\z") | not)
+  | select((startswith("-") or is_pattern | not) and test("\\.([cCmMS]|cc|CC|cp|c(pp|xx|\\+\\+)|C(PP|XX)|mm|sx)\\z"));
 [.[] | .directory as $directory | .commands[]
- | foreach (simple_commands | bare) as $words ([$directory];
-     if $words == ["("] then . + [last] elif $words == [")"] then if length > 1 then .[:-1] else . end
-     elif $words[0] != "cd" or last == false then .
-     else last as $now | .[-1] = ($words[1] // "$" | if ($words | length) != 2 or test("\\A-|[$`]") then false else unquoted | in_directory($now) end) end;
-     last | select(. != false) as $now | $words | compilation
-     | {directory: ("." | absolute_path($now)), arguments: ., file: sources} + (after("-o") | if . == [] then {} else {output: .[0]} end))]
+ | foreach (simple_commands | .words |= bare) as {$after, $words} ([{now: $directory}];
+     if $after == "(" then . + [last | {now}] elif $after == ")" and length > 1 then .[:-1] else . end
+     | .[-1] |= (if $after | IN("|", "&") then .forks = true else . end
+         | if $words[0] | IN("cd", "pushd", "popd") | not then .
+           elif $words[0] != "cd" or ($words | length) != 2 or .now == false or ($words[1] | test("\\A-") or is_pattern) then .now = false
+           else .moves = true | .now as $now | .now = ($words[1] | unquoted | in_directory($now)) end
+         | if .forks and .moves then .now = false else . end);
+     last.now | select(. != false) as $now | $words | compilation
+     | {directory: ("." | absolute_path($now)), arguments: ., file: sources} + ([after(. == "-o") | {output: .}][0] // {}))]

@@ -29,6 +29,12 @@ ALL_RUN = [
     "gcc -c a.c; : gcc -c no.c", "true CC=/usr/bin/gcc a.c", "gcc --version", "gcc -c -DEMPTY= '' a.c",
     "gcc -c \"a.c\"\"\" ''", "cd sub && (test -f x || true) && gcc -c ../a.c", "cd sub; case $X in y) true;; *) gcc -c ../a.c;; esac",
     "if test -d sub; then cd sub; gcc -c ../a.c; fi", "{ cd sub; gcc -c ../a.c; }", "(cd sub; (cd deep; gcc -c ../../a.c); gcc -c ../a.c)",
+    "gcc -c e.CC g.CPP f.S h.S", "nice -n 5 distcc gcc -c a.c", "X=1 ccache distcc gcc -c a.c",
+    "/bin/sh ./libtool --tag=CC --mode=compile gcc -c a.c", "gcc -idirafter x.c -Xclang y.c -c a.c", "gcc -MD -MT a.c -c a.c",
+    "gcc -c 'b c.c' a~.c", "time -p gcc -c a.c", "cd sub && gcc -c ../a.c | cat", "cd sub && gcc -c ../a.c & wait",
+    "cd sub || exit 1; gcc -c ../a.c", "gcc -c a.c | cat; gcc -c 'b c.c'", "(cd sub | true; true); gcc -c a.c",
+    "(cd sub && gcc -c ../a.c) | cat; gcc -c a.c", "(cd sub; gcc -c ../a.c) & gcc -c a.c; wait", "true | (cd sub && gcc -c ../a.c)",
+    "gcc -c a.c & gcc -c 'b c.c'; wait", "cat <<E && gcc -c a.c\ngcc -c no.c\nE", "echo $((1<<2)) '<<E'; gcc -c a.c",
 ]  # fmt: skip
 # Scripts whose sources or directories only the shell knows, and commands that compile nothing.
 UNKNOWN = [
@@ -36,6 +42,12 @@ UNKNOWN = [
     "gcc -M a.c", "gcc -MM a.c -DX", "gcc -E a.c", "gcc --print-file-name=a.c", "gcc -o x a.o", "echo gcc -c a.c",
     "sh -c 'true gcc -c a.c'", ": gcc -c a.c", "[ gcc = a.c ]", "",
     "for d in sub; do cd $d; gcc -c a.c; done", "cd -P sub && gcc -c ../a.c", "cd && gcc -c a.c",
+    "gcc -c [ab].c", "gcc -c {a,d}.c", "gcc -c ~/a.c", "cd su[b] && gcc -c a.c", "cd ~ && gcc -c a.c", "grep -n gcc src/foo.c",
+    "cp gcc a.c", "diff gcc a.c", "python3 gen.py --cc gcc foo.c", "-gcc -c a.c", "nice --cc a.c", "sh build.sh gcc a.c",
+    "pushd sub && gcc -c a.c", "cd sub && popd && gcc -c a.c", "command cd $X && gcc -c a.c", "cd sub | true; gcc -c a.c",
+    "true | cd sub; gcc -c a.c", "cd sub |\n true\n gcc -c a.c", "cd sub & gcc -c a.c", "cd sub && true & gcc -c a.c",
+    "{ cd sub; true; } 2>&1 | cat; gcc -c a.c", "{ cd sub; true; } & gcc -c a.c", "true | while read x; do cd sub; done; gcc -c a.c",
+    "cat >x <<E\ngcc -c a.c\nE", "cat <<-'E F' >x\n\tgcc -c a.c\n\tE F", "sh <<E\ncd sub\nE\ngcc -c a.c",
 ]  # fmt: skip
 # What is no script. Anything may be found there.
 BROKEN = [
@@ -48,9 +60,10 @@ import json, os, sys
 with open(os.environ["RECORDED"], "a", encoding="utf-8") as file:
     file.write(json.dumps([os.getcwd(), [os.path.basename(sys.argv[0]), *sys.argv[1:]]]) + "\\n")
 """
+WRAPPERS = ["ccache", "distcc", "time"]
 WRAPPER = '#!/bin/sh\nwhile case $1 in -*) true;; *) false;; esac; do shift; done\nexec "$@"\n'
 # The options before words that are no sources.
-VALUES = ("-MF", "-MT", "-MQ", "-include", "-o")
+VALUES = ("-MF", "-MT", "-MQ", "-include", "-idirafter", "-Xclang", "-o")
 
 
 def write_capture(folder, rows):
@@ -68,7 +81,7 @@ def write_capture(folder, rows):
 
 
 def is_source(word):
-    return re.search(r"\.(c|cc)$", word) is not None and not word.startswith("-")
+    return re.search(r"\.(c|cc|CC|CPP|S)$", word) is not None and not word.startswith("-")
 
 
 def normal(directory, words):
@@ -82,7 +95,8 @@ def scripts_of_shells(checks, at, tool, program):
     folder = os.path.realpath(at("scripts"))
     for name in COMPILERS:
         write(os.path.join(folder, "bin", name), RECORDER, 0o755)
-    write(os.path.join(folder, "bin/ccache"), WRAPPER, 0o755)
+    for name in WRAPPERS:
+        write(os.path.join(folder, "bin", name), WRAPPER, 0o755)
     more = environment({"PATH": os.path.join(folder, "bin") + ":" + os.environ["PATH"], "RECORDED": os.path.join(folder, "recorded")})
     rows, expected = [], {}
     for number, script in enumerate([*ALL_RUN, *UNKNOWN]):
