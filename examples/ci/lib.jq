@@ -41,9 +41,9 @@ def has_place: .file != null and (.file | length) <= 4096;
 # The text of a diagnostic after `warning:` or `error:`.
 def text: .message + (if .flag then " [\(.flag)]" else "" end);
 # The diagnostics that have a place, with their paths. What several targets print about one place is one finding. `key` is without the
-# file, and `nth` is the number of a finding among those with the same path and key.
+# file, and `nth` is the number of a finding among those with the same path and key. Bytes that aren't UTF-8 also tell findings apart.
 def findings:
   [.[] | .directory as $directory | name as $target | .diagnostics[] | select(has_place)
    | . + {target: $target, path: .file | path_from_root($directory), key: (.file as $file | .key | ltrimstr($file))}]
-  | group_by([.path, .key, .row, .column]) | map(.[0] + {targets: map(.target) | unique})
+  | group_by([.path, .key, .row, .column, .file_base64, .key_base64]) | map(.[0] + {targets: map(.target) | unique})
   | group_by([.path, .key]) | map(to_entries[] | .value + {nth: .key});

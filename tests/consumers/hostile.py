@@ -349,4 +349,20 @@ def hostile_news(checks, at, tool, program):
     checks.expect("hostile news", (out.decode().split("\n")[:-1], err), (wanted, ""))
 
 
-PARTS = (hostile_bytes, roots, lanes, nested_failures, long_lines, empty_builds, hostile_news)
+def exact_bytes(checks, at, tool, program):
+    """Files and messages that are shown as the same text are findings of their own, also for GitLab."""
+    del tool
+    folder = at("exact")
+    os.mkdir(folder)
+    lines = [file + b".c:7:1: error: " + message for file in (b"\xfe", b"\xff") for message in (b"\xfe", b"\xff")]
+    targets = [Target(b"t%d" % number, 1, [line, lines[0]]) for number, line in enumerate(lines)]
+    write_capture(os.path.join(folder, "capture"), targets)
+    write_json(checks, "exact bytes", program, folder, "capture")
+    results = json.loads(made(checks, "exact bytes", "sarif", folder))["runs"][0]["results"]
+    found = [[target["fullyQualifiedName"] for target in one["locations"][0]["logicalLocations"]] for one in results]
+    checks.expect("exact bytes: the targets of each finding", sorted(found), [["t0", "t1", "t2", "t3"], ["t1"], ["t2"], ["t3"]])
+    fingerprints = {one["fingerprint"] for one in json.loads(made(checks, "exact bytes", "gitlab", folder))}
+    checks.expect("exact bytes: fingerprints", len(fingerprints), 4)
+
+
+PARTS = (hostile_bytes, roots, lanes, nested_failures, long_lines, empty_builds, hostile_news, exact_bytes)

@@ -1,4 +1,4 @@
-"""Random builds for new.jq. A second implementation, one diagnostic after another, says what is new."""
+"""Builds for new.jq. Of random ones, a second implementation says what is new, one diagnostic after another."""
 import os
 import random
 import re
@@ -52,15 +52,34 @@ def random_news(checks, at, tool, program):
         write_capture(os.path.join(folder, name), targets)
         builds.append({row["target"]: row for row in parsed(write_json(checks, name, program, folder, name, f"{name}.jsonl"))})
     old, new = builds
-    wanted = []
+    printed = {}
     for name, row in new.items():
         before = sources_and_keys(old[name]) if name in old else []
-        wanted += [f"{row['lines'][row['diagnostics'][place]['line']]} ({name})" for place in new_places(before, sources_and_keys(row))]
+        for place in new_places(before, sources_and_keys(row)):
+            printed.setdefault(row["lines"][row["diagnostics"][place]["line"]], set()).add(name)
+    wanted = [f"{line} ({', '.join(sorted(names))})" for line, names in printed.items()]
     failed_before = [name for name, row in old.items() if row["status"] not in (0, None)]
     wanted += [f"{name} fails (exit {row['status']})" for name, row in new.items() if row["status"] == 1 and name not in failed_before]
     status, out, err = run_script("new", folder)
-    checks.expect("random builds: there are many", len(wanted) > 500, True)
+    checks.expect("random builds: there are many", (len(wanted) > 500, any(len(names) > 1 for names in printed.values())), (True, True))
     checks.expect("random builds: what is new", (status, out.decode().splitlines(), err), (1, wanted, ""))
 
 
-PARTS = (random_news,)
+def shared_header(checks, at, tool, program):
+    """A new warning in a header that 200 targets include is one line, with ten of them. Names of files that aren't UTF-8 stay apart."""
+    del tool
+    folder, line = os.path.realpath(at("header")), b"%s.h:5:1: warning: unused"
+    os.makedirs(folder)
+    shared = [Target(b"t%03d" % number, 0, [line % b"some", line % b"all"][number < 9 :], 0, 5) for number in range(200)]
+    named = [Target(b"%d" % number, 0, [line % file], 0, 5) for number, file in enumerate((b"\xfe", b"\xff", b"\xff"))]
+    for name, targets in (("OLD", []), ("NEW", [*named, *shared])):
+        write_capture(os.path.join(folder, name), targets)
+        write_json(checks, name, program, folder, name, f"{name}.jsonl")
+    wanted = [f"\ufffd.h:5:1: warning: unused ({targets})" for targets in ("0", "1, 2")]
+    wanted.append("all.h:5:1: warning: unused (t000, t001, t002, t003, t004, t005, t006, t007, t008, t009, and 190 more)")
+    wanted.append("some.h:5:1: warning: unused (t009, t010, t011, t012, t013, t014, t015, t016, t017, t018, and 181 more)")
+    status, out, err = run_script("new", folder)
+    checks.expect("a header: what is new", (status, out.decode().splitlines(), err), (1, wanted, ""))
+
+
+PARTS = (random_news, shared_header)

@@ -316,8 +316,9 @@ def expect_new(checks, project, program):
     write(os.path.join(folder, "lib/Makefile"), LIBRARY.replace("all: a.o", "all: fresh.o a.o"))
     project.build()
     write_json(checks, "changed sources", program, folder, CAPTURES, "NEW.jsonl")
-    lines = [f"{one.path}:{one.row}:{one.column}: {one.severity}: {one.text} ({target})"
-             for one in found if one.is_new for target in {**PRINT, "lib/fresh.c": ["lib/fresh.o"]}[one.path]]  # fmt: skip
+    printing = {**PRINT, "lib/fresh.c": ["lib/fresh.o"]}
+    lines = [f"{one.path}:{one.row}:{one.column}: {one.severity}: {one.text} ({', '.join(sorted(printing[one.path]))})"
+             for one in found if one.is_new]  # fmt: skip
     lines.append("coloured.o fails (exit 1)")
     status, out, err = run_script("new", folder)
     checks.expect("changed sources: what is new", (status, sorted(out.decode().splitlines()), err), (1, sorted(lines), ""))
