@@ -1,4 +1,5 @@
 """What redo-log-json has in common with redo-log-html: messages, statuses, output files, and devices that fail."""
+import errno
 import os
 import re
 import stat
@@ -11,6 +12,7 @@ from checks import version
 
 MOST_SECONDS = 600
 CANNOT_WRITE = b"redo-log-json: cannot write\n"
+NO_OUTPUT = "the output must be a file in a directory that exists, and you must be allowed to write there"
 
 
 def run(program, folder, words, **how):
@@ -37,33 +39,44 @@ def like(found):
 # ---- messages --------------------------------------------------------------------------------------------------------
 
 BUILD = {"names": b"1 all\n2 lib/a.o\n3 lib/b.o\n", "log.1": b"x\n"}
-# A status, the files, and the arguments of each run that ends with this status.
+# A status, the files, the message of the first run, and the arguments of each run that ends with this status.
 FAILURES = [
-    (2, BUILD, [
+    (2, BUILD, ["bad command line", "unknown option '--nope'; try --help"], [
         ["--nope"], ["--senders", "0"], ["--senders=65"], ["-u", "-u"], ["-ux"], ["--dir"], ["--dir", ".", "--dir", "."], ["--output"],
         ["-r", "all"], ["--recursive"], ["--no-details"], ["--debug-pids"], ["--capacity", "2"], ["--explain"], ["--unchanged=1"],
         ["--version", "all"], ["-V", "-V"], [b"\xff"], ["all", "--nope", *["b"] * 997], ["all", "--nope", *["b"] * 999],
     ]),
-    (3, {"names": b"1 all\n2 ./all\n"}, [[], ["nope"]]),
-    (3, {"names": b"x\n1 all\n"}, [[]]),
-    (3, {"names": b"1 all\n1 b\n"}, [[]]),
-    (4, {"names": b"1 all\n", "log.1": b"ok\n@@REDO:do:7\n"}, [[], ["--", "all"]]),
-    (4, {"names": b"1 all\n", "log.1": b"@@REDO:done:7:1@@ 0 all\nz\n"}, [[]]),
-    (4, {"names": b"1 all\n!2 it's\n"}, [[], ["-u"]]),
-    (5, {}, [[], ["--dir", "none"], ["--dir", "it's"]]),
-    (5, {"names": None}, [[]]),
-    (5, {"names": b"1 all\n", "log.1": None}, [[]]),
-    (24, BUILD, [["nope"], ["all", "a.o"], ["o"], [""], ["all", "b.o", "nope"]]),
-    (24, {"names": b"1 a\n2 b\n"}, [[], ["all"]]),
-    (24, {"names": b""}, [[]]),
+    (3, {"names": b"1 all\n2 ./all\n"}, ["names: line 2: name listed twice", "leave this line out: sed -i 2d './names'"], [[], ["nope"]]),
+    (3, {"names": b"x\n1 all\n"}, ["names: line 1: bad line", "leave this line out: sed -i 1d './names'"], [[]]),
+    (3, {"names": b"1 all\n1 b\n"}, ["names: line 2: number listed twice", "leave this line out: sed -i 2d './names'"], [[]]),
+    (4, {"names": b"1 all\n", "log.1": b"ok\n@@REDO:do:7\n"},
+     ["all: line 2: bad record", "leave this log out: sed -i '/^!*1 /d' './names'"], [[], ["--", "all"]]),
+    (4, {"names": b"1 all\n", "log.1": b"@@REDO:done:7:1@@ 0 all\nz\n"},
+     ["all: line 2: after the closing record", "leave this log out: sed -i '/^!*1 /d' './names'"], [[]]),
+    (4, {"names": b"1 all\n!2 it's\n"}, ["it's: not closed", "leave this log out: sed -i '/^!*2 /d' './names'"], [[], ["-u"]]),
+    (5, {}, ["names: cannot be read", "no file './names'; without --dir DIR, a capture is looked for here, in .redo-log and in capture"],
+     [[], ["--dir", "none"], ["--dir", "it's"]]),
+    (5, {"names": None},
+     ["names: cannot be read", "not readable: './names'; it must be a file of at most 1073741824 bytes that you may read"], [[]]),
+    (5, {"names": b"1 all\n", "log.1": None},
+     ["all: cannot be read", "not readable: './log.1'; it must be a file that you may read"], [[]]),
+    (24, BUILD, ["nope: not known", "targets: 3; list them: cut -d ' ' -f 2- './names'"],
+     [["nope"], ["all", "a.o"], ["o"], [""], ["all", "b.o", "nope"]]),
+    (24, {"names": b"1 a\n2 b\n"}, ["all: not known", "targets: 2; list them: cut -d ' ' -f 2- './names'"], [[], ["all"]]),
+    (24, {"names": b""}, ["all: not known", "targets: 0; list them: cut -d ' ' -f 2- './names'"], [[]]),
 ]  # fmt: skip
 
 
+def message_of(lines):
+    return "".join(f"redo-log-json: {line}\n" for line in lines).encode()
+
+
 def expect_messages(checks, program, html_program):
-    """The status and both lines on standard error are those of redo-log-html."""
-    for status, files, commands in FAILURES:
+    """The status and both lines on standard error are those of redo-log-html, and those that are written above."""
+    for status, files, lines, commands in FAILURES:
         with tempfile.TemporaryDirectory() as folder:
             write(folder, files)
+            checks.expect(f"{commands[0]} for {files}: the message", run(program, folder, commands[0])[2], message_of(lines))
             for words in commands:
                 what = f"{str(words)[:60]} for {files}"
                 found = run(program, folder, words)
@@ -136,6 +149,9 @@ OUTPUTS = [
     ("old", {"old.tmp0": b"other"}, 0), ("old", BAD_INDEX, 3), ("new", BAD_INDEX, 3), ("link", BAD_INDEX, 3), ("old", BAD_LOG, 4),
     ("none/new", BAD_INDEX, 6), ("folder", BAD_INDEX, 6), (".", BAD_INDEX, 6), ("", BAD_INDEX, 3), ("", {}, 6),
 ]  # fmt: skip
+# The JSON if the files are good, as docs/json.md says.
+JSON = (b'{"target":"all","parent":null,"status":null,"start_ms":null,"end_ms":null,"cpu_ms":null,"peak_kb":null,'
+        b'"directory":null,"commands":[],"needs":[],"lines":["x"],"diagnostics":[]}\n')  # fmt: skip
 # What the file `old` has after a run that succeeds, and after one that fails. The JSON is None.
 AFTER = {"old": (None, b"old"), "./folder/../old": (None, b"old"), "link": (None, b"")}
 
@@ -173,6 +189,9 @@ def expect_output_files(checks, program, html_program):
             found, text, after = written(program, output, files, mode)
             wanted, page, page_after = written(html_program, output, files, mode)
             checks.expect(what, (found, status), (like(wanted), found[0]))
+            checks.expect(f"{what}: standard output", text, b"" if files in (BAD_INDEX, BAD_LOG) else JSON)
+            if status == 6:
+                checks.expect(f"{what}: the message", found[2], CANNOT_WRITE + message_of([NO_OUTPUT]))
             # Both programs write the same files with the same permissions.
             checks.expect(f"{what}: the files", with_whole(after, text), with_whole(page_after, page))
             left = AFTER.get(output, (b"old", b"old"))[status != 0]
@@ -186,6 +205,18 @@ def expect_output_files(checks, program, html_program):
     expect_no_half(checks, program)
 
 
+def opened_pipe(pipe, process, ends):
+    """Opens a pipe for writing when the process has opened it. Returns None if the process has ended, or at the time `ends`."""
+    while process.poll() is None and time.monotonic() < ends:
+        try:
+            return os.fdopen(os.open(pipe, os.O_WRONLY | os.O_NONBLOCK), "wb")
+        except OSError as error:
+            if error.errno != errno.ENXIO:
+                raise
+        time.sleep(.01)
+    return None
+
+
 def expect_no_half(checks, program):
     """As long as a log has no end, the old file stays as it was."""
     with tempfile.TemporaryDirectory() as folder:
@@ -193,12 +224,16 @@ def expect_no_half(checks, program):
         pipe, out = os.path.join(folder, "log.2"), os.path.join(folder, "out")
         os.mkfifo(pipe)
         process = subprocess.Popen([program, "--dir", folder, "--every", "--output", out], stderr=subprocess.PIPE)
+        ends = time.monotonic() + MOST_SECONDS
         try:
-            with open(pipe, "wb") as writer:
+            writer = opened_pipe(pipe, process, ends)
+            checks.expect("a log that is a pipe: the program opens it", writer is not None, True)
+            if writer is None:
+                return
+            with writer:
                 writer.write(b"y\n")
                 writer.flush()
-                ends = time.monotonic() + MOST_SECONDS
-                while not os.path.exists(out + ".tmp0") and time.monotonic() < ends:
+                while not os.path.exists(out + ".tmp0") and process.poll() is None and time.monotonic() < ends:
                     time.sleep(.01)
                 with open(out, "rb") as file:
                     found = file.read(), sorted(os.listdir(folder))
