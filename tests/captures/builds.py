@@ -15,6 +15,8 @@ PREFIX = tempfile.mkdtemp()
 os.chmod(PREFIX, 0o755)  # what other users can't read is copied
 TOOL = os.path.join(PREFIX, "bin/redo-log-capture")
 ASKING = (signal.SIGHUP, signal.SIGINT, signal.SIGQUIT, signal.SIGTERM)
+# How long tests wait for what happens soon: far longer than it takes on a busy machine.
+MOST_SECONDS = 300
 
 
 def said(name, status, command, text="", directory=""):
@@ -110,11 +112,11 @@ def of_a_terminal():
 
 
 def wait_until(what, holds):
-    for _ in range(6000):
-        if holds():
-            return
+    ends = time.monotonic() + MOST_SECONDS
+    while not holds():
+        if time.monotonic() > ends:
+            raise TimeoutError(what)
         time.sleep(0.01)
-    raise TimeoutError(what)
 
 
 def wait_for(path):

@@ -1,4 +1,5 @@
 """--html FILE and --json FILE: when the build has ended, a program writes each file. A stand-in for it notes its arguments."""
+import contextlib
 import itertools
 import json
 import os
@@ -7,7 +8,7 @@ import signal
 import subprocess
 from typing import NamedTuple
 
-from builds import PREFIX, TOOL, make, of_a_terminal, preloaded, project, ran, wait_for, write
+from builds import MOST_SECONDS, PREFIX, TOOL, make, of_a_terminal, preloaded, project, ran, wait_for, write
 from checks import CAPTURES, HTML_PROGRAM, JSON_PROGRAM, environment, install_capture
 
 # Copies the file READ to the output file.
@@ -180,10 +181,17 @@ def beside(checks, at, export):
     checks.expect(f"{export.program} beside", (told, contents(folder, "written")), ((0, "", ""), "beside\n"))
 
 
+@contextlib.contextmanager
 def started(folder, words, more, preexec=of_a_terminal):
-    """Starts a build whose recipe waits if WAIT says so."""
+    """Starts a build whose recipe waits if WAIT says so. Unless it has ended then, kills its group."""
     command = [TOOL, *words, "make", "-s", f"WAIT={more.pop('MAKE_WAIT', '')}"]
-    return subprocess.Popen(command, cwd=folder, env=environment(more), stderr=subprocess.PIPE, text=True, preexec_fn=preexec)
+    build = subprocess.Popen(command, cwd=folder, env=environment(more), stderr=subprocess.PIPE, text=True, preexec_fn=preexec)
+    try:
+        yield build
+    finally:
+        if build.returncode is None:
+            os.killpg(build.pid, signal.SIGKILL)
+            build.communicate()
 
 
 @of_each
@@ -192,17 +200,17 @@ def signals(checks, at, export):
     option, program, file = export.option, export.program, export.file
     folder = project(at("build"), "all: ; @echo x >&2; touch begun; $(WAIT)\n")
     path = path_with(programs(at("programs"), WAITING))
-    build = started(folder, [option, file], {"PATH": path, "MAKE_WAIT": "exec sleep 100"})
-    wait_for(os.path.join(folder, "begun"))
-    os.killpg(build.pid, signal.SIGINT)
-    told = "interrupted by SIGINT; running: all" in build.communicate(timeout=60)[1]
+    with started(folder, [option, file], {"PATH": path, "MAKE_WAIT": "exec sleep 1000"}) as build:
+        wait_for(os.path.join(folder, "begun"))
+        os.killpg(build.pid, signal.SIGINT)
+        told = "interrupted by SIGINT; running: all" in build.communicate(timeout=MOST_SECONDS)[1]
     checks.expect(f"{option}, interrupted", (build.returncode, told, contents(folder, file)), (-signal.SIGINT, True, "written\n"))
     for kind in (signal.SIGINT, signal.SIGTERM, signal.SIGHUP):
         os.remove(os.path.join(folder, f"{program}.begun"))
-        build = started(folder, [option, file], {"PATH": path, "WAIT": "exec sleep 100"})
-        wait_for(os.path.join(folder, f"{program}.begun"))
-        os.kill(build.pid, kind)
-        told = build.communicate(timeout=60)[1].splitlines(keepends=True)[-1]
+        with started(folder, [option, file], {"PATH": path, "WAIT": "exec sleep 1000"}) as build:
+            wait_for(os.path.join(folder, f"{program}.begun"))
+            os.kill(build.pid, kind)
+            told = build.communicate(timeout=MOST_SECONDS)[1].splitlines(keepends=True)[-1]
         wanted = unwritten(export, f"{program} was ended by {kind.name}")
         checks.expect(f"{option}, {kind.name} while the file is written", (build.returncode, told), (1, wanted))
 
@@ -215,21 +223,21 @@ def with_hangup_ignored():
 def given_up(checks, at):
     """A signal while the page is written also gives up the JSON, even if the page is completed; one that is ignored doesn't."""
     page, data = EXPORTS
-    goes_on = "trap '' TERM; touch begun; until [ -e go ]; do sleep 0.01; done"
+    goes_on = "trap '' TERM; touch begun; until [ -e go ] || [ $((loops += 1)) -gt 100000 ]; do sleep 0.01; done"
     interrupted = "".join(unwritten(*row) for row in ((page, "redo-log-html was ended by SIGINT"), (data, "interrupted by SIGINT")))
     for name, kind, wait, preexec, wanted in (
-        ("the group", signal.SIGINT, "touch begun; exec sleep 100", of_a_terminal, (1, interrupted, [])),
+        ("the group", signal.SIGINT, "touch begun; exec sleep 1000", of_a_terminal, (1, interrupted, [])),
         ("completed", signal.SIGTERM, goes_on, of_a_terminal, (1, unwritten(data, "interrupted by SIGTERM"), ["page.html"])),
         ("ignored", signal.SIGHUP, goes_on, with_hangup_ignored, (0, "", ["build.jsonl", "page.html"])),
     ):
         folder = project(at(name), "all: ; @echo x >&2\n")
         place = programs(at(f"programs, {name}"), WAITING)
         write(os.path.join(place, page.program), f"#!/bin/sh\n{wait}\n" + WAITING)
-        build = started(folder, ["--quiet", *BOTH], {"PATH": path_with(place)}, preexec)
-        wait_for(os.path.join(folder, "begun"))
-        (os.killpg if name == "the group" else os.kill)(build.pid, kind)
-        write(os.path.join(folder, "go"), "")
-        told = build.communicate(timeout=60)[1]
+        with started(folder, ["--quiet", *BOTH], {"PATH": path_with(place)}, preexec) as build:
+            wait_for(os.path.join(folder, "begun"))
+            (os.killpg if name == "the group" else os.kill)(build.pid, kind)
+            write(os.path.join(folder, "go"), "")
+            told = build.communicate(timeout=MOST_SECONDS)[1]
         written = [file for file in sorted(os.listdir(folder)) if file in (page.file, data.file)]
         checks.expect(f"{kind.name} while the page is written: {name}", (build.returncode, told, written), wanted)
 

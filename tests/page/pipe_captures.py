@@ -32,7 +32,7 @@ def result(program, pipes):
             found = subprocess.run([program], cwd=folder, stdin=subprocess.DEVNULL, capture_output=True, timeout=MOST_SECONDS)
             return found.returncode, found.stdout, found.stderr
         except subprocess.TimeoutExpired:
-            return "nothing: a pipe is read twice"
+            return f"nothing within {MOST_SECONDS} seconds, as if a pipe were read twice"
         finally:
             for writer in writers:
                 writer.kill()
