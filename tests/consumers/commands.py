@@ -31,7 +31,7 @@ ALL_RUN = [
     "if test -d sub; then cd sub; gcc -c ../a.c; fi", "{ cd sub; gcc -c ../a.c; }", "(cd sub; (cd deep; gcc -c ../../a.c); gcc -c ../a.c)",
     "gcc -c e.CC g.CPP f.S h.S", "nice -n 5 distcc gcc -c a.c", "X=1 ccache distcc gcc -c a.c",
     "/bin/sh ./libtool --tag=CC --mode=compile gcc -c a.c", "gcc -idirafter x.c -Xclang y.c -c a.c", "gcc -MD -MT a.c -c a.c",
-    "gcc -c 'b c.c' a~.c", "time -p gcc -c a.c", "cd sub && gcc -c ../a.c | cat", "cd sub && gcc -c ../a.c & wait",
+    "gcc -c 'b c.c' a~.c", "time -p gcc -c a.c", "dash x-libtool gcc -c a.c", "cd sub && gcc -c ../a.c | cat", "cd sub && gcc -c ../a.c & wait",
     "cd sub || exit 1; gcc -c ../a.c", "gcc -c a.c | cat; gcc -c 'b c.c'", "(cd sub | true; true); gcc -c a.c",
     "(cd sub && gcc -c ../a.c) | cat; gcc -c a.c", "(cd sub; gcc -c ../a.c) & gcc -c a.c; wait", "true | (cd sub && gcc -c ../a.c)",
     "gcc -c a.c & gcc -c 'b c.c'; wait", "cat <<E && gcc -c a.c\ngcc -c no.c\nE", "echo $((1<<2)) '<<E'; gcc -c a.c",
@@ -103,7 +103,8 @@ def scripts_of_shells(checks, at, tool, program):
         place, script = os.path.join(folder, f"w{number}"), script.replace("/w/", f"/w{number}/")
         for path in ("a.c", "b c.c", "d.cc", "sub/deep/x"):
             write(os.path.join(place, path), "")
-        write(os.path.join(place, "libtool"), WRAPPER, 0o755)
+        for name in ("libtool", "x-libtool"):
+            write(os.path.join(place, name), WRAPPER, 0o755)
         write(more["RECORDED"], "")
         if number < len(ALL_RUN):
             subprocess.run(["sh", "-c", script], cwd=place, env=more, stdout=subprocess.DEVNULL, stderr=subprocess.DEVNULL)
