@@ -1,6 +1,6 @@
 //! A baseline: the capture of an earlier build, with which this one is compared.
 //!
-//! Its logs are read on the calling thread, before those of this build. A log without its closing record counts as it is, unless its
+//! Its logs are read on the calling thread, before this build's logs. A log without its closing record counts as it is, unless its
 //! must-close flag is set: the baseline may still be written.
 ghost use Rattle.std.specs.Prelude.{◌≡◌, true, IfOk, option_copied};
 ghost use Rattle.std.specs.List.{list_all};

@@ -70,7 +70,7 @@ pub fn status(failure: &Failure) -> u8
     }
 }
 
-// Returns the exit status, which is that of the same fault of the build's own capture.
+// Returns the exit status, which the same fault of the build's own capture has, too.
 fn baseline_status(fault: BaselineFault) -> u8
     ensures { result ≡ baseline_status fault }
 {

@@ -116,7 +116,7 @@ fn run_arguments<
     }
 }
 
-// Returns the capture directory that an outcome is about: that of the baseline if the baseline failed, and otherwise the job's own.
+// Returns the capture directory that an outcome is about: the baseline's if the baseline failed, and otherwise the job's own.
 fn dir_of_outcome<'a, J: Job>(job: &'a J, outcome: &Result<(), Failure>) -> &'a str {
     match outcome {
         Err(Failure::Baseline(_)) => job.baseline().unwrap_or(""),

@@ -6,8 +6,8 @@ use Rattle.std.specs.Prelude.{ℕ, Bool, List, Option, codes}
 use Rattle.clap.specs.Walk.{Row, first_of}
 use Rattle.redo_args.specs.Job.{dir_of, is_on, number_or, targets_or_all}
 
--- The capture directory, that of the baseline, the output file, whether targets that needed no rebuild are included, whether all other listed targets
--- follow, the number of senders, and the arguments that name the requested targets.
+-- The capture directory, the baseline's directory, the output file, whether targets that needed no rebuild are included, whether all other
+-- listed targets follow, the number of senders, and the arguments that name the requested targets.
 pub record JsonParts : Type 0 where
   pub dir : List ℕ
   pub baseline : Option (List ℕ)
