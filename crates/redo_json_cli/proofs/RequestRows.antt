@@ -10,10 +10,11 @@ use Rattle.redo_logs.specs.Logs.{Log}
 use Rattle.redo_logs.specs.declared.log_state.LogState.TheVariants.{Ended}
 use Rattle.redo_times.specs.declared.times.Times.{Times}
 
--- `redo-log-json --dir d --output f --senders 5 a`, and these options.
+-- `redo-log-json --dir d --baseline b --output f --senders 5 a`, and these options.
 abbrev job : Bool → Bool → JsonParts
 job unchanged every = record {
   dir = codes "d";
+  baseline = Some (codes "b");
   output = Some (codes "f");
   unchanged = unchanged;
   every = every;
