@@ -218,7 +218,9 @@ class Build:
         if kind < 0.5:
             return Line(self.prefixed(f"{self.saying(make, owner, ' >&2')}; exit {rng.choice(STATUSES)}"))
         if kind < 0.6:
-            return Line(self.prefixed(rng.choice(("false", "exit 3", "test a = b", f"cat nothere/file{unsaid}"))))
+            # cat would write its message in parts, between which another process may print.
+            fails = self.file(make, "fails", "echo 'fails: no such file' >&2; exit 1\n")
+            return Line(self.prefixed(rng.choice(("false", "exit 3", "test a = b", f"sh {fails}{unsaid}"))))
         if kind < 0.85:
             plain = self.file(make, "plain", "echo no\n")
             words = (f"nosuchcommand 'a'{unsaid}; exit 127", f": && nosuchcommand{unsaid}")
