@@ -3,8 +3,8 @@
 //! [`compare_log`] compares a log of a table with the log of the same target in an earlier table. It says of each diagnostic whether it is
 //! new, and how many are gone. [`newly_fails`] and [`is_fixed`] compare how a target ended, which [`outcome_in`] takes from an outline.
 //!
-//! [`LogDiagnostics`] has the diagnostics of a log, and [`compare`] compares those of two. Laws say how many diagnostics are new, that none
-//! is if no key occurs more often than before, and that none is since the same build.
+//! [`LogDiagnostics`] has the diagnostics of a log, and [`compare`] compares two logs' diagnostics. Laws say how many diagnostics are new,
+//! that none is if no key occurs more often than before, and that none is since the same build.
 //!
 //! # Terms
 //!

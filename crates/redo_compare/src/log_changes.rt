@@ -20,8 +20,8 @@ pub struct LogChanges {
     pub gone: usize,
 }
 
-/// Compares the diagnostics of log `number` of a table with those of the same target in an earlier build. If this has no log of the target,
-/// all are new, and none is gone. A log that doesn't exist has no diagnostics.
+/// Compares the diagnostics of log `number` of a table with the diagnostics of the same target in an earlier build. All are new, and none
+/// is gone, if the earlier build has no log of the target. A log that doesn't exist has no diagnostics.
 ///
 /// Keys and source lines are hashed with `keys`, as in [`compare`]. If both logs have n bytes, this takes O(n) time, and a few look-ups for
 /// each diagnostic. The only error is that an allocation failed.

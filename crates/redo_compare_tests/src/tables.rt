@@ -22,7 +22,7 @@ const BEFORE: Build = &[
 ];
 
 static CHOSEN: &[Case] = &[
-    // Logs are found by their targets. Those of other targets don't count.
+    // Logs are found by their targets. Logs of other targets don't count.
     (
         BEFORE,
         &[

@@ -81,7 +81,7 @@ module _ (left front behind : List ℕ) (parts : split_once slash left ≡ Some 
   pub masked-slash : begins_temporary behind ≡ false → masked left ≡ front ++ slash ∷ masked behind
   masked-slash is = masked-step ∙ ap (λ is. front ++ step is) is
 
-  -- If nothing is replaced behind the slash, nothing is replaced at all.
+  -- If nothing is replaced after the slash, nothing is replaced at all.
   pub kept-slash : begins_temporary behind ≡ false → masked behind ≡ behind → masked left ≡ left
   kept-slash is same =
       masked-slash is ∙ ap (λ (bs : List ℕ). front ++ slash ∷ bs) same ∙ sym (are_parts slash left (front, behind) parts).whole
