@@ -12,15 +12,15 @@ use Rattle.redo_html.specs.declared.text_kind.TextKind.TheVariants.{Log}
 use Rattle.redo_html.specs.declared.look.Look.{Look}
 use Rattle.redo_html.specs.declared.style.Style.{Style}
 use Rattle.redo_html.specs.Lines.{lines_html, style_after_lines, style_after_symbol}
-use Rattle.redo_html.specs.Passage.{html_from, passage_html, start_look}
-use Rattle.redo_html.specs.Private.Buffering.{PutSome, PutSomeLines, PutLines, PutPassage, html_left}
-use Rattle.redo_html.specs.Private.Writing.{BeginsPassage, WroteUpTo, style_in}
+use Rattle.redo_html.specs.Passage.{html_from, passage_html, start_look, with_wanted}
+use Rattle.redo_html.specs.Private.Buffering.{PutSome, PutSomeLines, PutSomeOrFailed, PutLines, PutPassage, html_left}
+use Rattle.redo_html.specs.Private.Writing.{BeginsPassage, SkipsSequences, WroteUpTo, style_in}
 use Rattle.redo_html.proofs.BufferLemmas.{extended}
 use Rattle.redo_html.proofs.LineParts.{HasLine, feed_at_end, feed_of_line, free_behind, has_line, some_line}
 use Rattle.redo_html.proofs.LineWriting.{lines_wrote, lines_failed}
 use Rattle.redo_html.proofs.PassageLemmas.{html-nil}
 use Rattle.redo_html.proofs.SymbolLemmas.{symbols-nil}
-use Rattle.redo_html.proofs.WritingLemmas.{begin_parts, failed_part, wrote_on}
+use Rattle.redo_html.proofs.WritingLemmas.{begin_parts, failed_part, same_error, wrote_on}
 
 -- Before a line, no highlight is open.
 pub start_left : (style : Style) (lines : List (List ℕ)) → html_left (start_look style) lines ≡ lines_html style lines
@@ -230,6 +230,119 @@ module _ (all : List ℕ) (done : ℕ) (complete : rest (drop done all) ≡ []) 
         pub line_complete : rest (drop (done + count) all) ≡ []
         line_complete = ap rest (sym behind_is)
             ∙ end_complete before middle after text old look left line lines has here now next count some last ∙ complete
+
+-- ---- a step after sequences
+
+skipped_some : (before after : Option Output) (old : List ℕ) (look : Look) (line now : List ℕ) (style : Style) (skipped : ℕ) (next : Look)
+    (count : ℕ) → SkipsSequences look.wanted (with_line_feed line) style skipped → skipped ≤ length line
+    → PutSome before after old (with_wanted look style) (with_line_feed (drop skipped line)) now next count
+    → PutSome before after old look (with_line_feed line) now next (skipped + count)
+skipped_some before after old look line now style skipped next count skips few put = record {
+  some = let some = put.some in omega (arith, some);
+  within =
+      let within = put.within in
+      let own = length-append line (10 ∷ []) in
+      let left = length-append (drop skipped line) (10 ∷ []) in
+      let size = length-drop skipped line in
+      omega (arith, within, own, left, size, few);
+  wrote = subst (λ (t : List ℕ). WroteUpTo before after (old ++ t) (now ++ html_from Log next (drop (skipped + count) own)))
+      (ap (html_from Log (with_wanted look style)) (sym behind) ∙ skips.html look refl)
+      (subst (λ (t : List ℕ). WroteUpTo before after (old ++ html_from Log (with_wanted look style) (with_line_feed (drop skipped line)))
+      (now ++ html_from Log next t)) rest_is put.wrote);
+  style = ap (style_in Log next.wanted) (sym rest_is) ∙ put.style ∙ ap (style_in Log style) (sym behind) ∙ skips.style_left;
+}
+  where
+    own : List ℕ
+    own = with_line_feed line
+
+    behind : drop skipped own ≡ with_line_feed (drop skipped line)
+    behind = drop-append-le skipped line (10 ∷ []) few
+
+    rest_is : drop count (with_line_feed (drop skipped line)) ≡ drop (skipped + count) own
+    rest_is = ap (drop count) (sym behind) ∙ drop-drop count skipped own
+
+skipped_failed : (before after : Option Output) (old : List ℕ) (look : Look) (line : List ℕ) (style : Style) (skipped : ℕ) (broken : Broken)
+    → SkipsSequences look.wanted (with_line_feed line) style skipped → skipped ≤ length line
+    → Writes before after (old ++ html_from Log (with_wanted look style) (with_line_feed (drop skipped line))) (Err broken)
+    → Writes before after (old ++ html_from Log look (with_line_feed line)) (Err broken)
+skipped_failed before after old look line style skipped broken skips few wrote =
+    subst (λ (t : List ℕ). Writes before after (old ++ t) (Err broken))
+    (ap (html_from Log (with_wanted look style)) (sym (drop-append-le skipped line (10 ∷ []) few)) ∙ skips.html look refl) wrote
+
+module _ (all : List ℕ) (done at : ℕ) (after_done : done ≤ at) (style next : Style)
+    (skips : (line more : List ℕ) → drop done all ≡ line ++ 10 ∷ more
+    → SkipsSequences style (line ++ 10 ∷ []) next (at - done) × (at - done ≤ length line)) where
+  abbrev skipped : ℕ
+  skipped = at - done
+
+  module _ (line : List ℕ) (lines : List (List ℕ)) (is : ended (drop done all) ≡ line ∷ lines) where
+    after_line : HasLine (drop done all) line lines
+    after_line = has_line (drop done all) line lines is
+
+    skip : SkipsSequences style (with_line_feed line) next skipped
+    skip = (skips line after_line.more after_line.bytes_are).0
+
+    in_line : skipped ≤ length line
+    in_line = (skips line after_line.more after_line.bytes_are).1
+
+    behind_skip : ended (drop at all) ≡ drop skipped line ∷ lines
+    behind_skip =
+        let same : at ≡ done + skipped = omega (arith, after_done) in
+        ap ended (ap (λ (n : ℕ). drop n all) same ∙ sym (drop-drop skipped done all) ∙ ap (drop skipped) after_line.bytes_are
+        ∙ drop-append-le skipped line (10 ∷ after_line.more) in_line)
+        ∙ ended-line (drop skipped line) after_line.more (free_behind skipped line after_line.free)
+        ∙ ap (λ (ls : List (List ℕ)). drop skipped line ∷ ls) after_line.lines_are
+
+    line_size : length line < length (drop done all)
+    line_size =
+        let parts = ap length after_line.bytes_are ∙ length-append line (10 ∷ after_line.more) in
+        omega (arith, parts)
+
+    module _ (before after : Option Output) (old : List ℕ) (look : Look) (same : look.wanted ≡ style) (now : List ℕ) (last : Look) where
+      look_skip : SkipsSequences look.wanted (with_line_feed line) next skipped
+      look_skip = subst (λ (s : Style). SkipsSequences s (with_line_feed line) next skipped) (sym same) skip
+
+      pub put_after_skip : (count : ℕ)
+          → ((l : List ℕ) (ls : List (List ℕ)) → ended (drop at all) ≡ l ∷ ls
+          → PutSome before after old (with_wanted look next) (with_line_feed l) now last count)
+          → PutSome before after old look (with_line_feed line) now last (at - done + count)
+      put_after_skip count put =
+          skipped_some before after old look line now next skipped last count look_skip in_line (put (drop skipped line) lines behind_skip)
+
+      pub failed_after_skip : (broken : Broken) (done_with : Result ℕ Broken) → IsErr done_with
+          → ((l : List ℕ) (ls : List (List ℕ)) → ended (drop at all) ≡ l ∷ ls
+          → Writes before after (old ++ html_from Log (with_wanted look next) (with_line_feed l)) (Err broken))
+          → PutSomeOrFailed before after old look (with_line_feed line) now last done_with
+      failed_after_skip broken (Ok count) failed put = absurd (cc)
+      failed_after_skip broken (Err other) failed put =
+          same_error before after (old ++ html_from Log look (with_line_feed line)) broken (Err other) refl
+          (skipped_failed before after old look line next skipped broken look_skip in_line (put (drop skipped line) lines behind_skip))
+
+  module _ (below : done < length all) (complete : rest (drop done all) ≡ []) where
+    next_line : (line : List ℕ) × (lines : List (List ℕ)) × (ended (drop done all) ≡ line ∷ lines)
+    next_line = some_line (drop done all) complete (let size = length-drop done all in omega (arith, size, below))
+
+    -- A line feed comes after the sequences.
+    pub skip_below : at < length all
+    skip_below =
+        let few = in_line next_line.0 next_line.1 next_line.2 in
+        let inside = line_size next_line.0 next_line.1 next_line.2 in
+        let size = length-drop done all in
+        omega (arith, few, inside, size, below, after_done)
+
+    pub skip_fits : (before after : Option Output) (old : List ℕ) (look : Look) (now : List ℕ) (last : Look) (count : ℕ)
+        → ((l : List ℕ) (ls : List (List ℕ)) → ended (drop at all) ≡ l ∷ ls
+        → PutSome before after old look (with_line_feed l) now last count) → at - done + count ≤ length all
+    skip_fits before after old look now last count put =
+        let few = in_line next_line.0 next_line.1 next_line.2 in
+        let inside = line_size next_line.0 next_line.1 next_line.2 in
+        let left = drop skipped next_line.0 in
+        let some = put left next_line.1 (behind_skip next_line.0 next_line.1 next_line.2) in
+        let within = some.within in
+        let own = length-append left (10 ∷ []) in
+        let left_size = length-drop skipped next_line.0 in
+        let size = length-drop done all in
+        omega (arith, few, inside, within, own, left_size, size)
 
 -- Lines that were written as one passage.
 pub passage_lines : (before after : Option Output) (old : List ℕ) (style : Style) (left : List ℕ) (len : ℕ) (now : List ℕ) (next : Style)

@@ -1,9 +1,9 @@
 -- Parts of a line: what was found in bytes that continue after the line feed is in the line.
-use Rattle.std.proofs.Common.{◌≡◌, ℕ, zero, suc, ◌+◌, ◌<◌, ◌≤◌, true, List, [], ◌∷◌, ◌++◌, length, take, drop, map, slice_index, refl, sym, ◌∙◌, ap, subst, arith, ⊎_elim}
+use Rattle.std.proofs.Common.{◌≡◌, ◌⊎◌, inl, inr, ℕ, zero, suc, ◌+◌, ◌-◌, ◌<◌, ◌≤◌, true, List, [], ◌∷◌, ◌++◌, length, take, drop, map, slice_index, refl, sym, ◌∙◌, ap, subst, arith, ⊎_elim}
 use Rattle.std.specs.Prelude.{◌==◌, not}
 use Rattle.std.specs.List.{AllByRecursion, flat_map, list_all}
-use Rattle.std.proofs.lemmas.Bool.{and_parts, cases_lt}
-use Rattle.std.proofs.lemmas.List.{append_assoc, append-nil, append_cancel_right, drop-append-le, drop_at, get_or-drop, length-append, length-drop, take-append-le}
+use Rattle.std.proofs.lemmas.Bool.{and_parts, cases_lt, eqb-true, or_cases}
+use Rattle.std.proofs.lemmas.List.{append_assoc, append-nil, append_cancel_right, drop-append-le, drop-drop, drop_at, get_or-drop, length-append, length-drop, take-append-le}
 use Rattle.redo_line.specs.Lines.{HasNoLineFeed, ended, rest, with_line_feed}
 use Rattle.redo_line.proofs.LineLemmas.{are_lines, ended-line, rest-line}
 use Rattle.redo_html.specs.declared.text_kind.TextKind.{TextKind}
@@ -12,11 +12,12 @@ use Rattle.redo_html.specs.Laws.{is_plain}
 use Rattle.redo_html.specs.Style.{restyled}
 use Rattle.redo_html.specs.Symbols.{Symbol, sequence_len, sequence_numbers, symbols}
 use Rattle.redo_html.specs.Symbols.Symbol.{CodePoint}
-use Rattle.redo_html.specs.Private.Writing.{IsSequence, IsVerbatim, ReadsSequence, SkipsSequences}
+use Rattle.redo_html.specs.Private.Writing.{IsQuote, IsSequence, IsVerbatim, ReadsPair, ReadsSequence, SkipsSequences}
 use Rattle.redo_html.proofs.LineLemmas.{numbers_same, sequence_same, symbols-feed}
 use Rattle.redo_html.proofs.SequenceLemmas.{one_more_skipped}
 use Rattle.redo_html.proofs.SymbolLemmas.{sequence_parts, symbols-nil}
-use Rattle.redo_html.proofs.VerbatimLemmas.{all_of_front, plain_code_points}
+use Rattle.redo_html.proofs.LetterLemmas.{is_triple, triple_verbatim}
+use Rattle.redo_html.proofs.VerbatimLemmas.{all_of_front, more_code_points, plain_code_points}
 
 -- ---- the first line
 
@@ -149,6 +150,61 @@ verbatim_in_line line more len few all = record {
         ∙ sym (append-nil own) ∙ ap (λ (ss : List Symbol). own ++ ss) (sym (symbols-nil kind))
         ∙ ap (λ (b : List ℕ). own ++ symbols kind b) (sym (behind_line line [] len is))
 
+-- A quote that isn't in ASCII, and plain bytes after it.
+pub quote_in_line : (bytes line more : List ℕ) (at run count : ℕ) → at + 3 + run ≤ length bytes → IsQuote bytes at
+    → drop at bytes ≡ line ++ 10 ∷ more → count ≤ run → list_all is_plain (take run (drop (at + 3) bytes)) ≡ true
+    → ((l m : List ℕ) → drop (at + 3) bytes ≡ l ++ 10 ∷ m → run ≤ length l + 1) → IsVerbatim (line ++ 10 ∷ []) (3 + count)
+quote_in_line bytes line more at run count room quote is few plain in_line =
+    verbatim_in_line line more (3 + count) bound (subst (λ (b : List ℕ). IsVerbatim b (3 + count)) is
+    (more_code_points left 3 count (triple_verbatim left (omega (arith, size, room)) known)
+    (plain_code_points count (drop 3 left) (omega (arith, few, room, size, left_size))
+    (all_of_front count run (drop 3 left) few (ap (λ (b : List ℕ). list_all is_plain (take run b)) behind ∙ plain)))))
+  where
+    left : List ℕ
+    left = drop at bytes
+
+    size : length left ≡ length bytes - at
+    size = length-drop at bytes
+
+    behind : drop 3 left ≡ drop (at + 3) bytes
+    behind = drop-drop 3 at bytes
+
+    left_size : length (drop 3 left) ≡ length left - 3
+    left_size = length-drop 3 left
+
+    first : slice_index left 0 ≡ 0xE2
+    first = get_or-drop at bytes 0 0 ∙ ap (slice_index bytes) (omega arith) ∙ quote.0
+
+    next : slice_index left 1 ≡ 0x80
+    next = get_or-drop at bytes 1 0 ∙ quote.1
+
+    last : (slice_index left 2 ≡ 0x98) ⊎ (slice_index left 2 ≡ 0x99)
+    last =
+        let here = get_or-drop at bytes 2 0 in
+        ⊎_elim (λ one. inl (here ∙ eqb-true (slice_index bytes (at + 2)) 0x98 one))
+        (λ other. inr (here ∙ eqb-true (slice_index bytes (at + 2)) 0x99 other))
+        (or_cases (slice_index bytes (at + 2) == 0x98) (slice_index bytes (at + 2) == 0x99) quote.2)
+
+    known : is_triple (slice_index left 0) (slice_index left 1) (slice_index left 2) ≡ true
+    known = ap (λ (b : ℕ). is_triple b (slice_index left 1) (slice_index left 2)) first
+        ∙ ap (λ (b : ℕ). is_triple 0xE2 b (slice_index left 2)) next
+        ∙ ⊎_elim (λ one. ap (is_triple 0xE2 0x80) one) (λ other. ap (is_triple 0xE2 0x80) other) last
+
+    three : (l : List ℕ) → left ≡ l ++ 10 ∷ more → 3 ≤ length l
+    three [] same = absurd (let feed = ap (λ (b : List ℕ). slice_index b 0) same in omega (arith, feed, first))
+    three (x ∷ []) same = absurd (let feed = ap (λ (b : List ℕ). slice_index b 1) same in omega (arith, feed, next))
+    three (x ∷ y ∷ []) same =
+        let feed = ap (λ (b : List ℕ). slice_index b 2) same in
+        ⊎_elim (λ one. absurd (omega (arith, feed, one))) (λ other. absurd (omega (arith, feed, other))) last
+    three (x ∷ y ∷ z ∷ l) same = omega arith
+
+    bound : 3 + count ≤ length line + 1
+    bound =
+        let inside = three line is in
+        let end = in_line (drop 3 line) more (sym behind ∙ ap (drop 3) is ∙ drop-append-le 3 line (10 ∷ more) inside) in
+        let line_size = length-drop 3 line in
+        omega (arith, inside, end, few, line_size)
+
 -- ---- sequences
 
 pub sequence_in_line : (style next : Style) (byte : ℕ) (line more : List ℕ) (len : ℕ) → 0 < len
@@ -211,3 +267,15 @@ skipped_in_line style current next bytes line more done len is escape some read 
               (subst (λ (b : List ℕ). ReadsSequence current b next len) (sym line_rest) found.0),
           omega (arith, few, size, left_size, before),
         )
+
+pub pair_in_line : (style current next : Style) (bytes line more : List ℕ) (done len : ℕ) → bytes ≡ line ++ 10 ∷ more
+    → slice_index bytes done ≡ 27 → ReadsPair current (drop done bytes) next len
+    → SkipsSequences style (line ++ 10 ∷ []) current done × (done ≤ length line)
+    → SkipsSequences style (line ++ 10 ∷ []) next (done + len) × (done + len ≤ length line)
+pair_in_line style current next bytes line more done len is escape pair so_far =
+    let both = pair.both in
+    subst (λ (n : ℕ). SkipsSequences style (line ++ 10 ∷ []) next n × (n ≤ length line)) (omega (arith, both))
+    (skipped_in_line style next next bytes line more (done + pair.first) 3 is
+    (sym (get_or-drop done bytes pair.first 0) ∙ pair.escape) (omega arith)
+    (subst (λ (b : List ℕ). ReadsSequence next b next 3) (drop-drop pair.first done bytes) pair.erase)
+    (skipped_in_line style current next bytes line more done pair.first is escape pair.some pair.read so_far))

@@ -13,7 +13,7 @@ use Rattle.redo_html.specs.Passage.{html_from, with_wanted}
 use Rattle.redo_html.specs.Style.{digit_hue, restyled}
 use Rattle.redo_html.specs.Symbols.{is_parameter, parameter_count, final_byte, sequence_len, numbers_from, sequence_numbers, has_colours, first_symbol, symbol_len}
 use Rattle.redo_html.specs.Symbols.Symbol.{Sequence}
-use Rattle.redo_html.specs.Private.Writing.{IsSequence, ReadsSequence, SkipsSequences, style_in, symbol_code_point}
+use Rattle.redo_html.specs.Private.Writing.{IsBeforeErase, IsSequence, ReadsPair, ReadsSequence, SkipsSequences, style_in, symbol_code_point}
 use Rattle.redo_html.proofs.PassageLemmas.{sequence_step}
 use Rattle.redo_html.proofs.StyleLemmas.{sequence_style}
 use Rattle.redo_html.proofs.SymbolLemmas.{all_parts, sequence_parts, sequence_symbol, sequence_found}
@@ -183,6 +183,37 @@ one_more_skipped style current next bytes done len so_far some read = record {
 
     first : (first_symbol Log rest ≡ Sequence (sequence_numbers rest)) × IsSequence rest (symbol_len Log rest)
     first = sequence_found Log rest symbol.0
+
+-- ---- pairs
+
+-- A sequence that ends at an index, and `ESC [ K` after it.
+pub pair_read : (style next : Style) (bytes : List ℕ) (at : ℕ) → at + 4 ≤ length bytes → IsBeforeErase bytes at
+    → ReadsSequence style bytes next (at + 1) → ReadsPair style bytes next (at + 4)
+pair_read style next bytes at within is read = record {
+  first = at + 1;
+  some = omega arith;
+  both = omega arith;
+  read = read;
+  escape = is.1;
+  erase = λ some. (short.0, sym (ap (restyled next) short.1));
+}
+  where
+    index : (n : ℕ) → slice_index (drop (at + 1) bytes) n ≡ slice_index bytes (at + 1 + n)
+    index n = get_or-drop (at + 1) bytes n 0
+
+    short : (3 ≡ sequence_len (drop (at + 1) bytes)) × (sequence_numbers (drop (at + 1) bytes) ≡ [])
+    short = short_sequence (drop (at + 1) bytes) 75 (let size = length-drop (at + 1) bytes in omega (arith, size, within))
+        (index 0 ∙ ap (slice_index bytes) (omega arith) ∙ is.1) (index 1 ∙ ap (slice_index bytes) (omega arith) ∙ is.2)
+        (index 2 ∙ ap (slice_index bytes) (omega arith) ∙ is.3) refl refl
+
+pub pair_skipped : (style current next : Style) (bytes : List ℕ) (done len : ℕ) → SkipsSequences style bytes current done
+    → ReadsPair current (drop done bytes) next len → SkipsSequences style bytes next (done + len)
+pair_skipped style current next bytes done len so_far pair =
+    let both = pair.both in
+    subst (SkipsSequences style bytes next) (omega (arith, both))
+    (one_more_skipped style next next bytes (done + pair.first) 3
+    (one_more_skipped style current next bytes done pair.first so_far pair.some pair.read) (omega arith)
+    (subst (λ (b : List ℕ). ReadsSequence next b next 3) (drop-drop pair.first done bytes) pair.erase))
 
 -- Only a log has sequences.
 pub log_only : (kind : TextKind) → has_colours kind ≡ true → kind ≡ Log

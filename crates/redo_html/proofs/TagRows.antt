@@ -4,7 +4,7 @@ use Rattle.std.specs.Fmt.{digits}
 use Rattle.std.specs.List.{AllByRecursion}
 use Rattle.std.specs.Prelude.{codes}
 use Rattle.redo_html.specs.declared.markup.Markup.{Markup}
-use Rattle.redo_html.specs.declared.markup.Markup.TheVariants.{Doctype, Html, EndHtml, Head, EndHead, Charset, Viewport, ColorScheme, Referrer, Policy, BodyGood, BodyBad, BodyOpen, EndBody, Header, EndHeader, Title1, EndTitle1, Sign, EndSign, Nav, EndNav, Main, EndMain, FailedSection, SummarySection, TreeSection, TimelineSection, EndSection, FailedHeading, SummaryHeading, TreeHeading, TimelineHeading, EndHeading, FailedLink, SummaryLink, TreeLink, TimelineLink, TargetLink, OutputLink, EndLink, Article, EndArticle, Title3, EndTitle3, Paragraph, MetaParagraph, QuietParagraph, CutParagraph, ProblemParagraph, EndParagraph, Unordered, Tree, EndUnordered, Ordered, OrderedFrom, EndOrdered, Item, NoteItem, TargetItem, EndItem, Details, OpenDetails, QuietDetails, MoreDetails, EndDetails, Summary, EndSummary, Pre, EndPre, Bdi, EndBdi, Code, EndCode, ExitBadge, OpenBadge, EndBadge, Emphasis, EndEmphasis, Small, EndSmall, Footer, EndFooter, DescriptionList, EndDescriptionList, Div, EndDiv, Term, EndTerm, Description, EndDescription, Columns, Table, EndTable, TableBody, EndTableBody, TableRow, EndTableRow, RowHeading, EndRowHeading, NumberCell, MeterCell, EndCell, TimelineScroll}
+use Rattle.redo_html.specs.declared.markup.Markup.TheVariants.{Doctype, Html, EndHtml, Head, EndHead, Charset, Viewport, ColorScheme, Referrer, Policy, BodyGood, BodyBad, BodyOpen, EndBody, Header, EndHeader, Title1, EndTitle1, Sign, EndSign, Nav, EndNav, Main, EndMain, FailedSection, NewSection, SummarySection, TreeSection, TimelineSection, EndSection, FailedHeading, NewHeading, SummaryHeading, TreeHeading, TimelineHeading, EndHeading, FailedLink, NewLink, SummaryLink, TreeLink, TimelineLink, TargetLink, OutputLink, EndLink, Article, EndArticle, Title3, EndTitle3, Paragraph, MetaParagraph, QuietParagraph, CutParagraph, ProblemParagraph, EndParagraph, Unordered, Tree, EndUnordered, Ordered, OrderedFrom, EndOrdered, Item, NoteItem, TargetItem, EndItem, Details, OpenDetails, QuietDetails, MoreDetails, EndDetails, Summary, EndSummary, Pre, EndPre, Bdi, EndBdi, Code, EndCode, ExitBadge, OpenBadge, EndBadge, Emphasis, EndEmphasis, Small, EndSmall, Footer, EndFooter, DescriptionList, EndDescriptionList, Div, EndDiv, Term, EndTerm, Description, EndDescription, Columns, Table, EndTable, TableBody, EndTableBody, TableRow, EndTableRow, RowHeading, EndRowHeading, NumberCell, MeterCell, EndCell, TimelineScroll}
 use Rattle.redo_html.specs.declared.style.Hue.TheVariants.{Plain}
 use Rattle.redo_html.specs.Html.{plain_elements, start_name, void_elements}
 use Rattle.redo_html.specs.Passage.{Inline, highlight_text}
@@ -79,7 +79,9 @@ these_frame = (
 abbrev sections : List (Markup × List ℕ)
 sections =
     (FailedSection, codes "section id=\"failed\" aria-labelledby=\"h-failed\"") ∷ (FailedHeading, codes "h2 id=\"h-failed\"")
-    ∷ (FailedLink, codes "a href=\"#failed\"") ∷ (SummarySection, codes "section id=\"summary\" aria-labelledby=\"h-summary\"")
+    ∷ (FailedLink, codes "a href=\"#failed\"") ∷ (NewSection, codes "section id=\"new\" aria-labelledby=\"h-new\"")
+    ∷ (NewHeading, codes "h2 id=\"h-new\"") ∷ (NewLink, codes "a href=\"#new\"")
+    ∷ (SummarySection, codes "section id=\"summary\" aria-labelledby=\"h-summary\"")
     ∷ (SummaryHeading, codes "h2 id=\"h-summary\"") ∷ (SummaryLink, codes "a href=\"#summary\"")
     ∷ (TimelineSection, codes "section id=\"timeline\" aria-labelledby=\"h-timeline\"") ∷ (TimelineHeading, codes "h2 id=\"h-timeline\"")
     ∷ (TimelineLink, codes "a href=\"#timeline\"") ∷ (TreeSection, codes "section id=\"tree\" aria-labelledby=\"h-tree\"")
@@ -94,7 +96,16 @@ these_sections = (
     refl,
     (
       refl,
-      (refl, (refl, (refl, (refl, (refl, (refl, (refl, (refl, (refl, (refl, (refl, (refl, (refl, tt))))))))))))),
+      (
+        refl,
+        (
+          refl,
+          (
+            refl,
+            (refl, (refl, (refl, (refl, (refl, (refl, (refl, (refl, (refl, (refl, (refl, (refl, (refl, tt))))))))))))),
+          ),
+        ),
+      ),
     ),
   ),
 )

@@ -1,7 +1,7 @@
 -- The tags of a page.
 use Rattle.std.specs.Prelude.{List, ℕ, [], ◌++◌, codes}
 use Rattle.redo_html.specs.declared.markup.Markup.{Markup}
-use Rattle.redo_html.specs.declared.markup.Markup.TheVariants.{Doctype, Html, EndHtml, Head, EndHead, Charset, Viewport, ColorScheme, Referrer, Policy, BodyGood, BodyBad, BodyOpen, EndBody, Header, EndHeader, Title1, EndTitle1, Sign, EndSign, Nav, EndNav, Main, EndMain, FailedSection, SummarySection, TreeSection, TimelineSection, EndSection, FailedHeading, SummaryHeading, TreeHeading, TimelineHeading, EndHeading, FailedLink, SummaryLink, TreeLink, TimelineLink, TargetLink, OutputLink, EndLink, Article, EndArticle, Title3, EndTitle3, Paragraph, MetaParagraph, QuietParagraph, CutParagraph, ProblemParagraph, EndParagraph, Unordered, Tree, EndUnordered, Ordered, OrderedFrom, EndOrdered, Item, NoteItem, TargetItem, EndItem, Details, OpenDetails, QuietDetails, MoreDetails, EndDetails, Summary, EndSummary, Pre, EndPre, Bdi, EndBdi, Code, EndCode, ExitBadge, OpenBadge, EndBadge, Emphasis, EndEmphasis, Small, EndSmall, Footer, EndFooter, DescriptionList, EndDescriptionList, Div, EndDiv, Term, EndTerm, Description, EndDescription, Columns, Table, EndTable, TableBody, EndTableBody, TableRow, EndTableRow, RowHeading, EndRowHeading, NumberCell, MeterCell, EndCell, TimelineScroll}
+use Rattle.redo_html.specs.declared.markup.Markup.TheVariants.{Doctype, Html, EndHtml, Head, EndHead, Charset, Viewport, ColorScheme, Referrer, Policy, BodyGood, BodyBad, BodyOpen, EndBody, Header, EndHeader, Title1, EndTitle1, Sign, EndSign, Nav, EndNav, Main, EndMain, FailedSection, NewSection, SummarySection, TreeSection, TimelineSection, EndSection, FailedHeading, NewHeading, SummaryHeading, TreeHeading, TimelineHeading, EndHeading, FailedLink, NewLink, SummaryLink, TreeLink, TimelineLink, TargetLink, OutputLink, EndLink, Article, EndArticle, Title3, EndTitle3, Paragraph, MetaParagraph, QuietParagraph, CutParagraph, ProblemParagraph, EndParagraph, Unordered, Tree, EndUnordered, Ordered, OrderedFrom, EndOrdered, Item, NoteItem, TargetItem, EndItem, Details, OpenDetails, QuietDetails, MoreDetails, EndDetails, Summary, EndSummary, Pre, EndPre, Bdi, EndBdi, Code, EndCode, ExitBadge, OpenBadge, EndBadge, Emphasis, EndEmphasis, Small, EndSmall, Footer, EndFooter, DescriptionList, EndDescriptionList, Div, EndDiv, Term, EndTerm, Description, EndDescription, Columns, Table, EndTable, TableBody, EndTableBody, TableRow, EndTableRow, RowHeading, EndRowHeading, NumberCell, MeterCell, EndCell, TimelineScroll}
 use Rattle.redo_html.specs.Shown.{number_text}
 
 -- The text of a tag between its `<` and its `>`.
@@ -31,16 +31,19 @@ markup_text EndNav = codes "/nav"
 markup_text Main = codes "main"
 markup_text EndMain = codes "/main"
 markup_text FailedSection = codes "section id=\"failed\" aria-labelledby=\"h-failed\""
+markup_text NewSection = codes "section id=\"new\" aria-labelledby=\"h-new\""
 markup_text SummarySection = codes "section id=\"summary\" aria-labelledby=\"h-summary\""
 markup_text TreeSection = codes "section id=\"tree\" aria-labelledby=\"h-tree\""
 markup_text TimelineSection = codes "section id=\"timeline\" aria-labelledby=\"h-timeline\""
 markup_text EndSection = codes "/section"
 markup_text FailedHeading = codes "h2 id=\"h-failed\""
+markup_text NewHeading = codes "h2 id=\"h-new\""
 markup_text SummaryHeading = codes "h2 id=\"h-summary\""
 markup_text TreeHeading = codes "h2 id=\"h-tree\""
 markup_text TimelineHeading = codes "h2 id=\"h-timeline\""
 markup_text EndHeading = codes "/h2"
 markup_text FailedLink = codes "a href=\"#failed\""
+markup_text NewLink = codes "a href=\"#new\""
 markup_text SummaryLink = codes "a href=\"#summary\""
 markup_text TreeLink = codes "a href=\"#tree\""
 markup_text TimelineLink = codes "a href=\"#timeline\""
@@ -138,16 +141,19 @@ after_markup EndNav = []
 after_markup Main = []
 after_markup EndMain = []
 after_markup FailedSection = []
+after_markup NewSection = []
 after_markup SummarySection = []
 after_markup TreeSection = []
 after_markup TimelineSection = []
 after_markup EndSection = []
 after_markup FailedHeading = []
+after_markup NewHeading = []
 after_markup SummaryHeading = []
 after_markup TreeHeading = []
 after_markup TimelineHeading = []
 after_markup EndHeading = []
 after_markup FailedLink = []
+after_markup NewLink = []
 after_markup SummaryLink = []
 after_markup TreeLink = []
 after_markup TimelineLink = []

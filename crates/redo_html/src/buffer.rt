@@ -7,14 +7,14 @@ use redo_device::{Broken, Sink, push_all};
 use std::simd::prelude::*;
 
 // The number of bytes that a buffer holds at most.
-const SIZE: usize = 1024;
+const SIZE: usize = 2048;
 
 /// Bytes that are to be written to a writer before all others.
 #[derive(Drop)]
 pub struct Buffer {
     bytes: [u8; SIZE],
     len: usize,
-    ghost within: { len ≤ 1024 },
+    ghost within: { len ≤ 2048 },
 }
 
 impl Buffer {
@@ -31,6 +31,7 @@ impl Buffer {
     }
 
     /// Writes its bytes.
+    #[cold]
     #[inline(never)]
     pub fn flush<W: Sink>(&mut self, out: &mut W) -> Result<(), Broken>
         ensures written { Writes (W.written out.old) (W.written out.new) (held self.old) result }
@@ -64,7 +65,7 @@ impl Buffer {
     #[inline(always)]
     fn make_room<W: Sink>(&mut self, out: &mut W) -> Result<(), Broken>
         ensures written { Puts (W.written out.old) (W.written out.new) (held self.old) [] (held self.new) result }
-        ensures room { OnOk result (self.new.len + LANES ≤ 1024) }
+        ensures room { OnOk result (self.new.len + LANES ≤ 2048) }
     {
         if self.len > SIZE - LANES {
             self.flush(out)
@@ -75,7 +76,7 @@ impl Buffer {
 
     #[inline(always)]
     fn add(&mut self, bytes: &[u8], at: usize, count: usize)
-        requires own_room { self.old.len + LANES ≤ 1024 }
+        requires own_room { self.old.len + LANES ≤ 2048 }
         requires room { at + LANES ≤ length bytes.now }
         requires few { count ≤ LANES }
         ensures { held self.new ≡ held self.old ++ take count (drop at bytes.now) }

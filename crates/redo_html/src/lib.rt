@@ -61,9 +61,10 @@
 //! for plain ones, and a table says which of the last bytes are plain. A table of states recognizes the letters of most scripts (`STEPS`).
 //! After such letters, 32 bytes at once are tested for plain bytes and for letters in blocks whose code points are all visible
 //! (`strides_len`). Only other characters are decoded. Each sequence is read in one pass, and the sequences before a stretch are read in
-//! a row; those that GCC writes most are compared with constants (`read_bold`). Every other code point is a write of its own, and so is
-//! each number and each fixed text of a chart. The parts of lines with sequences are short, so they are put into a `Buffer`, sixteen
-//! bytes at once: what was written, with the bytes in the buffer, is the text so far. If a write fails, a prefix of the text was written.
+//! a row; those that GCC writes most are compared with constants, two at once (`read_pair`). Every other code point is a write of its own,
+//! and so is each number and each fixed text of a chart. The parts of lines with sequences are short, so they are put into a `Buffer`,
+//! sixteen bytes at once: what was written, with the bytes in the buffer, is the text so far. What these lines seldom need is in functions
+//! that are marked as cold, so that the compiler keeps the look in registers. If a write fails, a prefix of the text was written.
 #![tactic(auto)]
 
 mod buffer;

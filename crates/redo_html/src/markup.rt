@@ -60,6 +60,8 @@ pub enum Markup {
     EndMain,
     /// `<section id="failed" aria-labelledby="h-failed">`
     FailedSection,
+    /// `<section id="new" aria-labelledby="h-new">`
+    NewSection,
     /// `<section id="summary" aria-labelledby="h-summary">`
     SummarySection,
     /// `<section id="tree" aria-labelledby="h-tree">`
@@ -70,6 +72,8 @@ pub enum Markup {
     EndSection,
     /// `<h2 id="h-failed">`
     FailedHeading,
+    /// `<h2 id="h-new">`
+    NewHeading,
     /// `<h2 id="h-summary">`
     SummaryHeading,
     /// `<h2 id="h-tree">`
@@ -80,6 +84,8 @@ pub enum Markup {
     EndHeading,
     /// `<a href="#failed">`
     FailedLink,
+    /// `<a href="#new">`
+    NewLink,
     /// `<a href="#summary">`
     SummaryLink,
     /// `<a href="#tree">`
@@ -263,6 +269,7 @@ pub fn write_markup<W: Sink>(markup: Markup, out: &mut W) -> Result<(), Broken>
             out,
             b"<section id=\"failed\" aria-labelledby=\"h-failed\">",
         ),
+        Markup::NewSection => push_all(out, b"<section id=\"new\" aria-labelledby=\"h-new\">"),
         Markup::SummarySection => push_all(
             out,
             b"<section id=\"summary\" aria-labelledby=\"h-summary\">",
@@ -274,11 +281,13 @@ pub fn write_markup<W: Sink>(markup: Markup, out: &mut W) -> Result<(), Broken>
         ),
         Markup::EndSection => push_all(out, b"</section>"),
         Markup::FailedHeading => push_all(out, b"<h2 id=\"h-failed\">"),
+        Markup::NewHeading => push_all(out, b"<h2 id=\"h-new\">"),
         Markup::SummaryHeading => push_all(out, b"<h2 id=\"h-summary\">"),
         Markup::TreeHeading => push_all(out, b"<h2 id=\"h-tree\">"),
         Markup::TimelineHeading => push_all(out, b"<h2 id=\"h-timeline\">"),
         Markup::EndHeading => push_all(out, b"</h2>"),
         Markup::FailedLink => push_all(out, b"<a href=\"#failed\">"),
+        Markup::NewLink => push_all(out, b"<a href=\"#new\">"),
         Markup::SummaryLink => push_all(out, b"<a href=\"#summary\">"),
         Markup::TreeLink => push_all(out, b"<a href=\"#tree\">"),
         Markup::TimelineLink => push_all(out, b"<a href=\"#timeline\">"),

@@ -99,7 +99,7 @@ fn write_some<W: Sink>(
 {
     let first = bytes[0];
     if first == ESCAPE && is_log(kind) {
-        let (style, len) = after_sequences(look.wanted, bytes);
+        let (style, len) = after_sequences(look.wanted, bytes, 0);
         if len > 0 {
             look.wanted = style;
             return Ok(len);
@@ -402,6 +402,7 @@ fn starts_style(look: &Look) -> bool
 }
 
 /// Writes the highlights at the end of a passage.
+#[inline(never)]
 pub fn write_end<W: Sink>(kind: TextKind, look: &Look, out: &mut W) -> Result<(), Broken>
     ensures { Writes (W.written out.old) (W.written out.new) (html_from kind look.now []) result }
 {

@@ -1,9 +1,9 @@
 //! The styles that compilers set.
-ghost use Rattle.std.specs.Prelude.{◌≡◌, ◌≤◌, ◌∷◌, ◌++◌, [], ◌&&◌, ℕ, List, true, nat_le, length, slice_index};
+ghost use Rattle.std.specs.Prelude.{◌≡◌, ◌≤◌, ◌<◌, ◌+◌, ◌-◌, ◌∷◌, ◌++◌, [], ◌&&◌, ℕ, List, true, nat_le, length, drop, slice_index};
 ghost use Rattle.redo_html.specs.Passage.{hue_number, is_same_style, has_element};
 ghost use Rattle.redo_html.specs.Style.{digit_hue, attribute_added, setting_after, restyled};
 ghost use Rattle.redo_html.specs.Symbols.{sequence_numbers, numbers_from};
-ghost use Rattle.redo_html.specs.Private.Writing.{IsSequence, ReadsParameter, ReadsSequence, SkipsSequences};
+ghost use Rattle.redo_html.specs.Private.Writing.{IsBeforeErase, IsSequence, ReadsPair, ReadsParameter, ReadsSequence, SkipsSequences};
 
 use crate::symbol::sequence_size;
 
@@ -69,86 +69,80 @@ fn number(hue: Hue) -> u8
     }
 }
 
-/// Returns the style after the sequences at the start of a log's text, and the number of their bytes.
+/// Returns the style after the sequences at an index of a log's text, and the index after them.
 #[inline(always)]
-pub fn after_sequences(style: Style, bytes: &[u8]) -> (Style, usize)
-    ensures all { SkipsSequences style bytes.now result.0 result.1 }
-    ensures line { (line more : List ℕ) → bytes.now ≡ line ++ 10 ∷ more → SkipsSequences style (line ++ 10 ∷ []) result.0 result.1 }
+pub fn after_sequences(style: Style, bytes: &[u8], from: usize) -> (Style, usize)
+    requires { from ≤ length bytes.now }
+    ensures after { from ≤ result.1 }
+    ensures all { SkipsSequences style (drop from bytes.now) result.0 (result.1 - from) }
+    ensures line { (line more : List ℕ) → drop from bytes.now ≡ line ++ 10 ∷ more
+        → SkipsSequences style (line ++ 10 ∷ []) result.0 (result.1 - from) × (result.1 - from ≤ length line) }
 {
     let mut current = style;
-    let mut done = 0;
-    while done < bytes.len() && bytes[done] == 27 {
-        let (next, len) = read_sequence(current, &bytes[done..]);
-        if len == 0 {
-            return (current, done);
-        }
-        current = next;
-        done += len;
-    }
-    (current, done)
-}
-
-// Returns the style after the sequence at the start, and the number of its bytes, or 0 if there is none. Most sequences have no number,
-// and most of the others are GCC's.
-#[inline(always)]
-fn read_sequence(style: Style, bytes: &[u8]) -> (Style, usize)
-    ensures { ReadsSequence style bytes.now result.0 result.1 }
-{
-    if bytes.len() >= 3 && bytes[0] == 27 && bytes[1] == b'[' {
-        if bytes[2] == b'K' {
-            return (style, 3);
-        }
-        if bytes[2] == b'm' {
-            return (Style::PLAIN, 3);
-        }
-        let (next, len) = read_bold(style, bytes);
+    let mut at = from;
+    while at < bytes.len() && bytes[at] == 27 {
+        let (next, len) = read_pair(current, &bytes[at..]);
         if len > 0 {
-            return (next, len);
+            current = next;
+            at += len;
+        } else {
+            let mut other = current;
+            let other_len = read_sequence(&mut other, &bytes[at..]);
+            if other_len == 0 {
+                return (current, at);
+            }
+            current = other;
+            at += other_len;
         }
-        return read_parameters(style, bytes);
     }
-    let len = sequence_size(bytes);
-    if len == 0 {
-        (style, 0)
-    } else {
-        (after_sequence(style, bytes, len), len)
-    }
+    (current, at)
 }
 
-// Returns the same for bytes that begin with `ESC [` and the parameters `01` or `01;3` and a digit.
+// Returns the style after the two sequences at the start, and the number of their bytes, or 0 unless they are those that GCC writes
+// most: `ESC [` and no parameters, `01`, or `01;3` and a digit, then `m`, then `ESC [ K`.
 #[inline(always)]
-fn read_bold(style: Style, bytes: &[u8]) -> (Style, usize)
-    requires escape { slice_index bytes.now 0 ≡ 27 }
-    requires bracket { slice_index bytes.now 1 ≡ 91 }
-    ensures { ReadsSequence style bytes.now result.0 result.1 }
+fn read_pair(style: Style, bytes: &[u8]) -> (Style, usize)
+    requires { slice_index bytes.now 0 ≡ 27 }
+    ensures { 0 < result.1 → ReadsPair style bytes.now result.0 result.1 }
 {
-    if bytes.len() < 5 || bytes[2] != b'0' || bytes[3] != b'1' {
+    if bytes.len() < 11 || bytes[1] != b'[' {
         return (style, 0);
     }
-    if bytes[4] == b'm' {
+    if is_before_erase(bytes, 2) {
+        return (Style::PLAIN, 6);
+    }
+    if bytes[2] != b'0' || bytes[3] != b'1' {
+        return (style, 0);
+    }
+    if is_before_erase(bytes, 4) {
         return (
             Style {
                 bold: true,
                 ..style
             },
-            5,
+            8,
         );
     }
-    if bytes.len() >= 8
-        && bytes[4] == b';'
-        && bytes[5] == b'3'
-        && is_octal(bytes[6])
-        && bytes[7] == b'm'
-    {
+    if bytes[4] == b';' && bytes[5] == b'3' && is_octal(bytes[6]) && is_before_erase(bytes, 7) {
         return (
             Style {
                 bold: true,
                 hue: hue_of(u32::from(bytes[6] - b'0')),
             },
-            8,
+            11,
         );
     }
     (style, 0)
+}
+
+// Returns whether an `m` is at this index, and `ESC [ K` after it. The compiler makes one load of the four bytes.
+#[inline(always)]
+fn is_before_erase(bytes: &[u8], at: usize) -> bool
+    requires { at + 4 ≤ length bytes.now }
+    ensures { result ≡ true → IsBeforeErase bytes.now at }
+{
+    u32::from_le_bytes([bytes[at], bytes[at + 1], bytes[at + 2], bytes[at + 3]])
+        == u32::from_le_bytes([b'm', 27, b'[', b'K'])
 }
 
 fn is_octal(byte: u8) -> bool
@@ -157,8 +151,34 @@ fn is_octal(byte: u8) -> bool
     b'0' <= byte && byte <= b'7'
 }
 
-// Returns the same for bytes that begin with `ESC [`, by one pass over the parameters.
+// Sets the style to the one after the sequence at the start, and returns the number of its bytes, or 0 if there is none. It isn't
+// inlined, so that registers are left for the pairs.
 #[inline(never)]
+fn read_sequence(style: &mut Style, bytes: &[u8]) -> usize
+    ensures { ReadsSequence style.old bytes.now style.new result }
+{
+    let (next, len) = if bytes.len() >= 3 && bytes[0] == 27 && bytes[1] == b'[' {
+        read_parameters(*style, bytes)
+    } else {
+        read_other(*style, bytes)
+    };
+    *style = next;
+    len
+}
+
+// Returns the style after the sequence at the start, and the number of its bytes, or 0 if there is none.
+fn read_other(style: Style, bytes: &[u8]) -> (Style, usize)
+    ensures { ReadsSequence style bytes.now result.0 result.1 }
+{
+    let len = sequence_size(bytes);
+    if len == 0 {
+        (style, 0)
+    } else {
+        (after_sequence(style, bytes, len), len)
+    }
+}
+
+// Returns the same for bytes that begin with `ESC [`, by one pass over the parameters.
 fn read_parameters(style: Style, bytes: &[u8]) -> (Style, usize)
     requires some { 3 ≤ length bytes.now }
     requires escape { slice_index bytes.now 0 ≡ 27 }

@@ -1,15 +1,15 @@
 //! Lines with sequences. They have many small parts, which are collected in a buffer.
-ghost use Rattle.std.specs.Prelude.{◌≡◌, ◌≤◌, ◌<◌, ◌+◌, ◌==◌, ◌||◌, ℕ, List, ◌∷◌, ◌++◌, [], true, false, length, take, drop, slice_index};
+ghost use Rattle.std.specs.Prelude.{◌≡◌, ◌≤◌, ◌<◌, ◌+◌, ◌==◌, ◌||◌, ℕ, List, ◌∷◌, ◌++◌, [], true, false, length, take, drop, slice_index, OnOk};
 ghost use Rattle.std.specs.List.{flat_map};
 ghost use Rattle.redo_html.specs.declared.text_kind.TextKind.TheVariants.{Log};
-ghost use Rattle.redo_html.specs.Passage.{has_element, highlight_text, highlights_between, html_from, inline_html};
+ghost use Rattle.redo_html.specs.Passage.{after_code_point, has_element, highlight_text, highlights_between, html_from, inline_html};
 ghost use Rattle.redo_html.specs.Passage.Inline.{StyleStart, StyleEnd};
 ghost use Rattle.redo_line.specs.Lines.{ended, rest, with_line_feed};
 ghost use Rattle.redo_html.specs.Private.Buffering.{held, Puts, PutLines, PutSomeOfLine, PutSomeOrFailed};
 ghost use Rattle.redo_html.specs.Private.Writing.{IsVerbatim, optional_highlight};
 
 use crate::buffer::Buffer;
-use crate::look::{Look, at_start, pass_code_point};
+use crate::look::{Look, at_start};
 use crate::passage::{
     has_reference, padded_end_tag, padded_reference, padded_start_tag, write_end, write_rest,
 };
@@ -61,19 +61,32 @@ fn put_some<W: Sink>(
     buffer: &mut Buffer,
     out: &mut W,
 ) -> Result<usize, Broken>
+    requires some { done < length lines.now }
+    requires complete { rest (drop done lines.now) ≡ [] }
+    ensures { PutSomeOfLine (W.written out.old) (W.written out.new) (held buffer.old) look.old (drop done lines.now) (held buffer.new)
+        look.new result }
+{
+    let (style, at) = after_sequences(look.wanted, lines, done);
+    look.wanted = style;
+    let count = put_text(look, lines, at, buffer, out)?;
+    Ok(at - done + count)
+}
+
+// Does the same where no sequence begins.
+#[inline(always)]
+fn put_text<W: Sink>(
+    look: &mut Look,
+    lines: &[u8],
+    done: usize,
+    buffer: &mut Buffer,
+    out: &mut W,
+) -> Result<usize, Broken>
     requires { done < length lines.now }
     ensures { PutSomeOfLine (W.written out.old) (W.written out.new) (held buffer.old) look.old (drop done lines.now) (held buffer.new)
         look.new result }
 {
-    let first = lines[done];
-    if first == ESCAPE {
-        let (style, len) = after_sequences(look.wanted, &lines[done..]);
-        if len > 0 {
-            look.wanted = style;
-            return Ok(len);
-        }
-    }
     if !look.unprintable {
+        let first = lines[done];
         if has_reference(first) {
             return put_reference(look, first, buffer, out);
         }
@@ -84,10 +97,14 @@ fn put_some<W: Sink>(
             }
         }
     }
-    put_other(look, &lines[done..], buffer, out)
+    let mut other = *look;
+    let written = put_other(&mut other, &lines[done..], buffer, out);
+    *look = other;
+    written
 }
 
 // Writes the rest of the first line without the buffer. All of it, so that each line feed is looked for once.
+#[cold]
 #[inline(never)]
 fn put_other<W: Sink>(
     look: &mut Look,
@@ -136,7 +153,6 @@ fn put_verbatim<W: Sink>(
 {
     put_style_change(look, buffer, out)?;
     buffer.put(bytes, done, len, out)?;
-    pass_code_point(look, false);
     Ok(len)
 }
 
@@ -156,22 +172,29 @@ fn put_reference<W: Sink>(
     put_style_change(look, buffer, out)?;
     let (reference, len) = padded_reference(first);
     buffer.put(reference, 0, len, out)?;
-    pass_code_point(look, false);
     Ok(1)
 }
 
-// Writes the highlights between two visible code points. Mostly there are none.
+// Writes the highlights between two visible code points, and sets the look to the one after the second. Mostly there are none, and the
+// look stays as it is.
 #[inline(always)]
-fn put_style_change<W: Sink>(look: &Look, buffer: &mut Buffer, out: &mut W) -> Result<(), Broken>
-    requires { look.now.unprintable ≡ false }
-    ensures { Puts (W.written out.old) (W.written out.new) (held buffer.old)
-        (flat_map (inline_html Log) (highlights_between look.now false)) (held buffer.new) result }
+fn put_style_change<W: Sink>(
+    look: &mut Look,
+    buffer: &mut Buffer,
+    out: &mut W,
+) -> Result<(), Broken>
+    requires { look.old.unprintable ≡ false }
+    ensures put { Puts (W.written out.old) (W.written out.new) (held buffer.old)
+        (flat_map (inline_html Log) (highlights_between look.old false)) (held buffer.new) result }
+    ensures look { OnOk result (look.new ≡ after_code_point look.old false) }
 {
     if is_same(look.wanted, look.current) {
         return Ok(());
     }
     put_style_end(look.current, buffer, out)?;
-    put_style_start(look.wanted, buffer, out)
+    let written = put_style_start(look.wanted, buffer, out);
+    look.current = look.wanted;
+    written
 }
 
 // Writes the end of the highlight of a style, if it has one.
@@ -209,7 +232,8 @@ fn put_end<W: Sink>(look: &Look, buffer: &mut Buffer, out: &mut W) -> Result<(),
 {
     if look.unprintable {
         buffer.flush(out)?;
-        write_end(TextKind::Log, look, out)
+        let last = *look;
+        write_end(TextKind::Log, &last, out)
     } else {
         put_style_end(look.current, buffer, out)
     }

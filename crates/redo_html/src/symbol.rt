@@ -4,7 +4,7 @@ ghost use Rattle.std.specs.List.{list_all, list_any, prefix_len};
 ghost use Rattle.redo_html.specs.Laws.{is_plain};
 ghost use Rattle.redo_html.specs.Shown.{is_unprintable, is_control, ends_plane, is_between, unseen_ranges};
 ghost use Rattle.redo_html.specs.Symbols.{first_code_point, code_point_len, is_parameter, is_link_byte, begins_link_text, end_len, link_len, sequence_len, has_colours, first_symbol, symbol_len};
-ghost use Rattle.redo_html.specs.Private.Writing.{ArePlain, HaveNoLineFeed, IsVerbatim, first_set, symbol_code_point};
+ghost use Rattle.redo_html.specs.Private.Writing.{ArePlain, HaveNoLineFeed, IsQuote, IsVerbatim, first_set, symbol_code_point};
 ghost use Rattle.redo_html.specs.declared.symbol.TheConstants.{STEPS};
 
 use crate::stride::strides_len;
@@ -140,12 +140,69 @@ pub fn verbatim_run(bytes: &[u8], at: usize) -> usize
     ensures verbatim { (line more : List ℕ) → drop at bytes.now ≡ line ++ 10 ∷ more → IsVerbatim (line ++ 10 ∷ []) result }
     ensures few { result ≤ LANES }
 {
-    let line = line_run(bytes, at);
     if bytes[at] < 128 {
-        plain_run(bytes, at).min(line)
+        ascii_run(bytes, at)
     } else {
+        high_run(bytes, at)
+    }
+}
+
+// Returns the number of bytes from `at` on that are plain, up to the first line feed and with it, of as many bytes as are tested at once.
+#[inline(always)]
+fn ascii_run(bytes: &[u8], at: usize) -> usize
+    requires { at + LANES ≤ length bytes.now }
+    ensures plain { ArePlain bytes.now at LANES result }
+    ensures line { (line more : List ℕ) → drop at bytes.now ≡ line ++ 10 ∷ more → result ≤ length line + 1 }
+{
+    let run = unbroken_run(bytes, at);
+    if run < LANES && bytes[at + run] == b'\n' {
+        run + 1
+    } else {
+        run
+    }
+}
+
+// Returns the number of bytes from `at` on that are plain and before the first line feed, of as many bytes as are tested at once.
+#[inline(always)]
+fn unbroken_run(bytes: &[u8], at: usize) -> usize
+    requires { at + LANES ≤ length bytes.now }
+    ensures plain { ArePlain bytes.now at LANES result }
+    ensures line { HaveNoLineFeed bytes.now at LANES result }
+{
+    let vector = u8x16::from_slice(&bytes[at..]);
+    let not_letter = (vector - u8x16::splat(b' ')).simd_ge(u8x16::splat(95));
+    let control = not_letter & vector.simd_ne(u8x16::splat(b'\t'));
+    let other = control
+        | vector.simd_eq(u8x16::splat(b'&'))
+        | vector.simd_eq(u8x16::splat(b'<'))
+        | vector.simd_eq(u8x16::splat(b'>'));
+    first_set(other.to_bitmask(), LANES)
+}
+
+// Returns a number of bytes as `verbatim_run` does. The first one isn't in ASCII. Compilers write names between quotes that aren't, so
+// after such a quote many bytes at once are tested. No register of the caller is kept free for this function.
+#[cold]
+#[inline(never)]
+fn high_run(bytes: &[u8], at: usize) -> usize
+    requires room { at + LANES ≤ length bytes.now }
+    ensures verbatim { (line more : List ℕ) → drop at bytes.now ≡ line ++ 10 ∷ more → IsVerbatim (line ++ 10 ∷ []) result }
+    ensures few { result ≤ LANES }
+{
+    if bytes.len() - at >= LANES + 3 && is_quote(bytes, at) {
+        3 + ascii_run(bytes, at + 3).min(LANES - 3)
+    } else {
+        let line = line_run(bytes, at);
         letters_len(&bytes[at..], line)
     }
+}
+
+// Returns whether U+2018 or U+2019 is at an index.
+#[inline(always)]
+fn is_quote(bytes: &[u8], at: usize) -> bool
+    requires { at + 3 ≤ length bytes.now }
+    ensures { result ≡ true → IsQuote bytes.now at }
+{
+    bytes[at] == 0xE2 && bytes[at + 1] == 0x80 && (bytes[at + 2] == 0x98 || bytes[at + 2] == 0x99)
 }
 
 // Returns the number of bytes from `at` on up to the first line feed and with it, of as many bytes as are tested at once.

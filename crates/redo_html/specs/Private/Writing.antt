@@ -1,5 +1,5 @@
 -- The postconditions of writers in parts.
-use Rattle.std.specs.Prelude.{◌≡◌, ⊤, ℕ, ◌-◌, fold, ◌<◌, ◌≤◌, Bool, true, false, ◌==◌, ◌&&◌, not, encode_utf8, List, [], ◌∷◌, ◌++◌, map, Option, None, Some, length, take, drop, replicate, slice_index, Result, Ok, Err, if◌then◌else◌}
+use Rattle.std.specs.Prelude.{◌≡◌, ⊤, ℕ, ◌+◌, ◌-◌, fold, ◌<◌, ◌≤◌, Bool, true, false, ◌==◌, ◌||◌, ◌&&◌, not, encode_utf8, List, [], ◌∷◌, ◌++◌, map, Option, None, Some, length, take, drop, replicate, slice_index, Result, Ok, Err, if◌then◌else◌}
 use Rattle.std.specs.Int.{w64, trailing_zeros}
 use Rattle.std.specs.List.{flat_map, list_all}
 use Rattle.redo_device.specs.declared.feed.Broken.{Broken}
@@ -98,6 +98,20 @@ pub record IsSequence (bytes : List ℕ) (len : ℕ) : Type 0 where
 abbrev pub ReadsSequence : Style → List ℕ → Style → ℕ → Type 0
 ReadsSequence style bytes next len = 0 < len → (len ≡ sequence_len bytes) × (next ≡ restyled style (sequence_numbers bytes))
 
+-- An `m` is at this index, and `ESC [ K` after it.
+abbrev pub IsBeforeErase : List ℕ → ℕ → Type 0
+IsBeforeErase bytes at =
+    (slice_index bytes at ≡ 109) × (slice_index bytes (at + 1) ≡ 27) × (slice_index bytes (at + 2) ≡ 91) × (slice_index bytes (at + 3) ≡ 75)
+
+-- Two sequences of `len` bytes are at the start of some bytes, the second is `ESC [ K`, and the style after both is `next`.
+pub record ReadsPair (style : Style) (bytes : List ℕ) (next : Style) (len : ℕ) : Type 0 where
+  pub first : ℕ
+  pub some : 0 < first
+  pub both : len ≡ first + 3
+  pub read : ReadsSequence style bytes next first
+  pub escape : slice_index bytes first ≡ 27
+  pub erase : ReadsSequence next (drop first bytes) next 3
+
 -- The first `len` bytes of a log's text are sequences, after which the style is `next`.
 pub record SkipsSequences (style : Style) (bytes : List ℕ) (next : Style) (len : ℕ) : Type 0 where
   pub within : len ≤ length bytes
@@ -116,6 +130,11 @@ ArePlain bytes at count run = (run ≤ count) × (list_all is_plain (take run (d
 -- The first `run` of the `count` bytes from `at` on are no line feeds.
 abbrev pub HaveNoLineFeed : List ℕ → ℕ → ℕ → ℕ → Type 0
 HaveNoLineFeed bytes at count run = (run ≤ count) × (list_all (λ byte. not (byte == 10)) (take run (drop at bytes)) ≡ true)
+
+-- U+2018 or U+2019 is at this index.
+abbrev pub IsQuote : List ℕ → ℕ → Type 0
+IsQuote bytes at =
+    (slice_index bytes at ≡ 0xE2) × (slice_index bytes (at + 1) ≡ 0x80) × ((slice_index bytes (at + 2) == 0x98 || slice_index bytes (at + 2) == 0x99) ≡ true)
 
 -- The place of the lowest bit that is set, or `count` if none is.
 abbrev pub first_set : ℕ → ℕ → ℕ

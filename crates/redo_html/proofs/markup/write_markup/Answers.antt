@@ -2,7 +2,7 @@ use Rattle.std.proofs.Common.{◌++◌, ◌∙◌, ap, sym}
 use Rattle.std.specs.Prelude.{codes}
 use Rattle.redo_html.specs.Shown.{number_text}
 use Rattle.redo_html.specs.Tags.{markup_html}
-use Rattle.redo_html.specs.declared.markup.Markup.TheVariants.{Viewport, ColorScheme, Referrer, Policy, BodyGood, BodyBad, BodyOpen, Sign, Nav, FailedSection, SummarySection, TreeSection, FailedHeading, SummaryHeading, TreeHeading, SummaryLink, MetaParagraph, QuietParagraph, CutParagraph, ProblemParagraph, Tree, NoteItem, TimelineSection, TimelineLink, Columns, RowHeading, NumberCell, MeterCell, TimelineScroll}
+use Rattle.redo_html.specs.declared.markup.Markup.TheVariants.{Viewport, ColorScheme, Referrer, Policy, BodyGood, BodyBad, BodyOpen, Sign, Nav, FailedSection, NewSection, SummarySection, TreeSection, FailedHeading, NewHeading, SummaryHeading, TreeHeading, SummaryLink, MetaParagraph, QuietParagraph, CutParagraph, ProblemParagraph, Tree, NoteItem, TimelineSection, TimelineLink, Columns, RowHeading, NumberCell, MeterCell, TimelineScroll}
 use Rattle.redo_html.proofs.HighlightReading.{number_end}
 use Rattle.redo_html.proofs.WritingLemmas.{writes_as}
 use Rattle.redo_html.proofs.markup.write_markup.Goals as goal
@@ -47,6 +47,10 @@ pub returns-in-FailedSection : goal.returns-in-FailedSection
 returns-in-FailedSection g c = writes_as _ _ (markup_html FailedSection) (markup_html c.args.markup) _
     (ap markup_html (sym c.in-FailedSection.is)) c.push_all-in-FailedSection.ensures
 
+pub returns-in-NewSection : goal.returns-in-NewSection
+returns-in-NewSection g c = writes_as _ _ (markup_html NewSection) (markup_html c.args.markup) _
+    (ap markup_html (sym c.in-NewSection.is)) c.push_all-in-NewSection.ensures
+
 pub returns-in-SummarySection : goal.returns-in-SummarySection
 returns-in-SummarySection g c = writes_as _ _ (markup_html SummarySection) (markup_html c.args.markup) _
     (ap markup_html (sym c.in-SummarySection.is)) c.push_all-in-SummarySection.ensures
@@ -58,6 +62,10 @@ returns-in-TreeSection g c = writes_as _ _ (markup_html TreeSection) (markup_htm
 pub returns-in-FailedHeading : goal.returns-in-FailedHeading
 returns-in-FailedHeading g c = writes_as _ _ (markup_html FailedHeading) (markup_html c.args.markup) _
     (ap markup_html (sym c.in-FailedHeading.is)) c.push_all-in-FailedHeading.ensures
+
+pub returns-in-NewHeading : goal.returns-in-NewHeading
+returns-in-NewHeading g c = writes_as _ _ (markup_html NewHeading) (markup_html c.args.markup) _
+    (ap markup_html (sym c.in-NewHeading.is)) c.push_all-in-NewHeading.ensures
 
 pub returns-in-SummaryHeading : goal.returns-in-SummaryHeading
 returns-in-SummaryHeading g c = writes_as _ _ (markup_html SummaryHeading) (markup_html c.args.markup) _

@@ -21,7 +21,7 @@ returns-in_err-put_style_change g c = λ bytes some first.
     change_failed _ (held c.args.buffer.now) look bytes (flat_map (inline_html Log) (highlights_between look false))
     (escaped_byte (slice_index bytes 0)) 1
     (reference_step Log look bytes some (is_reference c.args.first bytes first c.requires.reference))
-    _ _ _ _ _ c.from_residual.ensures.0 c.in_err-put_style_change.ensures
+    _ _ _ _ _ c.from_residual.ensures.0 c.in_err-put_style_change.ensures.put
 
 pub returns-in_err-put : goal.returns-in_err-put
 returns-in_err-put g c = λ bytes some first.
@@ -31,7 +31,7 @@ returns-in_err-put g c = λ bytes some first.
     part_failed _ (held c.args.buffer.now) look bytes html _ 1
     (ap (λ (t : List ℕ). html ++ (t ++ html_from Log (after_code_point look false) (drop 1 bytes)))
     (c.padded_reference-len.ensures.text_is ∙ ap escaped_byte first) ∙ reference_step Log look bytes some is)
-    _ _ _ _ _ _ _ c.from_residual-in_err-put.ensures.0 c.in_ok-put_style_change.ensures c.in_err-put.ensures
+    _ _ _ _ _ _ _ c.from_residual-in_err-put.ensures.0 c.in_ok-put_style_change.ensures.put c.in_err-put.ensures
 
 pub returns : goal.returns
 returns g c = λ bytes some first.
@@ -42,6 +42,6 @@ returns g c = λ bytes some first.
     both_put _ (held c.args.buffer.now) look bytes html _ 1
     (ap (λ (t : List ℕ). html ++ (t ++ html_from Log (after_code_point look false) (drop 1 bytes)))
     (c.padded_reference-len.ensures.text_is ∙ ap escaped_byte first) ∙ reference_step Log look bytes some is)
-    _ _ _ _ _ c.pass_code_point.ensures (ap (λ (n : ℕ). style_in Log look.wanted (drop n bytes)) (sym found.1)
+    _ _ _ _ _ c.in_ok-put_style_change.ensures.look (ap (λ (n : ℕ). style_in Log look.wanted (drop n bytes)) (sym found.1)
     ∙ code_point_style Log look.wanted bytes some (slice_index bytes 0) found.0) (omega arith) some
-    c.in_ok-put_style_change.ensures c.in_ok-put.ensures
+    c.in_ok-put_style_change.ensures.put c.in_ok-put.ensures

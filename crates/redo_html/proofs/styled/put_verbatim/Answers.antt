@@ -12,7 +12,7 @@ returns-in_err-put_style_change g c = λ left verbatim same.
     let look = c.args.look.now in
     change_failed _ (held c.args.buffer.now) look left (flat_map (inline_html Log) (highlights_between look false)) (take c.args.len left)
     c.args.len (verbatim_step Log look left c.args.len c.requires.some verbatim)
-    _ _ _ _ _ c.from_residual.ensures.0 c.in_err-put_style_change.ensures
+    _ _ _ _ _ c.from_residual.ensures.0 c.in_err-put_style_change.ensures.put
 
 pub returns-in_err-put : goal.returns-in_err-put
 returns-in_err-put g c = λ left verbatim same.
@@ -22,7 +22,7 @@ returns-in_err-put g c = λ left verbatim same.
     part_failed _ (held c.args.buffer.now) look left html part c.args.len
     (ap (λ (t : List ℕ). html ++ (t ++ html_from Log (after_code_point look false) (drop c.args.len left))) (sym same)
     ∙ verbatim_step Log look left c.args.len c.requires.some verbatim)
-    _ _ _ _ _ _ _ c.from_residual-in_err-put.ensures.0 c.in_ok-put_style_change.ensures c.in_err-put.ensures
+    _ _ _ _ _ _ _ c.from_residual-in_err-put.ensures.0 c.in_ok-put_style_change.ensures.put c.in_err-put.ensures
 
 pub returns : goal.returns
 returns g c = λ left verbatim same.
@@ -32,5 +32,6 @@ returns g c = λ left verbatim same.
     both_put _ (held c.args.buffer.now) look left html part c.args.len
     (ap (λ (t : List ℕ). html ++ (t ++ html_from Log (after_code_point look false) (drop c.args.len left))) (sym same)
     ∙ verbatim_step Log look left c.args.len c.requires.some verbatim)
-    _ _ _ _ _ c.pass_code_point.ensures (verbatim_style Log look.wanted left c.args.len verbatim) c.requires.some verbatim.within
-    c.in_ok-put_style_change.ensures c.in_ok-put.ensures
+    _ _ _ _ _ c.in_ok-put_style_change.ensures.look (verbatim_style Log look.wanted left c.args.len verbatim) c.requires.some
+    verbatim.within
+    c.in_ok-put_style_change.ensures.put c.in_ok-put.ensures
