@@ -1,3 +1,5 @@
+mod BaselineLemmas
+mod BaselineRows
 mod ChangeRows
 pub mod FindingLemmas
 mod FindingRows

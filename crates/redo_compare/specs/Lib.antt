@@ -1,3 +1,4 @@
+pub mod Baseline
 pub mod Changes
 pub mod Laws
 pub mod LogChanges

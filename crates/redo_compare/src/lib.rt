@@ -21,6 +21,7 @@
 //!   quadratic time. Keys and source lines are borrowed by the counts, and not copied.
 #![tactic(auto)]
 
+mod baseline;
 mod changes;
 mod found;
 mod laws;
@@ -31,6 +32,7 @@ mod remaining;
 mod rounds;
 mod source;
 
+pub use baseline::{Baseline, TargetChanges};
 pub use changes::{Changes, compare};
 pub use found::{LogDiagnostics, Occurrence};
 pub use laws::{
