@@ -5,7 +5,7 @@ use Rattle.std.specs.List.{AllByRecursion}
 use Rattle.clap.proofs.OnLiterals.{clap_on_literals}
 use Rattle.clap.specs.declared.error.kind.ErrorKind.TheVariants as kind
 use Rattle.redo_args.specs.CommandLine.{redo_log}
-use Rattle.redo_args.specs.Rejection.{kinds_of, rejected_within, rejection}
+use Rattle.redo_args.specs.Rejection.{kinds_of, missing, rejected_within, rejection}
 
 -- Rejected arguments, each with the text about them.
 abbrev rejections : List (List (List ℕ) × List ℕ)
@@ -30,3 +30,7 @@ these_rejections = (refl, (refl, (refl, (refl, (refl, (refl, (refl, (refl, (refl
 
 these_kinds : (kinds_of None ≡ []) × (kinds_of (Some kind.InvalidValue) ≡ kind.InvalidValue ∷ [])
 these_kinds = (refl, refl)
+
+-- A command line that rejects a target alone lacks the option that it requires.
+this_baseline : missing (kind.MissingRequiredArgument ∷ []) ≡ codes "no --baseline DIR"
+this_baseline = refl

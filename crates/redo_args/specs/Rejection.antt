@@ -63,14 +63,20 @@ mistake kind.TooManyValues = codes ": this option takes no value"
 mistake kind.ArgumentConflict = codes ": this option is given twice"
 mistake other = codes ": rejected"
 
--- The reason for a rejection, from the kind of the fault.
-abbrev pub reason : Kinds → Text → Text
-reason [] argument = []
-reason (kind.UnknownArgument ∷ kinds) argument = codes "unknown option '" ++ argument ++ codes "'"
-reason (kind.ValueValidation ∷ kinds) argument = argument ++ out_of_range argument
-reason (kind.MissingRequiredArgument ∷ kinds) argument = codes "no target"
-reason (other ∷ kinds) argument = argument ++ mistake other
+-- What arguments lack: a target, if the command accepts a target alone, and otherwise the option that it requires.
+abbrev pub missing : Kinds → Text
+missing [] = codes "no target"
+missing (kind ∷ kinds) = codes "no --baseline DIR"
+
+-- The reason for a rejection, from the kind of the fault. `alone` is the fault of a target alone.
+abbrev pub reason : Kinds → Kinds → Text → Text
+reason alone [] argument = []
+reason alone (kind.UnknownArgument ∷ kinds) argument = codes "unknown option '" ++ argument ++ codes "'"
+reason alone (kind.ValueValidation ∷ kinds) argument = argument ++ out_of_range argument
+reason alone (kind.MissingRequiredArgument ∷ kinds) argument = missing alone
+reason alone (other ∷ kinds) argument = argument ++ mistake other
 
 -- Why the arguments are rejected.
 abbrev pub rejection : App → List Text → Text
-rejection app words = reason (fault_of app words) (argument_at words (rejected_count app words))
+rejection app words =
+    reason (fault_of app (codes "all" ∷ [])) (fault_of app words) (argument_at words (rejected_count app words))

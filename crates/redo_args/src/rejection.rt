@@ -2,13 +2,15 @@
 //!
 //! `clap` states only the kind of an error, and nothing about its text, which is therefore not shown. To find the rejected one, the
 //! arguments are parsed again, without the last one, the last two, and so on, until the kind changes.
-ghost use Rattle.std.specs.Prelude.{◌≡◌, ◌≤◌, ◌<◌, ◌-◌, ◌++◌, ◌∷◌, [], true, flat_map, get_or, length, map, IfOk, List};
+ghost use Rattle.std.specs.Prelude.{◌≡◌, ◌≢◌, ◌≤◌, ◌<◌, ◌-◌, ◌++◌, ◌∷◌, [], true, codes, flat_map, get_or, length, map, IfOk, List};
 ghost use Rattle.std.specs.Str.{bytes_eq};
 ghost use Rattle.std.specs.String.{string_bytes};
 ghost use Rattle.clap.specs.Faults.{fault_of, is_simple_and_free};
+ghost use Rattle.clap.specs.Kinds.{Kinds};
 ghost use Rattle.clap.specs.Simple.{App, app_of};
 ghost use Rattle.clap.specs.Walk.{Text};
-ghost use Rattle.redo_args.specs.Rejection.{argument_at, is_option, kind_name, kinds_of, mistake, out_of_range, reason, rejected_count, rejection};
+ghost use Rattle.clap.specs.declared.error.kind.ErrorKind.TheVariants as kind_of;
+ghost use Rattle.redo_args.specs.Rejection.{argument_at, is_option, kind_name, kinds_of, missing, mistake, out_of_range, reason, rejected_count, rejection};
 
 use clap::Command;
 use clap::error::ErrorKind;
@@ -43,7 +45,7 @@ pub fn explain_rejection<C: CommandLine>(
     let kind = fault_in(alloc, command_line, words)?;
     let count = rejected_count(alloc, command_line, words, kind)?;
     let argument = argument_at(alloc, words, count)?;
-    reason(alloc, kind, &argument)
+    reason(alloc, command_line, kind, &argument)
 }
 
 /// Returns the kind of the fault that arguments have; `None` if they describe a job. The only error is that an allocation
@@ -149,22 +151,41 @@ fn is_option(word: &[u8]) -> bool
 }
 
 // Returns the reason for a rejection.
-fn reason(alloc: Global, kind: Option<ErrorKind>, argument: &[u8]) -> Result<Vec<u8>, AllocError>
-    ensures { IfOk result (λ text. text.items ≡ reason (kinds_of kind) argument.now) }
+fn reason<C: CommandLine>(
+    alloc: Global,
+    command_line: &C,
+    kind: Option<ErrorKind>,
+    argument: &[u8],
+) -> Result<Vec<u8>, AllocError>
+    ensures { IfOk result (λ text.
+        text.items ≡ reason (fault_of (C.app command_line.now) (codes "all" ∷ [])) (kinds_of kind) argument.now) }
 {
     match kind {
         None => Ok(Vec::new(alloc)),
+        Some(ErrorKind::MissingRequiredArgument) => missing(alloc, command_line),
         Some(kind) => reason_of_kind(alloc, kind, argument),
     }
 }
 
+// Returns what arguments lack.
+fn missing<C: CommandLine>(alloc: Global, command_line: &C) -> Result<Vec<u8>, AllocError>
+    ensures { IfOk result (λ text. text.items ≡ missing (fault_of (C.app command_line.now) (codes "all" ∷ []))) }
+{
+    let target = String::from_str(alloc, "all")?;
+    match fault_in(alloc, command_line, &[target])? {
+        None => concat(alloc, &[b"no target"]),
+        Some(_) => concat(alloc, &[b"no --baseline DIR"]),
+    }
+}
+
+// Returns the reason for a rejection, unless a required argument is missing.
 fn reason_of_kind(alloc: Global, kind: ErrorKind, argument: &[u8]) -> Result<Vec<u8>, AllocError>
-    ensures { IfOk result (λ text. text.items ≡ reason (kind ∷ []) argument.now) }
+    requires { kind ≢ kind_of.MissingRequiredArgument }
+    ensures { (alone : Kinds) → IfOk result (λ text. text.items ≡ reason alone (kind ∷ []) argument.now) }
 {
     match kind {
         ErrorKind::UnknownArgument => concat(alloc, &[b"unknown option '", argument, b"'"]),
         ErrorKind::ValueValidation => with_end(alloc, argument, out_of_range(argument)),
-        ErrorKind::MissingRequiredArgument => concat(alloc, &[b"no target"]),
         _ => with_end(alloc, argument, mistake(kind)),
     }
 }

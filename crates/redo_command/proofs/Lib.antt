@@ -1,3 +1,4 @@
+mod AlarmRows
 mod ArgumentRows
 pub mod BaselineLemmas
 mod BaselineRows

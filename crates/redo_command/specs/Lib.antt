@@ -1,7 +1,9 @@
+pub mod Alarm
 pub mod Baseline
 pub mod Explanation
 pub mod Facts
 pub mod Failure
+pub mod FirstByte
 pub mod Job
 pub mod Laws
 pub mod LogFile

@@ -25,6 +25,8 @@ pub struct Shown {
     pub index: Index,
     /// Whether the whole text was written.
     pub outcome: Result<(), Failure>,
+    /// The first byte of the text that was written, if there is one.
+    pub first: Option<u8>,
     /// The error of the last write that failed, if one did.
     pub write_error: Option<WriteError>,
 }

@@ -26,6 +26,7 @@ use crate::buffer::{buffered, flush_after};
 use crate::directory::{Shown, find_index};
 use crate::error_keeper::ErrorKeeper;
 use crate::failure::Failure;
+use crate::first_byte::FirstByte;
 use crate::log_file::{LogFiles, RegularLogFiles};
 use crate::logs::{OpenFacts, OpenLog, write_logs};
 use crate::output::{Output, close_output, create_output};
@@ -296,6 +297,7 @@ fn not_shown(alloc: Global, failure: Failure) -> Shown
     Shown {
         index: Index::new(alloc),
         outcome: Err(failure),
+        first: None,
         write_error: None,
     }
 }
@@ -316,6 +318,7 @@ fn show_in_file<R: Files<File: Send> + RandomSource + Threads + Wait + Sync + Al
     Shown {
         index: shown.index,
         outcome: close_output(rt, output, shown.outcome),
+        first: shown.first,
         write_error: shown.write_error,
     }
 }
@@ -334,10 +337,12 @@ fn show_logs<
     match find_index(rt, job.dir()) {
         Ok(index) => {
             let mut out = ErrorKeeper::new(out);
-            let outcome = show_text(rt, job, &index, &mut out);
+            let mut first = None;
+            let outcome = show_text(rt, job, &index, &mut out, &mut first);
             Shown {
                 index,
                 outcome,
+                first,
                 write_error: out.error(),
             }
         }
@@ -345,13 +350,13 @@ fn show_logs<
     }
 }
 
-// Writes the text of a job through a buffer, from the log files that an index lists. Facts are read from regular files only, because
-// a pipe can be read only once.
+// Writes the text of a job through a buffer, from the log files that an index lists, and sets `first` to its first byte. Facts are read
+// from regular files only, because a pipe can be read only once.
 fn show_text<
     R: Files<File: Send> + RandomSource + Threads + Wait + Sync + AllocGlobal,
     J: Job,
     W: Write,
->(rt: &R, job: &J, index: &Index, out: &mut W) -> Result<(), Failure>
+>(rt: &R, job: &J, index: &Index, out: &mut W, first: &mut Option<u8>) -> Result<(), Failure>
     ensures shown { IsShown (IsJobWritten (J.are_facts job.now opaque_logs None index.now) (IsReadIfAsked (J.baseline_dir job.now))
         (J.text job.now) opaque_logs index.now (J.arguments job.now) None None) result }
     ensures reportable { IfErr result (IsReportable (length index.now) (length (J.arguments job.now))) }
@@ -360,7 +365,8 @@ fn show_text<
     let regular_files = RegularLogFiles { rt, dir: job.dir() };
     let files = LogFiles { rt, dir: job.dir() };
     let baseline = job_baseline(rt, job)?;
-    let mut buffer = buffered(rt.alloc(), out)?;
+    let buffer = buffered(rt.alloc(), out)?;
+    let mut writer = FirstByte::new(buffer);
     let outcome = write_job(
         rt,
         job,
@@ -368,8 +374,10 @@ fn show_text<
         &files,
         index,
         baseline.as_ref(),
-        &mut buffer,
+        &mut writer,
     );
+    let (buffer, byte) = writer.into_parts();
+    *first = byte;
     flush_after(outcome, buffer)
 }
 

@@ -1,11 +1,12 @@
 //! What a command does, from its arguments to its exit status.
+ghost use Rattle.redo_command.specs.Alarm.{IsStatusWith};
 ghost use Rattle.redo_command.specs.Failure.{IsStatus};
 
 use crate::explanation::{explain_fault, explain_shown};
 use crate::failure::Failure;
 use crate::job::{Job, show_job};
 use crate::process::{command_arguments, explains, process_arguments, requests_version};
-use crate::reports::{exit_status, print, print_help, report_before_run_as};
+use crate::reports::{print, print_help, report_before_run_as, text_status};
 use redo_args::{CommandLine, WordsFault};
 use std::alloc::{AllocError, Global};
 use std::io::Write;
@@ -50,12 +51,24 @@ pub fn run_process<
 >(rt: &R, program: &P, out: &mut W, err: &mut E) -> u8
     ensures { IsStatus result }
 {
+    run_process_with(rt, program, None, out, err)
+}
+
+/// Like [`run_process`], but returns 1 after a text that begins with the byte `alarm`, as [`text_status`] does.
+pub fn run_process_with<
+    R: Env + Files<File: Send> + RandomSource + Threads + Wait + Sync + AllocGlobal,
+    P: Program,
+    W: Write,
+    E: Write,
+>(rt: &R, program: &P, alarm: Option<u8>, out: &mut W, err: &mut E) -> u8
+    ensures { IsStatusWith alarm result }
+{
     let alloc = rt.alloc();
     match process_arguments(rt) {
         Ok(words) if requests_version(&words) => {
             print(alloc, program.name(), program.version(), out, err)
         }
-        Ok(words) => run_program(rt, program, &words, out, err),
+        Ok(words) => run_program_with(rt, program, alarm, &words, out, err),
         Err(failure) => report_before_run_as(alloc, program.name(), &failure, err),
     }
 }
@@ -71,12 +84,25 @@ pub fn run_program<
 >(rt: &R, program: &P, words: &[String], out: &mut W, err: &mut E) -> u8
     ensures { IsStatus result }
 {
+    run_program_with(rt, program, None, words, out, err)
+}
+
+/// Like [`run_program`], but returns 1 after a text that begins with the byte `alarm`, as [`text_status`] does.
+pub fn run_program_with<
+    R: Files<File: Send> + RandomSource + Threads + Wait + Sync + AllocGlobal,
+    P: Program,
+    W: Write,
+    E: Write,
+>(rt: &R, program: &P, alarm: Option<u8>, words: &[String], out: &mut W, err: &mut E) -> u8
+    ensures { IsStatusWith alarm result }
+{
     if program.always_explains() {
-        run_arguments(rt, program, true, words, out, err)
+        run_arguments(rt, program, alarm, true, words, out, err)
     } else {
         run_arguments(
             rt,
             program,
+            alarm,
             explains(words),
             command_arguments(words),
             out,
@@ -90,8 +116,16 @@ fn run_arguments<
     P: Program,
     W: Write,
     E: Write,
->(rt: &R, program: &P, explains: bool, arguments: &[String], out: &mut W, err: &mut E) -> u8
-    ensures { IsStatus result }
+>(
+    rt: &R,
+    program: &P,
+    alarm: Option<u8>,
+    explains: bool,
+    arguments: &[String],
+    out: &mut W,
+    err: &mut E,
+) -> u8
+    ensures { IsStatusWith alarm result }
 {
     let alloc = rt.alloc();
     let name = program.name();
@@ -99,7 +133,7 @@ fn run_arguments<
         Ok(job) => {
             let shown = show_job(rt, &job, out);
             let dir = dir_of_outcome(&job, &shown.outcome);
-            let status = exit_status(alloc, name, dir, &shown, job.targets(), err);
+            let status = text_status(alloc, name, dir, &shown, job.targets(), alarm, err);
             if explains {
                 explain_shown(alloc, name, dir, &shown, job.targets(), err);
             }

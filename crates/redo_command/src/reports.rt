@@ -1,7 +1,8 @@
 //! The output of a program besides the text of logs: error messages and, for example, a help text.
-ghost use Rattle.std.specs.Prelude.{◌≡◌, ◌≢◌, ◌⊎◌, ◌↔◌, Ok, IfErr, length};
+ghost use Rattle.std.specs.Prelude.{◌≡◌, ◌≢◌, ◌⊎◌, ◌↔◌, true, false, Ok, IfErr, length};
 ghost use Rattle.redo_run.specs.declared.run_fault.RunFault.TheVariants as run;
 ghost use Rattle.redo_command.specs.declared.failure.Failure.TheVariants.{Memory, Run};
+ghost use Rattle.redo_command.specs.Alarm.{is_alarm};
 ghost use Rattle.redo_command.specs.Failure.{IsBeforeRun, IsReportable, status_of};
 
 use crate::directory::Shown;
@@ -47,6 +48,38 @@ pub fn exit_status<E: Write>(
         Ok(()) => 0,
         Err(failure) => report(alloc, program, dir, failure, &shown.index, arguments, err),
     }
+}
+
+/// Returns the exit status of a program that showed logs, as [`exit_status`] does, except that it is 1 if the whole text was written and
+/// begins with the byte `alarm`.
+pub fn text_status<E: Write>(
+    alloc: Global,
+    program: &str,
+    dir: &str,
+    shown: &Shown,
+    arguments: &[Vec<u8>],
+    alarm: Option<u8>,
+    err: &mut E,
+) -> u8
+    requires reportable { IfErr shown.now.outcome (IsReportable (length shown.now.index) (length arguments.now)) }
+    requires nonzero_status { IfErr shown.now.outcome (λ failure. status_of failure ≢ 0) }
+    ensures alarm { (result ≡ 1) ↔ ((shown.now.outcome ≡ Ok tt) × (is_alarm alarm shown.now.first ≡ true)) }
+    ensures success { (result ≡ 0) ↔ ((shown.now.outcome ≡ Ok tt) × (is_alarm alarm shown.now.first ≡ false)) }
+    ensures failure { IfErr shown.now.outcome (λ failure. (result ≡ status_of failure) ⊎ (result ≡ status_of Memory)) }
+{
+    let status = exit_status(alloc, program, dir, shown, arguments, err);
+    if status == 0 && is_alarm(alarm, shown.first) {
+        1
+    } else {
+        status
+    }
+}
+
+// Returns whether a text that begins with this byte is reported by status 1.
+fn is_alarm(alarm: Option<u8>, first: Option<u8>) -> bool
+    ensures { result ≡ is_alarm alarm first }
+{
+    alarm.is_some() && first == alarm
 }
 
 /// Writes a text that is no result of a run, such as a help text, and returns the exit status: 0 if it was written.
