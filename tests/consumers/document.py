@@ -18,7 +18,7 @@ EXAMPLE = {
     "facts": ["2 log debug/table.o", "2 directory /home/me/variants", "2 command cc -Wall -DDEBUG -c -o debug/table.o table.c",
               "2 usage 9 3 21480"],
 }  # fmt: skip
-TYPES = {"string": str, "number": int, "null": type(None), "strings": list, "objects": list}
+TYPES = {"string": str, "number": int, "boolean": bool, "null": type(None), "strings": list, "object": dict, "objects": list}
 NINE, THIRTEEN = 10**9 - 1, (10**12, 10**13 - 1)
 LIMITS = {"status": (-NINE, NINE), "start_ms": THIRTEEN, "end_ms": THIRTEEN, "row": (0, NINE), "column": (0, NINE)}
 LARGEST = 2**53
@@ -42,7 +42,7 @@ def faults_of_object(value, members):
     for name, types in members.items():
         one = value.get(name)
         low, high = LIMITS.get(name, (0, LARGEST - 1))
-        if not isinstance(one, types) or isinstance(one, bool) or isinstance(one, int) and not low <= one <= high:
+        if type(one) not in types or type(one) is int and not low <= one <= high:
             yield f"{name}: {str(one)[:80]}"
         exact = value.get(f"{name}_base64", {})
         pairs = [(one, exact)] if isinstance(exact, str) else [(one[int(place)], text) for place, text in exact.items()]
@@ -55,9 +55,10 @@ def faults_of_object(value, members):
 
 
 def expect_members(checks, what, objects):
-    of_logs, of_diagnostics = tables()
+    of_logs, of_diagnostics, of_baselines = tables()
     faults = [fault for one in objects for fault in faults_of_object(one, of_logs)]
     faults += [fault for one in objects for diagnostic in one["diagnostics"] for fault in faults_of_object(diagnostic, of_diagnostics)]
+    faults += [fault for one in objects if one["baseline"] for fault in faults_of_object(one["baseline"], of_baselines)]
     checks.expect(f"{what}: what {DOCUMENT} doesn't say", faults[:5], [])
     checks.expect(f"{what}: line feeds in lines", [text for one in objects for text in one["lines"] if "\n" in text], [])
     ids = [(one["target"], one.get("target_base64"), diagnostic["key"], diagnostic.get("key_base64"), diagnostic["nth"])
@@ -79,6 +80,11 @@ def example(checks, at, tool, program):
     checks.expect("the example", lines[1:], ["".join(line.strip() for line in shown.splitlines())])
     objects = [json.loads(line) for line in lines]
     expect_members(checks, "the example", objects)
+    since = parsed(write_json(checks, "the example since itself", program, folder, "capture", words=["--baseline", "capture"]))
+    expect_members(checks, "the example since itself", since)
+    found = [(one["baseline"], [diagnostic["new"] for diagnostic in one["diagnostics"]]) for one in since]
+    same = {"built": True, "gone": 0, "newly_fails": False, "fixed": False}
+    checks.expect("the example since itself: what changed", found, [(same, []), (same, [False])])
     every = parsed(write_json(checks, "every target", program, folder, "capture", words=["--every", "debug/table.o"]))
     found = [(one["target"], one["parent"]) for one in every]
     checks.expect("every target: those that were not requested follow", found, [("debug/table.o", None), ("all", None)])

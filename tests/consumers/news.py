@@ -1,4 +1,4 @@
-"""Builds for new.jq. Of random ones, a second implementation says what is new, one diagnostic after another."""
+"""Builds for new.jq and --baseline. Of random ones, a second implementation says what is new, one diagnostic after another."""
 import os
 import random
 import re
@@ -60,6 +60,17 @@ def random_news(checks, at, tool, program):
     wanted = [f"{line} ({', '.join(sorted(names))})" for line, names in printed.items()]
     failed_before = [name for name, row in old.items() if row["status"] not in (0, None)]
     wanted += [f"{name} fails (exit {row['status']})" for name, row in new.items() if row["status"] == 1 and name not in failed_before]
+    since = parsed(write_json(checks, "NEW since OLD", program, folder, "NEW", "since.jsonl", ["--baseline", "OLD"]))
+    compared = {row["target"]: row for row in since}
+    for name, row in new.items():
+        before = sources_and_keys(old[name]) if name in old else []
+        flags = [one["new"] for one in compared[name]["diagnostics"]]
+        places = new_places(before, sources_and_keys(row))
+        checks.expect(f"random builds: what --baseline says of {name}", [at for at, flag in enumerate(flags) if flag], places)
+        gone, failed = len(new_places(sources_and_keys(row), before)), old[name]["status"] if name in old else None
+        fails = row["status"] == 1 and failed in (0, None)
+        told = {"built": name in old, "gone": gone, "newly_fails": fails, "fixed": failed == 1 and row["status"] == 0}
+        checks.expect(f"random builds: what --baseline says changed in {name}", compared[name]["baseline"], told)
     status, out, err = run_script("new", folder)
     checks.expect("random builds: there are many", (len(wanted) > 500, any(len(names) > 1 for names in printed.values())), (True, True))
     checks.expect("random builds: what is new", (status, out.decode().splitlines(), err), (1, wanted, ""))

@@ -93,7 +93,7 @@ def expect_messages(checks, program, html_program):
         helps = [run(program, folder, words) for words in (["--help"], ["-h"], ["--every", "--help", "x"])]
         checks.expect("the help text", helps, [helps[0]] * 3)
         named = re.findall(r"--[a-z]+", helps[0][1].decode().partition("Example:")[0])
-        options = ["--dir", "--unchanged", "--every", "--output", "--senders", "--help", "--version"]
+        options = ["--dir", "--baseline", "--unchanged", "--every", "--output", "--senders", "--help", "--version"]
         checks.expect("the options in the help text", named, options)
 
 
@@ -151,7 +151,7 @@ OUTPUTS = [
 ]  # fmt: skip
 # The JSON if the files are good, as docs/json.md says.
 JSON = (b'{"target":"all","parent":null,"status":null,"start_ms":null,"end_ms":null,"cpu_ms":null,"peak_kb":null,'
-        b'"directory":null,"commands":[],"needs":[],"lines":["x"],"diagnostics":[]}\n')  # fmt: skip
+        b'"directory":null,"commands":[],"needs":[],"lines":["x"],"diagnostics":[],"baseline":null}\n')  # fmt: skip
 # What the file `old` has after a run that succeeds, and after one that fails. The JSON is None.
 AFTER = {"old": (None, b"old"), "./folder/../old": (None, b"old"), "link": (None, b"")}
 

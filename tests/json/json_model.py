@@ -13,6 +13,7 @@ import sys
 HERE = os.path.dirname(os.path.abspath(__file__))
 sys.path[:0] = [os.path.join(HERE, "..", "page"), os.path.join(HERE, "..", "differential")]
 import facts_model  # noqa: E402
+from baseline_model import Baseline, read_baseline, source_of  # noqa: E402
 from model import Mention  # noqa: E402
 from page_model import Build  # noqa: E402
 from text_model import SEQUENCE  # noqa: E402
@@ -83,14 +84,20 @@ def diagnostic_of(line):
     return members, key
 
 
-def diagnostics_of(lines):
-    """The objects of a log's diagnostics."""
+def kinds_of(lines):
+    """The keys and source lines of the diagnostics of these lines."""
+    return [(found[1], source_of(lines, position, plain)) for position, found in enumerate(map(diagnostic_of, lines)) if found]
+
+
+def diagnostics_of(lines, flags):
+    """The objects of a log's diagnostics. `flags` says of each whether it is new, or is None."""
     objects, earlier = [], collections.Counter()
     for position, line in enumerate(lines):
         found = diagnostic_of(line)
         if found is not None:
             members, key = found
-            objects.append({"line": position, **members, "nth": earlier[key]})
+            new = flags[len(objects)] if flags is not None else None
+            objects.append({"line": position, **members, "nth": earlier[key], "new": new})
             earlier[key] += 1
     return objects
 
@@ -103,8 +110,9 @@ def needs_of(log):
     return list(dict.fromkeys(entry.target for entry in log.entries if isinstance(entry, Mention) and entry.target != log.target))
 
 
-def object_of(shown, log, facts):
+def object_of(shown, log, facts, baseline):
     """The object of a shown log."""
+    flags, changes = baseline.changes(shown, kinds_of) if baseline else (None, None)
     return {
         **member("target", shown.target),
         **member("parent", shown.parent.target),
@@ -117,17 +125,19 @@ def object_of(shown, log, facts):
         **list_member("commands", [text for text, is_whole in facts.commands if is_whole]),
         **list_member("needs", needs_of(log)),
         **list_member("lines", shown.lines),
-        "diagnostics": diagnostics_of(shown.lines),
+        "diagnostics": diagnostics_of(shown.lines, flags),
+        "baseline": changes,
     }
 
 
-def json_of(index, requested, logs, times, facts, unchanged=False, every=False):
-    """The bytes of a build. `facts` has what is known of each target."""
+def json_of(index, requested, logs, times, facts, unchanged=False, every=False, earlier=None):
+    """The bytes of a build. `facts` has what is known of each target, and `earlier` the logs of the baseline."""
     if every:
         requested = [*requested, *(listed.target for listed in index)]
     log_of_target = {log.target: log for log in logs}
     build = Build(logs, requested, unchanged, False, times)
-    objects = [object_of(shown, log_of_target[shown.target], facts[shown.target]) for shown in build.order]
+    baseline = Baseline(earlier, requested, unchanged) if earlier is not None else None
+    objects = [object_of(shown, log_of_target[shown.target], facts[shown.target], baseline) for shown in build.order]
     return b"".join(json.dumps(one, ensure_ascii=False, separators=(",", ":")).encode() + b"\n" for one in objects)
 
 
@@ -143,7 +153,8 @@ def expected(directory, words):
     folder = options.get(b"--dir", b".")
     try:
         index, requested, logs, times = read_capture(current, folder, targets)
+        earlier = read_baseline(current, options[b"--baseline"]) if b"--baseline" in options else None
     except logs_model.Refused as refused:
         return refused.status, b"", b"redo-log-json: " + refused.line + b"\n"
     facts = facts_model.facts_of(index, facts_model.bytes_of(logs_model.path_of(current, folder, b"facts")))
-    return 0, json_of(index, requested, logs, times, facts, b"-u" in options, b"--every" in options), b""
+    return 0, json_of(index, requested, logs, times, facts, b"-u" in options, b"--every" in options, earlier), b""

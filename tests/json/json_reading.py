@@ -3,11 +3,14 @@ import base64
 import json
 
 # The members that an object always has, in order. The first ones of a diagnostic are numbers and texts.
-OF_LOG = ["target", "parent", "status", "start_ms", "end_ms", "cpu_ms", "peak_kb", "directory", "commands", "needs", "lines", "diagnostics"]
-OF_DIAGNOSTIC = ["line", "severity", "file", "row", "column", "message", "flag", "key", "nth"]
+OF_LOG = ["target", "parent", "status", "start_ms", "end_ms", "cpu_ms", "peak_kb", "directory", "commands", "needs", "lines", "diagnostics",
+          "baseline"]
+OF_DIAGNOSTIC = ["line", "severity", "file", "row", "column", "message", "flag", "key", "nth", "new"]
+OF_BASELINE = ["built", "gone", "newly_fails", "fixed"]
 LISTS = ["commands", "needs", "lines"]
-NUMBERS = ["status", "start_ms", "end_ms", "cpu_ms", "peak_kb", "line", "row", "column", "nth"]
-ALWAYS_KNOWN = ["target", "severity", "message", "key", "line", "nth"]
+NUMBERS = ["status", "start_ms", "end_ms", "cpu_ms", "peak_kb", "line", "row", "column", "nth", "gone"]
+FLAGS = ["new", "built", "newly_fails", "fixed"]
+ALWAYS_KNOWN = ["target", "severity", "message", "key", "line", "nth", *OF_BASELINE]
 EXACT = "_base64"
 
 
@@ -58,9 +61,14 @@ def values_of(one, names):
             positions = [str(position) for position in range(len(value)) if str(position) in exact]
             require(list(exact) == positions and (exact or name + EXACT not in one), f"the positions {list(exact)} of {len(value)}")
             found[name] = [bytes_from(text, exact.get(str(position))) for position, text in enumerate(value)]
+        elif name == "baseline" and value is not None:
+            found[name] = values_of(value, OF_BASELINE)
         elif value is None:
             require(name not in ALWAYS_KNOWN and exact is None, f"{name} is null")
             found[name] = None
+        elif name in FLAGS:
+            require(type(value) is bool, f"{name} is {value}")
+            found[name] = value
         elif name in NUMBERS:
             require(type(value) is int and abs(value) < 2**53 and (value >= 0 or name == "status"), f"{name} is {value}")
             found[name] = value
@@ -93,6 +101,10 @@ def faults_of(out, logs, every):
             require(all(found["line"] < len(one["lines"]) for found in one["diagnostics"]), f"a line of {one['target']}")
             ids = [(found["key"], found["nth"]) for found in one["diagnostics"]]
             require(len(set(ids)) == len(ids), f"the keys of {one['target']}")
+            flags = {found["new"] for found in one["diagnostics"]}
+            wanted = {None} if one["baseline"] is None else {True, False} if one["baseline"]["built"] else {True}
+            require(flags <= wanted, f"what is new in {one['target']}")
+            require((one["baseline"] is None) == (objects[0]["baseline"] is None), f"the baseline of {one['target']}")
         return []
     except (Faulty, ValueError) as fault:
         return [repr(fault)]

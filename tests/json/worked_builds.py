@@ -8,7 +8,7 @@ def record(kind, text, time="1"):
 def json(text):
     """The bytes of JSON. A line that begins with a space continues the line before; two words stand for members that many objects have."""
     unknown = '"start_ms":null,"end_ms":null,"cpu_ms":null,"peak_kb":null,"directory":null,"commands":[]'
-    joined = text.strip("\n").replace("\n ", "").replace("UNKNOWN", unknown).replace("EMPTY", '"lines":[],"diagnostics":[]')
+    joined = text.strip("\n").replace("\n ", "").replace("UNKNOWN", unknown).replace("EMPTY", '"lines":[],"diagnostics":[],"baseline":null')
     return joined.encode() + b"\n"
 
 
@@ -34,7 +34,7 @@ BUILDS = [
 {"target":"lib/a.o","parent":"all","status":1,"start_ms":1795869824764,"end_ms":1795869826162,"cpu_ms":80,"peak_kb":28228,
  "directory":"lib","commands":["gcc -c -o a.o a.c"],"needs":[],"lines":["a.c:3:4: error: expected ‘;’"],"diagnostics":[
  {"line":0,"severity":"error","file":"a.c","row":3,"column":4,"message":"expected ‘;’","flag":null,
- "key":"a.c: error: expected ‘;’","nth":0}]}
+ "key":"a.c: error: expected ‘;’","nth":0,"new":null}],"baseline":null}
 """),
     ),
     (
@@ -48,13 +48,14 @@ BUILDS = [
         [b"--every", b"--", b"all"],
         json("""
 {"target":"all","parent":null,"status":null,UNKNOWN,"needs":["x\ufffd"],"needs_base64":{"0":"eMM="},"lines":["caf\ufffd","plain",
- "\ufffd\ufffd\ufffd","\ufffd"],"lines_base64":{"0":"Y2Fm6Q==","2":"7aCA","3":"8J+a"},"diagnostics":[]}
+ "\ufffd\ufffd\ufffd","\ufffd"],"lines_base64":{"0":"Y2Fm6Q==","2":"7aCA","3":"8J+a"},"diagnostics":[],"baseline":null}
 {"target":"x\ufffd","target_base64":"eMM=","parent":"all","status":null,"start_ms":null,"end_ms":null,"cpu_ms":null,"peak_kb":null,
  "directory":"/\ufffd","directory_base64":"L/8=","commands":["a","\ufffd\\nb"],"commands_base64":{"1":"gApi"},"needs":["\ufffd"],
  "needs_base64":{"0":"/w=="},"lines":["\ufffd.c:1: warning: \ufffd [\ufffd]"],"lines_base64":{"0":"/i5jOjE6IHdhcm5pbmc6IPEgW/Jd"},
  "diagnostics":[
  {"line":0,"severity":"warning","file":"\ufffd.c","file_base64":"/i5j","row":1,"column":null,"message":"\ufffd","message_base64":"8Q==",
- "flag":"\ufffd","flag_base64":"8g==","key":"\ufffd.c: warning: \ufffd [\ufffd]","key_base64":"/i5jOiB3YXJuaW5nOiDxIFvyXQ==","nth":0}]}
+ "flag":"\ufffd","flag_base64":"8g==","key":"\ufffd.c: warning: \ufffd [\ufffd]","key_base64":"/i5jOiB3YXJuaW5nOiDxIFvyXQ==","nth":0,
+ "new":null}],"baseline":null}
 {"target":"\ufffd","target_base64":"/w==","parent":"x\ufffd","parent_base64":"eMM=","status":null,UNKNOWN,"needs":[],EMPTY}
 """),
     ),
@@ -67,7 +68,7 @@ BUILDS = [
         [b"--", b'"\\'],
         json("""
 {"target":"\\"\\\\","parent":null,"status":null,UNKNOWN,"needs":[],"lines":["\\u0000\\u0001\\b\\t\\u000b\\f\\r\\u001b\\u001f \x7f",
- "/<&>\u2028\uffff\U0001f600\ufffd","","end"],"diagnostics":[]}
+ "/<&>\u2028\uffff\U0001f600\ufffd","","end"],"diagnostics":[],"baseline":null}
 """),
     ),
     (
@@ -82,7 +83,7 @@ BUILDS = [
         [b"-u", b"--"],
         json("""
 {"target":"all","parent":null,"status":null,UNKNOWN,"needs":["a"],EMPTY}
-{"target":"a","parent":"all","status":null,UNKNOWN,"needs":[],"lines":["old"],"diagnostics":[]}
+{"target":"a","parent":"all","status":null,UNKNOWN,"needs":[],"lines":["old"],"diagnostics":[],"baseline":null}
 """),
     ),
     (
@@ -206,12 +207,17 @@ BUILDS = [
 {"target":"all","parent":null,"status":null,UNKNOWN,"needs":["b"],
  "lines":["a.c:1:2: warning: x [-Wx]","In function f","a.c:9: warning: x [-Wx]","a.c: warning: x [-Wy]","a.c:9: warning: x [-Wx]"],
  "diagnostics":[
- {"line":0,"severity":"warning","file":"a.c","row":1,"column":2,"message":"x","flag":"-Wx","key":"a.c: warning: x [-Wx]","nth":0},
- {"line":2,"severity":"warning","file":"a.c","row":9,"column":null,"message":"x","flag":"-Wx","key":"a.c: warning: x [-Wx]","nth":1},
- {"line":3,"severity":"warning","file":null,"row":null,"column":null,"message":"x","flag":"-Wy","key":"a.c: warning: x [-Wy]","nth":0},
- {"line":4,"severity":"warning","file":"a.c","row":9,"column":null,"message":"x","flag":"-Wx","key":"a.c: warning: x [-Wx]","nth":2}]}
+ {"line":0,"severity":"warning","file":"a.c","row":1,"column":2,"message":"x","flag":"-Wx","key":"a.c: warning: x [-Wx]","nth":0,
+ "new":null},
+ {"line":2,"severity":"warning","file":"a.c","row":9,"column":null,"message":"x","flag":"-Wx","key":"a.c: warning: x [-Wx]","nth":1,
+ "new":null},
+ {"line":3,"severity":"warning","file":null,"row":null,"column":null,"message":"x","flag":"-Wy","key":"a.c: warning: x [-Wy]","nth":0,
+ "new":null},
+ {"line":4,"severity":"warning","file":"a.c","row":9,"column":null,"message":"x","flag":"-Wx","key":"a.c: warning: x [-Wx]","nth":2,
+ "new":null}],"baseline":null}
 {"target":"b","parent":"all","status":null,UNKNOWN,"needs":[],"lines":["a.c:1: warning: x [-Wx]"],"diagnostics":[
- {"line":0,"severity":"warning","file":"a.c","row":1,"column":null,"message":"x","flag":"-Wx","key":"a.c: warning: x [-Wx]","nth":0}]}
+ {"line":0,"severity":"warning","file":"a.c","row":1,"column":null,"message":"x","flag":"-Wx","key":"a.c: warning: x [-Wx]","nth":0,
+ "new":null}],"baseline":null}
 """),
     ),
     (
@@ -220,7 +226,50 @@ BUILDS = [
         [b"--", b"b", b"a", b"b/"],
         json("""
 {"target":"b","parent":null,"status":null,UNKNOWN,"needs":["a"],EMPTY}
-{"target":"a","parent":"b","status":null,UNKNOWN,"needs":["b"],"lines":["t"],"diagnostics":[]}
+{"target":"a","parent":"b","status":null,UNKNOWN,"needs":["b"],"lines":["t"],"diagnostics":[],"baseline":null}
+"""),
+    ),
+    (
+        "a baseline: warnings that are known by their source lines, by their key, and new; gone, newly failing, fixed and new targets",
+        {
+            "names": b"1 all\n2 a\n3 b\n4 c\n",
+            "log.1": record("do", "a") + record("do", "b") + record("do", "c") + record("done", "2 all"),
+            "log.2": b"a.c:1: warning: x\n  1 | int h;\na.c:7: warning: x\n  7 | int i;\na.c:9: warning: x\nend\n" + record("done", "1 a"),
+            "log.3": record("done", "0 b"),
+            "log.4": b"error: y\n",
+            "before": None,
+            "before/names": b"5 a\n6 b\n7 all\n8 d\n",
+            "before/log.5": b"a.c:1: warning: x\n1 |int i;\na.c:3: warning: z\na.c:4: warning: x\n 4 | int j;\n" + record("done", "0 a"),
+            "before/log.6": b"error: w\n" + record("done", "2 b"),
+            "before/log.7": record("do", "a") + record("do", "b") + record("done", "2 all"),
+            "before/log.8": b"error: v\n" + record("done", "1 d"),
+        },
+        [b"--baseline=before", b"--"],
+        json("""
+{"target":"all","parent":null,"status":2,UNKNOWN,"needs":["a","b","c"],"lines":[],"diagnostics":[],
+ "baseline":{"built":true,"gone":0,"newly_fails":false,"fixed":false}}
+{"target":"a","parent":"all","status":1,UNKNOWN,"needs":[],
+ "lines":["a.c:1: warning: x","  1 | int h;","a.c:7: warning: x","  7 | int i;","a.c:9: warning: x","end"],"diagnostics":[
+ {"line":0,"severity":"warning","file":"a.c","row":1,"column":null,"message":"x","flag":null,"key":"a.c: warning: x","nth":0,"new":false},
+ {"line":2,"severity":"warning","file":"a.c","row":7,"column":null,"message":"x","flag":null,"key":"a.c: warning: x","nth":1,"new":false},
+ {"line":4,"severity":"warning","file":"a.c","row":9,"column":null,"message":"x","flag":null,"key":"a.c: warning: x","nth":2,"new":true}],
+ "baseline":{"built":true,"gone":1,"newly_fails":true,"fixed":false}}
+{"target":"b","parent":"all","status":0,UNKNOWN,"needs":[],"lines":[],"diagnostics":[],
+ "baseline":{"built":true,"gone":1,"newly_fails":false,"fixed":true}}
+{"target":"c","parent":"all","status":null,UNKNOWN,"needs":[],"lines":["error: y"],"diagnostics":[
+ {"line":0,"severity":"error","file":null,"row":null,"column":null,"message":"y","flag":null,"key":": error: y","nth":0,"new":true}],
+ "baseline":{"built":false,"gone":0,"newly_fails":false,"fixed":false}}
+"""),
+    ),
+    (
+        "the same capture as baseline",
+        {"names": b"1 all\n", "log.1": b"error: y\nerror: y\n" + record("done", "1 all")},
+        [b"--baseline=.", b"--"],
+        json("""
+{"target":"all","parent":null,"status":1,UNKNOWN,"needs":[],"lines":["error: y","error: y"],"diagnostics":[
+ {"line":0,"severity":"error","file":null,"row":null,"column":null,"message":"y","flag":null,"key":": error: y","nth":0,"new":false},
+ {"line":1,"severity":"error","file":null,"row":null,"column":null,"message":"y","flag":null,"key":": error: y","nth":1,"new":false}],
+ "baseline":{"built":true,"gone":0,"newly_fails":false,"fixed":false}}
 """),
     ),
 ]

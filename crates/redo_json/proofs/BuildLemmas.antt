@@ -1,6 +1,6 @@
 -- The nodes of an outline have the values of the logs that are opened.
-use Rattle.std.proofs.Common.{◌≡◌, ℕ, zero, suc, ◌+◌, Bool, true, false, if◌then◌else◌, take, List, [], ◌∷◌, ◌++◌, Option, None, Some, Result, Ok, Err, ℤ, length, map, option_copied, option_map, slice_get, slice_index_or, refl, sym, ap, ap₂, ◌∙◌, arith, append_assoc}
-use Rattle.std.proofs.lemmas.List.{append-nil, length-append, map-append}
+use Rattle.std.proofs.Common.{◌≡◌, ℕ, zero, suc, ◌+◌, Bool, true, false, if◌then◌else◌, take, List, [], ◌∷◌, ◌++◌, Option, None, Some, Result, Ok, Err, ℤ, length, map, option_copied, option_map, slice_get, slice_index_or, refl, sym, ap, ap₂, ◌∙◌, append_assoc}
+use Rattle.std.proofs.lemmas.List.{append-nil, map-append}
 use Rattle.std.specs.Prelude.{filter}
 use Rattle.std.specs.List.{flat_map}
 use Rattle.std.specs.Result.{IsErrAnd}
@@ -18,63 +18,46 @@ use Rattle.redo_outline.specs.declared.node.Node.{Node}
 use Rattle.redo_outline.specs.Contents.{Contents, contents_of}
 use Rattle.redo_outline.specs.Contents.Contents.{Nothing, Shown, Opened}
 use Rattle.redo_outline.specs.Facts.{entries_at, target_at, target_status, texts_of}
-use Rattle.redo_outline.specs.Outline.{log_count, node_of, nodes_of, outline_of}
+use Rattle.redo_outline.specs.Outline.{log_count, node_of, outline_of}
+use Rattle.redo_compare.specs.Baseline.{ChangesValue}
 use Rattle.redo_facts.specs.Facts.{RecipeCommand, nothing}
 use Rattle.redo_times.specs.declared.times.Times.{Times}
 use Rattle.redo_json.specs.declared.build.Recipe.{Recipe}
-use Rattle.redo_json.specs.Build.{Request, build_json, needs_of, object_text, options_of, unknown_times, values_in, whole_commands}
+use Rattle.redo_json.specs.Build.{Request, build_json, changes_in, needs_of, object_text, options_of, unknown_times, values_in, whole_commands}
 use Rattle.redo_json.specs.Object.{LogValues}
 use Rattle.redo_json.specs.Private.Values.{IsRecipeOf, node_values, parent_name}
-
--- The item after some others.
-item_after : {A : Type 0} (before : List A) (one : A) (after : List A) → slice_get (before ++ one ∷ after) (length before) ≡ Some one
-item_after [] one after = refl
-item_after (first ∷ before) one after = item_after before one after
+use Rattle.redo_json.proofs.NodeLemmas.{both_count, first_count, node_here, nodes_in, split_both, split_first}
 
 module _ (request : Request) (logs : List Log) (status : ℕ → Option ℤ) where
-  abbrev nodes_in : Option ℕ → ℕ → Contents → List Node
-  nodes_in parent position contents = nodes_of logs status parent position contents
-
-  count_is : (parent : Option ℕ) (position : ℕ) (contents : Contents) → length (nodes_in parent position contents) ≡ log_count contents
-  count_is parent position Nothing = refl
-  count_is parent position (Shown event rest) = count_is parent position rest
-  count_is parent position (Opened event number inside rest) =
-      let inner = count_is (Some position) (suc position) inside in
-      let outer = count_is parent (suc position + log_count inside) rest in
-      let both = length-append (nodes_in (Some position) (suc position) inside) (nodes_in parent (suc position + log_count inside) rest) in
-      omega (arith, inner, outer, both)
+  abbrev nodes : Option ℕ → ℕ → Contents → List Node
+  nodes parent position contents = nodes_in logs status parent position contents
 
   -- The nodes of some contents are within all nodes: `before` are the nodes before them, and `after` those after them.
   values_are : (all before after : List Node) (parent : Option ℕ) (position : ℕ) (contents : Contents)
-      → all ≡ before ++ (nodes_in parent position contents ++ after) → length before ≡ position
-      → map (node_values request logs all) (nodes_in parent position contents)
+      → all ≡ before ++ (nodes parent position contents ++ after) → length before ≡ position
+      → map (node_values request logs all) (nodes parent position contents)
       ≡ values_in request logs status (parent_name logs all parent) contents
   values_are all before after parent position Nothing whole counted = refl
   values_are all before after parent position (Shown event rest) whole counted =
       values_are all before after parent position rest whole counted
   values_are all before after parent position (Opened event number inside rest) whole counted =
       let one = node_of logs status parent number inside rest in
-      let inner = nodes_in (Some position) (suc position) inside in
-      let outer = nodes_in parent (suc position + log_count inside) rest in
+      let inner = nodes (Some position) (suc position) inside in
+      let outer = nodes parent (suc position + log_count inside) rest in
       let first : List Node = before ++ one ∷ [] in
       let both : List Node = first ++ inner in
-      let first_count : length first ≡ suc position = omega (arith, length-append before (one ∷ []), counted) in
-      let both_count : length both ≡ suc position + log_count inside =
-      omega (arith, length-append first inner, first_count, count_is (Some position) (suc position) inside) in
-      let split : all ≡ first ++ (inner ++ (outer ++ after)) =
-      whole ∙ ap (λ (l : List Node). before ++ one ∷ l) (append_assoc inner outer after)
-      ∙ sym (append_assoc before (one ∷ []) (inner ++ (outer ++ after))) in
-      let split_more : all ≡ both ++ (outer ++ after) = split ∙ sym (append_assoc first inner (outer ++ after)) in
-      let here : slice_get all position ≡ Some one =
-      ap (λ (n : ℕ). slice_get all n) (sym counted) ∙ ap (λ (l : List Node). slice_get l (length before)) whole
-      ∙ item_after before one ((inner ++ outer) ++ after) in
+      let in_log = split_first logs status all before after parent position number event inside rest whole counted in
+      let in_rest = split_both logs status all before after parent position number event inside rest whole counted in
+      let first_counted = first_count logs status all before after parent position number event inside rest whole counted in
+      let both_counted = both_count logs status all before after parent position number event inside rest whole counted in
+      let here = node_here logs status all before after parent position number event inside rest whole counted in
       ap (λ (l : List LogValues). node_values request logs all one ∷ l)
       (map-append (node_values request logs all) inner outer
       ∙ ap₂ (λ (a b : List LogValues). a ++ b)
-      (values_are all first (outer ++ after) (Some position) (suc position) inside split first_count
+      (values_are all first (outer ++ after) (Some position) (suc position) inside in_log first_counted
       ∙ ap (λ (p : Option (List ℕ)). values_in request logs status p inside)
       (ap (λ (n : Option Node). option_map (λ (node : Node). target_at logs node.number) n) here))
-      (values_are all both after parent (suc position + log_count inside) rest split_more both_count))
+      (values_are all both after parent (suc position + log_count inside) rest in_rest both_counted))
 
 -- The values of all nodes.
 pub outline_values : (request : Request) (logs : List Log) (events : List Event)
@@ -138,11 +121,13 @@ no_memory output text (Err OutOfMemory) is = (0, append_nothing output)
 
 -- The values that are written for a node.
 pub values_path : (request : Request) (logs : List Log) (nodes : List Node) (node : Node) (target : List ℕ) (parent : Option (List ℕ))
-    (times : Times) (recipe : Recipe) (commands needs : List (List ℕ)) → target ≡ target_at logs node.number
+    (times : Times) (recipe : Recipe) (commands needs : List (List ℕ)) (changes : Option ChangesValue)
+    → target ≡ target_at logs node.number
     → parent ≡ parent_name logs nodes node.parent → times ≡ slice_index_or request.times node.number unknown_times
     → IsRecipeOf (slice_index_or request.facts node.number nothing) recipe
     → commands ≡ whole_commands recipe.commands.now
     → needs ≡ needs_of (target_at logs node.number) (entries_at node.number logs)
+    → changes ≡ changes_in request.baseline logs node
     → ◌≡◌ {A = LogValues} (record {
       target = target;
       parent = parent;
@@ -155,9 +140,10 @@ pub values_path : (request : Request) (logs : List Log) (nodes : List Node) (nod
       commands = commands;
       needs = needs;
       lines = texts_of (entries_at node.number logs);
+      changes = changes;
     }) (node_values request logs nodes node)
-values_path request logs nodes node target parent times recipe commands needs target_is parent_is times_is recipe_is commands_are
-    needs_are =
+values_path request logs nodes node target parent times recipe commands needs changes target_is parent_is times_is recipe_is commands_are
+    needs_are changes_are =
     λ i. record {
       target = target_is i;
       parent = parent_is i;
@@ -170,4 +156,5 @@ values_path request logs nodes node target parent times recipe commands needs ta
       commands = (commands_are ∙ ap whole_commands recipe_is.commands) i;
       needs = needs_are i;
       lines = texts_of (entries_at node.number logs);
+      changes = changes_are i;
     }

@@ -1,5 +1,5 @@
 -- Rows of builds: logs, and the values of the objects that they have, or the JSON.
-use Rattle.std.proofs.Common.{◌≡◌, ℕ, ℤ, pos, negsuc, Bool, true, false, List, [], ◌∷◌, ◌++◌, Option, None, Some, Bor, refl}
+use Rattle.std.proofs.Common.{◌≡◌, ℕ, ℤ, pos, negsuc, Bool, true, false, List, [], ◌∷◌, ◌++◌, Option, None, Some, Bor, map, refl}
 use Rattle.std.specs.Char.{encode_utf8}
 use Rattle.std.specs.Fmt.{digits}
 use Rattle.std.specs.Prelude.{codes}
@@ -22,7 +22,9 @@ use Rattle.redo_html.specs.Symbols.{is_sequence, sequence_len}
 use Rattle.redo_facts.specs.Facts.{RecipeFacts, nothing}
 use Rattle.redo_times.specs.declared.times.Times.{Times}
 use Rattle.redo_name.specs.declared.hash_keys.HashKeys.{HashKeys}
-use Rattle.redo_json.specs.Build.{Request, build_json, build_values, request_of}
+use Rattle.redo_compare.specs.Baseline.{BaselineValue, ChangesValue, baseline_of}
+use Rattle.redo_compare.specs.Source.{source_of}
+use Rattle.redo_json.specs.Build.{Request, build_json, build_values, json_options, request_of}
 use Rattle.redo_json.specs.Every.{every_target}
 use Rattle.redo_json.specs.Object.{LogValues}
 
@@ -39,7 +41,7 @@ abbrev log : List ℕ → List Entry → Log
 log target entries = record { target = target; entries = entries; state = Ended }
 
 abbrev asks : Bool → List Times → List RecipeFacts → Request
-asks unchanged times facts = record { unchanged = unchanged; times = times; facts = facts }
+asks unchanged times facts = record { unchanged = unchanged; times = times; facts = facts; baseline = None }
 
 abbrev time : Option ℕ → Option ℕ → Times
 time began ended = record { began = began; ended = ended }
@@ -58,6 +60,7 @@ values target parent status needs lines = record {
   commands = [];
   needs = needs;
   lines = lines;
+  changes = None;
 }
 
 abbrev a : List ℕ
@@ -153,13 +156,83 @@ these_values : AllByRecursion (λ r. build_values r.request r.logs r.requested �
 unfolding show_log show_log_within
 these_values = (refl, (refl, (refl, (refl, (refl, (refl, (refl, tt)))))))
 
+-- ---- builds with a baseline
+
+abbrev asks_since : BaselineValue → Request
+asks_since baseline = record { unchanged = false; times = []; facts = some_facts ∷ []; baseline = Some baseline }
+
+-- An earlier build. `e` isn't made any more.
+abbrev earlier : List Log
+earlier =
+    log (codes "e") (Text (codes "error: e") ∷ Closing 3 (pos 1) ∷ [])
+    ∷ log b (Text (codes "b.c:1: error: z") ∷ Closing 4 (pos 2) ∷ [])
+    ∷ log a (Text (codes "a.c:1: warning: x") ∷ Text (codes "   1 | int x;") ∷ Text (codes "a.c:2: warning: y") ∷ Text (codes "a.c:9: warning: x") ∷ [])
+    ∷ log d (Mention 5 Made a ∷ Mention 5 Made b ∷ Closing 5 (pos 2) ∷ [])
+    ∷ []
+
+abbrev earlier_build : BaselineValue
+earlier_build = baseline_of earlier (json_options false) (d ∷ [])
+
+-- Its target `a` fails now, `b` is fixed, `c` is new, and `d` fails as before, because of a target below it.
+abbrev later : List Log
+later =
+    log d (Mention 6 Made a ∷ Mention 6 Made b ∷ Mention 6 Made c ∷ Closing 6 (pos 2) ∷ [])
+    ∷ log a (Text (codes "a.c:3: warning: x") ∷ Text (codes "in f:") ∷ Text (codes "a.c:4: warning: x") ∷ Text (codes "   4 | int x;") ∷ Text (codes "a.c:5: warning: x") ∷ Closing 7 (pos 1) ∷ [])
+    ∷ log b (Closing 8 (pos 0) ∷ [])
+    ∷ log c (Text (codes "error: c") ∷ Closing 9 (pos 0) ∷ [])
+    ∷ []
+
+abbrev changes : Bool → List Bool → ℕ → Bool → Bool → Option ChangesValue
+changes was_built new gone newly_fails is_fixed = Some (record {
+  was_built = was_built;
+  new = new;
+  gone = gone;
+  newly_fails = newly_fails;
+  is_fixed = is_fixed;
+})
+
+-- Of the warnings of `a`, the first two have the source lines of earlier ones, and the third one is new. The one with `y` is gone.
+later_values : AllByRecursion (λ r. build_values r.request r.logs r.requested ≡ r.values) (
+    row (record (asks_since earlier_build) { facts = [] }) later (d ∷ []) (
+    record (values d None (Some (pos 2)) (a ∷ b ∷ c ∷ []) []) { changes = changes true [] 0 false false }
+    ∷ record (values a (Some d) (Some (pos 1)) [] (codes "a.c:3: warning: x" ∷ codes "in f:" ∷ codes "a.c:4: warning: x" ∷ codes "   4 | int x;" ∷ codes "a.c:5: warning: x" ∷ []))
+    { changes = changes true (false ∷ false ∷ true ∷ []) 1 true false }
+    ∷ record (values b (Some d) (Some (pos 0)) [] []) { changes = changes true [] 1 false true }
+    ∷ record (values c (Some d) (Some (pos 0)) [] (codes "error: c" ∷ [])) { changes = changes false (true ∷ []) 0 false false }
+    ∷ []) ∷
+    row (record (asks_since (baseline_of later (json_options false) (d ∷ []))) { facts = [] }) later (c ∷ a ∷ []) (
+    record (values c None (Some (pos 0)) [] (codes "error: c" ∷ [])) { changes = changes true (false ∷ []) 0 false false }
+    ∷ record (values a None (Some (pos 1)) [] (codes "a.c:3: warning: x" ∷ codes "in f:" ∷ codes "a.c:4: warning: x" ∷ codes "   4 | int x;" ∷ codes "a.c:5: warning: x" ∷ []))
+    { changes = changes true (false ∷ false ∷ false ∷ []) 0 false false }
+    ∷ []) ∷
+    row (record (asks_since (baseline_of (log b [] ∷ []) (json_options false) (d ∷ []))) { facts = [] }) later (d ∷ []) (
+    record (values d None (Some (pos 2)) (a ∷ b ∷ c ∷ []) []) { changes = changes false [] 0 false false }
+    ∷ record (values a (Some d) (Some (pos 1)) [] (codes "a.c:3: warning: x" ∷ codes "in f:" ∷ codes "a.c:4: warning: x" ∷ codes "   4 | int x;" ∷ codes "a.c:5: warning: x" ∷ []))
+    { changes = changes false (true ∷ true ∷ true ∷ []) 0 true false }
+    ∷ record (values b (Some d) (Some (pos 0)) [] []) { changes = changes true [] 0 false false }
+    ∷ record (values c (Some d) (Some (pos 0)) [] (codes "error: c" ∷ [])) { changes = changes false (true ∷ []) 0 false false }
+    ∷ []) ∷
+    [])
+unfolding show_log show_log_within after_prefix split_once decimal.number is_sequence sequence_len plain_after first_place place_of before_bracket split_flag masked_after diagnostic_of source_of
+later_values = (refl, (refl, (refl, tt)))
+
+-- What changed in each target.
+later_changes : map (λ (one : LogValues). one.changes) (build_values (record (asks_since earlier_build) { facts = [] }) later (d ∷ []))
+    ≡ changes true [] 0 false false
+    ∷ changes true (false ∷ false ∷ true ∷ []) 1 true false
+    ∷ changes true [] 1 false true
+    ∷ changes false (true ∷ []) 0 false false
+    ∷ []
+unfolding show_log show_log_within after_prefix split_once decimal.number is_sequence sequence_len plain_after first_place place_of before_bracket split_flag masked_after diagnostic_of source_of
+later_changes = refl
+
 -- Each object is a line.
 record JsonRow : Type 0 where
   logs : List Log
   json : List ℕ
 
 these_lines : AllByRecursion (λ (r : JsonRow). build_json (asks false [] []) r.logs (a ∷ []) ≡ r.json) (
-    record { logs = log a [] ∷ []; json = codes "{\"target\":\"a\",\"parent\":null,\"status\":null,\"start_ms\":null,\"end_ms\":null,\"cpu_ms\":null,\"peak_kb\":null,\"directory\":null,\"commands\":[],\"needs\":[],\"lines\":[],\"diagnostics\":[]}" ++ (10 ∷ []) } ∷
+    record { logs = log a [] ∷ []; json = codes "{\"target\":\"a\",\"parent\":null,\"status\":null,\"start_ms\":null,\"end_ms\":null,\"cpu_ms\":null,\"peak_kb\":null,\"directory\":null,\"commands\":[],\"needs\":[],\"lines\":[],\"diagnostics\":[],\"baseline\":null}" ++ (10 ∷ []) } ∷
     [])
 unfolding chars digits encode_symbols encode_utf8 escape_byte is_utf8 pieces_from print_from after_prefix split_once decimal.number is_sequence sequence_len plain_after first_place place_of before_bracket split_flag masked_after diagnostic_of show_log show_log_within
 these_lines = (refl, tt)
@@ -169,11 +242,31 @@ abbrev at : {A : Type 0} → A → Bor A
 at value = record { ref_ptr = (0, 0); now = value }
 
 these_requests : (keys : HashKeys)
-    → (request_of (record { unchanged = true; times = at (time (Some 1) None ∷ []); facts = at (nothing ∷ []); keys = keys })
+    → (request_of (record {
+      unchanged = true;
+      times = at (time (Some 1) None ∷ []);
+      facts = at (nothing ∷ []);
+      baseline = None;
+      keys =
+          keys;
+    })
     ≡ asks true (time (Some 1) None ∷ []) (nothing ∷ []))
-    × (request_of (record { unchanged = false; times = at []; facts = at (some_facts ∷ []); keys = keys })
-    ≡ asks false [] (some_facts ∷ []))
+    × (request_of (record {
+      unchanged = false;
+      times = at [];
+      facts = at (some_facts ∷ []);
+      baseline = Some (at earlier_build);
+      keys =
+          keys;
+    })
+    ≡ asks_since earlier_build)
 these_requests keys = (refl, refl)
+
+these_baselines : (keys : HashKeys)
+    → ((request_of (record { unchanged = true; times = at []; facts = at []; baseline = Some (at earlier_build); keys = keys })).baseline
+    ≡ Some earlier_build)
+    × ((request_of (record { unchanged = true; times = at []; facts = at []; baseline = None; keys = keys })).baseline ≡ None)
+these_baselines keys = (refl, refl)
 
 -- The requested targets, and then the targets of all logs.
 record TargetsRow : Type 0 where

@@ -1,5 +1,5 @@
 -- Lines that are skipped because they are no diagnostics.
-use Rattle.std.proofs.Common.{◌≡◌, ℕ, suc, ◌+◌, ◌≤◌, Bool, true, List, [], ◌∷◌, ◌++◌, Option, None, Some, Bor, length, refl, sym, ap, ◌∙◌, subst, arith}
+use Rattle.std.proofs.Common.{◌≡◌, ℕ, suc, ◌+◌, Bool, true, List, [], ◌∷◌, ◌++◌, Option, None, Some, Bor, length, refl, sym, ap, ◌∙◌, subst, arith}
 use Rattle.std.specs.Prelude.{◌==◌, IfNone, IfSome, MatchOption}
 use Rattle.std.specs.List.{AllByRecursion}
 use Rattle.std.proofs.lemmas.List.{length-append}
@@ -8,7 +8,7 @@ use Rattle.redo_diagnostics.specs.Diagnostic.{DiagnosticValue, diagnostic_of}
 use Rattle.redo_line.proofs.LineLemmas.{ended-free}
 use Rattle.redo_line.specs.Lines.{ended}
 use Rattle.redo_logs.specs.Logs.{Log}
-use Rattle.redo_json.specs.Diagnostics.{numbered_from, placed_from, placed_if}
+use Rattle.redo_json.specs.Diagnostics.{flagged, numbered_from, placed_from, placed_if}
 use Rattle.redo_json.specs.Private.Diagnosing.{WroteDiagnostics}
 use Rattle.redo_json.specs.Private.LogLines.{AreCandidates, AreNextLines, IsNextCandidate, Remaining, texts_from}
 use Rattle.redo_json.specs.Private.Parts.{diagnostics_text}
@@ -84,13 +84,14 @@ none_is_left before others after None are line = are.placed ∙ ap (placed_from 
 none_is_left before others after (Some one) are line = tt
 
 -- What was written before skipped lines is what was written before the others.
-pub at_candidates : (before after : Option Output) (text : List ℕ) (is_first : Bool) (left others : Remaining) (counts : List (List ℕ × ℕ))
-    → AreCandidates left others → WroteDiagnostics before after text is_first left counts
-    → WroteDiagnostics before after text is_first others counts
-at_candidates before after text is_first left others counts are so_far = record {
+pub at_candidates : (before after : Option Output) (text : List ℕ) (is_first : Bool) (flags : Option (List Bool)) (left others : Remaining)
+    (counts : List (List ℕ × ℕ)) → AreCandidates left others → WroteDiagnostics before after text is_first flags left counts
+    → WroteDiagnostics before after text is_first flags others counts
+at_candidates before after text is_first flags left others counts are so_far = record {
   keys = so_far.keys;
   counted = so_far.counted;
   few = let few = so_far.few in let later = are.later in omega (arith, few, later);
   wrote = left_is before after text _ _
-      (ap (λ (found : List (ℕ × DiagnosticValue)). diagnostics_text is_first (numbered_from so_far.keys found)) are.placed) so_far.wrote;
+      (ap (λ (found : List (ℕ × DiagnosticValue)). diagnostics_text is_first (flagged flags (numbered_from so_far.keys found))) are.placed)
+      so_far.wrote;
 }

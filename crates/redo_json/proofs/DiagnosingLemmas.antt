@@ -5,22 +5,22 @@ use Rattle.std.proofs.lemmas.List.Filters.{length-filter_both}
 use Rattle.redo_device.specs.Sink.{Output}
 use Rattle.redo_diagnostics.specs.Counts.{AreCounts, stored, times_of}
 use Rattle.redo_diagnostics.specs.Diagnostic.{DiagnosticValue, diagnostic_of}
-use Rattle.redo_json.specs.Diagnostics.{diagnostics_of, numbered_from, placed_from, placed_if}
+use Rattle.redo_json.specs.Diagnostics.{diagnostics_of, first_flag, flagged, numbered_from, other_flags, placed_from, placed_if}
 use Rattle.redo_json.specs.Private.Diagnosing.{WroteDiagnostics}
 use Rattle.redo_json.specs.Private.LogLines.{Remaining}
 use Rattle.redo_json.specs.Private.Parts.{diagnostic_text, diagnostics_text}
 use Rattle.redo_json.proofs.WritingLemmas.{begin, left_is}
 
-pub begins : (output : Option Output) (lines : List (List ℕ)) (left : Remaining) (counts : List (List ℕ × ℕ)) → left.left ≡ lines
-    → left.done ≡ 0 → AreCounts counts []
-    → WroteDiagnostics output output (diagnostics_text true (diagnostics_of lines)) true left counts
-begins output lines left counts is first none = record {
+pub begins : (output : Option Output) (flags : Option (List Bool)) (lines : List (List ℕ)) (left : Remaining) (counts : List (List ℕ × ℕ))
+    → left.left ≡ lines → left.done ≡ 0 → AreCounts counts []
+    → WroteDiagnostics output output (diagnostics_text true (flagged flags (diagnostics_of lines))) true flags left counts
+begins output flags lines left counts is first none = record {
   keys = [];
   counted = none;
   few = omega arith;
-  wrote = begin output (diagnostics_text true (diagnostics_of lines)) _
-      (ap (λ (n : ℕ). diagnostics_text true (numbered_from [] (placed_from n left.left))) first
-      ∙ ap (λ (l : List (List ℕ)). diagnostics_text true (numbered_from [] (placed_from 0 l))) is);
+  wrote = begin output (diagnostics_text true (flagged flags (diagnostics_of lines))) _
+      (ap (λ (n : ℕ). diagnostics_text true (flagged flags (numbered_from [] (placed_from n left.left)))) first
+      ∙ ap (λ (l : List (List ℕ)). diagnostics_text true (flagged flags (numbered_from [] (placed_from 0 l)))) is);
 }
 
 pub times_low : (key : List ℕ) (keys : List (List ℕ)) → times_of key keys ≤ length keys
@@ -36,7 +36,7 @@ nth_is key keys lines nth few low is =
     let times = times_low key keys in
     is ∙ omega (arith, times, few, low)
 
-module _ (is_first : Bool) (left next : Remaining) (line : List ℕ)
+module _ (is_first : Bool) (flags : Option (List Bool)) (left next : Remaining) (line : List ℕ)
     (is : left.left ≡ line ∷ next.left) (counted : next.done ≡ left.done + 1) where
   placed : placed_from left.done left.left ≡ placed_if left.done (diagnostic_of line) (placed_from next.done next.left)
   placed =
@@ -45,25 +45,27 @@ module _ (is_first : Bool) (left next : Remaining) (line : List ℕ)
 
   -- A line without a diagnostic.
   pub skips : (before after : Option Output) (text : List ℕ) (counts : List (List ℕ × ℕ)) → diagnostic_of line ≡ None
-      → WroteDiagnostics before after text is_first left counts
-      → WroteDiagnostics before after text is_first next counts
+      → WroteDiagnostics before after text is_first flags left counts
+      → WroteDiagnostics before after text is_first flags next counts
   skips before after text counts none so_far = record {
     keys = so_far.keys;
     counted = so_far.counted;
     few = let few = so_far.few in omega (arith, few, counted);
     wrote = left_is before after text _ _
-        (ap (λ (ps : List (ℕ × DiagnosticValue)). diagnostics_text is_first (numbered_from so_far.keys ps))
+        (ap (λ (ps : List (ℕ × DiagnosticValue)). diagnostics_text is_first (flagged flags (numbered_from so_far.keys ps)))
         (placed ∙ ap (λ (d : Option DiagnosticValue). placed_if left.done d (placed_from next.done next.left)) none)) so_far.wrote;
   }
 
   -- A line with one.
-  pub finds : (keys : List (List ℕ)) (value : DiagnosticValue) (position nth : ℕ) → diagnostic_of line ≡ Some value
-      → position ≡ left.done → nth ≡ times_of value.key keys
-      → diagnostics_text is_first (numbered_from keys (placed_from left.done left.left))
-      ≡ diagnostic_text is_first (record { line = position; value = value; nth = nth })
-      ++ diagnostics_text false (numbered_from (keys ++ value.key ∷ []) (placed_from next.done next.left))
-  finds keys value position nth some here number =
-      let others = diagnostics_text false (numbered_from (keys ++ value.key ∷ []) (placed_from next.done next.left)) in
-      ap (λ (ps : List (ℕ × DiagnosticValue)). diagnostics_text is_first (numbered_from keys ps))
+  pub finds : (keys : List (List ℕ)) (value : DiagnosticValue) (position nth : ℕ) (new : Option Bool) (others : Option (List Bool))
+      → diagnostic_of line ≡ Some value → position ≡ left.done → nth ≡ times_of value.key keys → new ≡ first_flag flags
+      → others ≡ other_flags flags
+      → diagnostics_text is_first (flagged flags (numbered_from keys (placed_from left.done left.left)))
+      ≡ diagnostic_text is_first (record { line = position; value = value; nth = nth }, new)
+      ++ diagnostics_text false (flagged others (numbered_from (keys ++ value.key ∷ []) (placed_from next.done next.left)))
+  finds keys value position nth new others some here number flag flags_left =
+      let after = numbered_from (keys ++ value.key ∷ []) (placed_from next.done next.left) in
+      ap (λ (ps : List (ℕ × DiagnosticValue)). diagnostics_text is_first (flagged flags (numbered_from keys ps)))
       (placed ∙ ap (λ (d : Option DiagnosticValue). placed_if left.done d (placed_from next.done next.left)) some)
-      ∙ (λ i. diagnostic_text is_first (record { line = sym here i; value = value; nth = sym number i }) ++ others)
+      ∙ (λ i. diagnostic_text is_first (record { line = sym here i; value = value; nth = sym number i }, sym flag i)
+      ++ diagnostics_text false (flagged (sym flags_left i) after))

@@ -1,5 +1,5 @@
 -- The diagnostics of a log in parts.
-use Rattle.std.proofs.Common.{◌≡◌, ℕ, ◌+◌, Bool, true, false, List, [], ◌∷◌, ◌++◌, Option, None, Some, IfNone, IfSome, Bor, option_and_then, option_map, refl, sym, ap, ◌∙◌, append_assoc}
+use Rattle.std.proofs.Common.{◌≡◌, ℕ, Bool, true, false, List, [], ◌∷◌, ◌++◌, Option, None, Some, IfNone, IfSome, Bor, option_and_then, option_map, refl, sym, ap, ◌∙◌, append_assoc}
 use Rattle.std.specs.Option.{option_copied}
 use Rattle.std.specs.Prelude.{codes, decimal}
 use Rattle.std.proofs.lemmas.List.{append-nil}
@@ -9,8 +9,8 @@ use Rattle.json.specs.Tree.{items_tokens, json_tokens}
 use Rattle.redo_diagnostics.specs.declared.severity.Severity.{Severity}
 use Rattle.redo_diagnostics.specs.declared.severity.Severity.TheVariants.{Warning, Error, FatalError}
 use Rattle.redo_diagnostics.specs.Diagnostic.{PlaceValue}
-use Rattle.redo_json.specs.Diagnostics.{LogDiagnostic, diagnostic_fields, diagnostic_objects, diagnostics_field, diagnostics_of, severity_name}
-use Rattle.redo_json.specs.Fields.{Field, bytes_fields, field, number_value, object_with, optional_bytes_fields}
+use Rattle.redo_json.specs.Diagnostics.{FlaggedDiagnostic, LogDiagnostic, diagnostic_fields, diagnostic_objects, diagnostics_field, diagnostics_of, flagged, severity_name}
+use Rattle.redo_json.specs.Fields.{Field, boolean_value, bytes_fields, field, number_value, object_with, optional_bytes_fields}
 use Rattle.redo_json.specs.Private.Parts.{comma_field, comma_fields, comma_if, diagnostic_text, diagnostics_text, field_text, place_text, string_start}
 use Rattle.redo_json.proofs.ObjectLemmas.{then, then_one}
 use Rattle.redo_json.proofs.PrintLemmas.{print_number, print_object, value_then}
@@ -111,20 +111,39 @@ first_is is_first position start is =
     ap (λ (l : List ℕ). l ++ (decimal position ++ [])) is
     ∙ append_assoc (comma_if is_first) (codes "{\"line\":") (decimal position ++ [])
 
--- The last member, and the end of the object.
-abbrev pub last_text : ℕ → List ℕ
-last_text nth = comma_field (field (codes "nth") (number (decimal nth))) ++ 125 ∷ []
+-- The member that says whether a diagnostic is new, and the end of the object.
+abbrev pub end_text : Option Bool → List ℕ
+end_text new = comma_field (field (codes "new") (boolean_value new)) ++ 125 ∷ []
 
-pub last_is : (nth : ℕ) → codes ",\"nth\":" ++ (decimal nth ++ (125 ∷ [])) ≡ last_text nth
+pub not_known : codes ",\"new\":null}" ≡ end_text None
+unfolding escape_byte print_from
+not_known = refl
+
+pub is_known : codes ",\"new\":false}" ≡ end_text (Some false)
+unfolding escape_byte print_from
+is_known = refl
+
+pub is_new : codes ",\"new\":true}" ≡ end_text (Some true)
+unfolding escape_byte print_from
+is_new = refl
+
+-- The last two members, and the end of the object.
+abbrev pub last_text : ℕ → Option Bool → List ℕ
+last_text nth new = comma_field (field (codes "nth") (number (decimal nth))) ++ end_text new
+
+pub last_is : (nth : ℕ) (new : Option Bool) (end : List ℕ) → end ≡ end_text new
+    → codes ",\"nth\":" ++ (decimal nth ++ (end ++ [])) ≡ last_text nth new
 unfolding escape_byte
-last_is nth = ap (λ (l : List ℕ). codes ",\"nth\":" ++ (l ++ 125 ∷ [])) (sym (print_number (decimal nth)))
+last_is nth new end is =
+    ap (λ (l : List ℕ). codes ",\"nth\":" ++ (decimal nth ++ l)) (append-nil end ∙ is)
+    ∙ ap (λ (l : List ℕ). codes ",\"nth\":" ++ (l ++ end_text new)) (sym (print_number (decimal nth)))
 
-module _ (one : LogDiagnostic) where
+module _ (one : LogDiagnostic) (new : Option Bool) where
   abbrev line_field : Field
   line_field = field (codes "line") (number (decimal one.line))
 
   abbrev nth_on : List Field
-  nth_on = field (codes "nth") (number (decimal one.nth)) ∷ []
+  nth_on = field (codes "nth") (number (decimal one.nth)) ∷ field (codes "new") (boolean_value new) ∷ []
 
   abbrev key_on : List Field
   key_on = bytes_fields (codes "key") one.value.key ++ nth_on
@@ -154,7 +173,7 @@ module _ (one : LogDiagnostic) where
       ++ (comma_fields (bytes_fields (codes "message") one.value.message)
       ++ (comma_fields (optional_bytes_fields (codes "flag") one.value.flag)
       ++ (comma_fields (bytes_fields (codes "key") one.value.key)
-      ++ last_text one.nth))))
+      ++ last_text one.nth new))))
 
   place_on : (left : List ℕ) → comma_fields message_on ++ 125 ∷ [] ≡ left
       → comma_fields file_on ++ 125 ∷ [] ≡ place_text one.value.place ++ left
@@ -175,14 +194,15 @@ module _ (one : LogDiagnostic) where
       (then (bytes_fields (codes "message") one.value.message) flag_on (125 ∷ []) _
       (then (optional_bytes_fields (codes "flag") one.value.flag) key_on (125 ∷ []) _
       (then (bytes_fields (codes "key") one.value.key) nth_on (125 ∷ []) _
-      (then_one (field (codes "nth") (number (decimal one.nth))) [] (125 ∷ []) _ refl)))))
+      (then_one (field (codes "nth") (number (decimal one.nth))) (field (codes "new") (boolean_value new) ∷ []) (125 ∷ []) _
+      (then_one (field (codes "new") (boolean_value new)) [] (125 ∷ []) _ refl))))))
 
   line_is : codes "{\"line\":" ++ (decimal one.line ++ []) ≡ 123 ∷ field_text line_field
   unfolding escape_byte
   line_is =
       ap (λ (l : List ℕ). codes "{\"line\":" ++ l) (append-nil (decimal one.line) ∙ sym (print_number (decimal one.line)))
 
-  pub diagnostic_parts : (is_first : Bool) → first_text is_first one.line ++ others_text ≡ diagnostic_text is_first one
+  pub diagnostic_parts : (is_first : Bool) → first_text is_first one.line ++ others_text ≡ diagnostic_text is_first (one, new)
   diagnostic_parts is_first =
       append_assoc (comma_if is_first) (codes "{\"line\":" ++ (decimal one.line ++ [])) others_text
       ∙ ap (λ (l : List ℕ). comma_if is_first ++ l)
@@ -192,27 +212,29 @@ module _ (one : LogDiagnostic) where
 
 -- ---- all diagnostics
 
-other_diagnostics : (found : List LogDiagnostic)
+other_diagnostics : (found : List FlaggedDiagnostic)
     → print_from true (items_tokens (diagnostic_objects found)) ≡ diagnostics_text false found ++ 93 ∷ []
 unfolding print_from
 other_diagnostics [] = refl
 other_diagnostics (one ∷ others) =
-    ap (λ (l : List ℕ). 44 ∷ l) (value_then (object_with (diagnostic_fields one)) (items_tokens (diagnostic_objects others)))
-    ∙ ap (λ (l : List ℕ). 44 ∷ (print (json_tokens (object_with (diagnostic_fields one))) ++ l)) (other_diagnostics others)
+    ap (λ (l : List ℕ). 44 ∷ l) (value_then (object_with (diagnostic_fields one.0 one.1)) (items_tokens (diagnostic_objects others)))
+    ∙ ap (λ (l : List ℕ). 44 ∷ (print (json_tokens (object_with (diagnostic_fields one.0 one.1))) ++ l)) (other_diagnostics others)
     ∙ ap (λ (l : List ℕ). 44 ∷ l)
-    (sym (append_assoc (print (json_tokens (object_with (diagnostic_fields one)))) (diagnostics_text false others) (93 ∷ [])))
+    (sym (append_assoc (print (json_tokens (object_with (diagnostic_fields one.0 one.1)))) (diagnostics_text false others) (93 ∷ [])))
 
-print_diagnostics : (found : List LogDiagnostic)
+print_diagnostics : (found : List FlaggedDiagnostic)
     → print (json_tokens (array (diagnostic_objects found))) ≡ 91 ∷ (diagnostics_text true found ++ 93 ∷ [])
 unfolding print_from
 print_diagnostics [] = refl
 print_diagnostics (one ∷ others) =
     ap (λ (l : List ℕ). 91 ∷ l)
-    (value_then (object_with (diagnostic_fields one)) (items_tokens (diagnostic_objects others))
-    ∙ ap (λ (l : List ℕ). print (json_tokens (object_with (diagnostic_fields one))) ++ l) (other_diagnostics others)
-    ∙ sym (append_assoc (print (json_tokens (object_with (diagnostic_fields one)))) (diagnostics_text false others) (93 ∷ [])))
+    (value_then (object_with (diagnostic_fields one.0 one.1)) (items_tokens (diagnostic_objects others))
+    ∙ ap (λ (l : List ℕ). print (json_tokens (object_with (diagnostic_fields one.0 one.1))) ++ l) (other_diagnostics others)
+    ∙ sym (append_assoc (print (json_tokens (object_with (diagnostic_fields one.0 one.1)))) (diagnostics_text false others) (93 ∷ [])))
 
-pub list_of_diagnostics : (lines : List (List ℕ))
-    → codes ",\"diagnostics\":[" ++ (diagnostics_text true (diagnostics_of lines) ++ 93 ∷ []) ≡ comma_field (diagnostics_field lines)
+pub list_of_diagnostics : (flags : Option (List Bool)) (lines : List (List ℕ))
+    → codes ",\"diagnostics\":[" ++ (diagnostics_text true (flagged flags (diagnostics_of lines)) ++ 93 ∷ [])
+    ≡ comma_field (diagnostics_field flags lines)
 unfolding escape_byte
-list_of_diagnostics lines = ap (λ (l : List ℕ). codes ",\"diagnostics\":" ++ l) (sym (print_diagnostics (diagnostics_of lines)))
+list_of_diagnostics flags lines =
+    ap (λ (l : List ℕ). codes ",\"diagnostics\":" ++ l) (sym (print_diagnostics (flagged flags (diagnostics_of lines))))

@@ -1,5 +1,5 @@
 -- The numbers of a build are exact if the numbers of its logs are.
-use Rattle.std.proofs.Common.{ℕ, zero, suc, ◌+◌, ◌≤◌, ◌^◌, Bool, true, false, not, ℤ, List, [], ◌∷◌, ◌++◌, Option, None, Some, IfSome, filter_map, length, option_map, slice_get, slice_index_or, arith}
+use Rattle.std.proofs.Common.{ℕ, zero, suc, ◌+◌, ◌<◌, ◌≤◌, ◌^◌, Bool, true, false, not, ℤ, List, [], ◌∷◌, ◌++◌, Option, None, Some, IfSome, filter_map, length, option_map, slice_get, slice_index_or, arith}
 use Rattle.std.specs.Prelude.{nat_eq, ◌||◌, if◌then◌else◌}
 use Rattle.std.specs.Cmp.Lexicographic.{pointwise}
 use Rattle.std.specs.List.{AllByRecursion, cons_option}
@@ -20,8 +20,16 @@ use Rattle.redo_view.specs.Expansion.{ShowLog, ViewState, append_event, begin_lo
 use Rattle.redo_outline.specs.Contents.{Contents, contents_of}
 use Rattle.redo_outline.specs.Contents.Contents.{Nothing, Shown, Opened}
 use Rattle.redo_outline.specs.Facts.{closing_status, done_status, entries_at, is_number, status_if, target_at, target_status, text_of, texts_of}
-use Rattle.redo_json.specs.Build.{Request, build_events, build_values, cpu_time, log_values, options_of, unknown_times, values_in}
-use Rattle.redo_json.specs.Laws.{HasExactEntries, HasExactInputs, HasExactNumbers, HasExactUsage, IsExact, IsExactEntry, IsExactSigned}
+use Rattle.redo_outline.specs.Outline.{node_of}
+use Rattle.redo_outline.specs.declared.node.Node.{Node}
+use Rattle.redo_compare.specs.Baseline.{BaselineValue}
+use Rattle.redo_compare.specs.Changes.{all_or_none}
+use Rattle.redo_compare.specs.LogChanges.{diagnostics_in, earlier_number}
+use Rattle.redo_compare.specs.Occurrences.{OccurrenceValue, first_source, occurrence_if, occurrences_from}
+use Rattle.redo_compare.specs.Rounds.{left_after, new_since, occurs, same_key, same_source, unknown_in, without}
+use Rattle.redo_diagnostics.specs.Diagnostic.{DiagnosticValue, diagnostic_of}
+use Rattle.redo_json.specs.Build.{Request, build_events, build_values, changes_in, cpu_time, log_values, options_of, unknown_times, values_in}
+use Rattle.redo_json.specs.Laws.{HasExactEntries, HasExactInputs, HasExactNumbers, HasExactUsage, HasFewEntries, IsExact, IsExactEntry, IsExactSigned, gone_count}
 
 all-append : {A : Type 0} (P : A → Type 0) (xs ys : List A) → AllByRecursion P xs → AllByRecursion P ys → AllByRecursion P (xs ++ ys)
 all-append P [] ys first last = last
@@ -199,10 +207,65 @@ peak_exact : (usage : Option Usage) → IfSome usage HasExactUsage → IsExact (
 peak_exact None is = tt
 peak_exact (Some usage) is = let peak = is.peak in omega (arith, peak)
 
+-- ---- what is gone
+
+entries_few : (number : ℕ) (logs : List Log) → AllByRecursion HasFewEntries logs → length (entries_at number logs) < 2 ^ 53
+entries_few number [] few = omega arith
+entries_few zero (log ∷ logs) few = few.0
+entries_few (suc number) (log ∷ logs) few = entries_few number logs few.1
+
+unknown_few : (same : OccurrenceValue → OccurrenceValue → Bool) (left now : List OccurrenceValue)
+    → length (unknown_in same left now) ≤ length now
+unknown_few same left [] = omega arith
+unknown_few same left (one ∷ others) =
+    by (occurs same one left) (unknown_few same (without same one left) others) (unknown_few same left others)
+  where
+    by : (known : Bool) → length (unknown_in same (without same one left) others) ≤ length others
+        → length (unknown_in same left others) ≤ length others
+        → length (if known then unknown_in same (without same one left) others else one ∷ unknown_in same left others)
+        ≤ suc (length others)
+    by true fewer more = omega (arith, fewer)
+    by false fewer more = omega (arith, more)
+
+new_few : (earlier now : List OccurrenceValue) → length (new_since earlier now) ≤ length now
+new_few earlier now =
+    let first = unknown_few same_source earlier now in
+    let second = unknown_few same_key (left_after same_source earlier now) (unknown_in same_source earlier now) in
+    omega (arith, first, second)
+
+occurrences_few : (position : ℕ) (lines : List (List ℕ)) → length (occurrences_from position lines) ≤ length lines
+occurrences_few position [] = omega arith
+occurrences_few position (line ∷ lines) = by (diagnostic_of line) (occurrences_few (suc position) lines)
+  where
+    by : (found : Option DiagnosticValue) → length (occurrences_from (suc position) lines) ≤ length lines
+        → length (occurrence_if position found (first_source lines) (occurrences_from (suc position) lines)) ≤ suc (length lines)
+    by None few = omega (arith, few)
+    by (Some value) few = omega (arith, few)
+
+gone_few : (earlier : List Log) (now : List OccurrenceValue) (number : Option ℕ) → AllByRecursion HasFewEntries earlier
+    → length (new_since now (all_or_none (option_map (diagnostics_in earlier) number))) < 2 ^ 53
+gone_few earlier now None few = let none = new_few now [] in omega (arith, none)
+gone_few earlier now (Some number) few =
+    let gone = new_few now (diagnostics_in earlier number) in
+    let found = occurrences_few 0 (texts_of (entries_at number earlier)) in
+    let texts = texts_few (entries_at number earlier) in
+    let entries = entries_few number earlier few in
+    omega (arith, gone, found, texts, entries)
+
+gone_exact : (baseline : Option BaselineValue) (logs : List Log) (node : Node)
+    → IfSome baseline (λ (some : BaselineValue). AllByRecursion HasFewEntries some.logs)
+    → IsExact (gone_count (changes_in baseline logs node))
+gone_exact None logs node few = tt
+gone_exact (Some baseline) logs node few =
+    gone_few baseline.logs (diagnostics_in logs node.number) (earlier_number baseline.logs logs node.number) few
+
 module _ (request : Request) (logs : List Log) (requested : List (List ℕ)) (inputs : HasExactInputs request logs) where
-  value_exact : (parent : Option (List ℕ)) (number : ℕ)
-      → HasExactNumbers (log_values request logs parent (target_status logs (build_events request logs requested) number) number)
-  value_exact parent number =
+  abbrev node_at : ℕ → Contents → Contents → Node
+  node_at number inside rest = node_of logs (target_status logs (build_events request logs requested)) None number inside rest
+
+  value_exact : (parent : Option (List ℕ)) (number : ℕ) (inside rest : Contents)
+      → HasExactNumbers (log_values request logs parent (node_at number inside rest))
+  value_exact parent number inside rest =
       let times = item_is AreInRange request.times number unknown_times inputs.times (tt, tt) in
       let usage = item_is (λ (facts : RecipeFacts). IfSome facts.usage HasExactUsage) request.facts number nothing inputs.usage tt in
       let few = (entries_at_exact number logs inputs.entries).1 in
@@ -214,6 +277,7 @@ module _ (request : Request) (logs : List Log) (requested : List (List ℕ)) (in
         cpu_exact (slice_index_or request.facts number nothing).usage usage,
         peak_exact (slice_index_or request.facts number nothing).usage usage,
         omega (arith, few, texts),
+        gone_exact request.baseline logs (node_at number inside rest) inputs.baseline,
       )
 
   contents_exact : (parent : Option (List ℕ)) (contents : Contents)
@@ -222,7 +286,7 @@ module _ (request : Request) (logs : List Log) (requested : List (List ℕ)) (in
   contents_exact parent Nothing = tt
   contents_exact parent (Shown event rest) = contents_exact parent rest
   contents_exact parent (Opened event number inside rest) = (
-    value_exact parent number,
+    value_exact parent number inside rest,
     all-append HasExactNumbers
         (values_in request logs (target_status logs (build_events request logs requested)) (Some (target_at logs number)) inside)
         (values_in request logs (target_status logs (build_events request logs requested)) parent rest)

@@ -1,5 +1,5 @@
 -- Rows of members: what they say, and an object with them as it is printed. Python's `json` and `base64` computed the values.
-use Rattle.std.proofs.Common.{◌≡◌, ℕ, negsuc, List, [], ◌∷◌, ◌++◌, None, Some, refl}
+use Rattle.std.proofs.Common.{◌≡◌, ℕ, negsuc, true, false, List, [], ◌∷◌, ◌++◌, None, Some, refl}
 use Rattle.std.specs.Char.{encode_utf8}
 use Rattle.std.specs.Fmt.{digits}
 use Rattle.std.specs.Prelude.{codes}
@@ -10,7 +10,7 @@ use Rattle.bstr.specs.Utf8.{pieces_from}
 use Rattle.json.specs.Print.{escape_byte, print, print_from}
 use Rattle.json.specs.Tree.{json_tokens}
 use Rattle.redo_json.specs.Fields.{Field, bytes_fields, list_fields, object_with, optional_bytes_fields}
-use Rattle.redo_json.specs.Object.{LogValues, number_fields}
+use Rattle.redo_json.specs.Object.{LogValues, change_fields, number_fields}
 
 record Row : Type 0 where
   fields : List Field
@@ -33,6 +33,7 @@ known = record {
   commands = [];
   needs = [];
   lines = [];
+  changes = None;
 }
 
 abbrev rows : List Row
@@ -45,9 +46,13 @@ rows =
     row (list_fields (codes "a") ((255 ∷ []) ∷ (254 ∷ []) ∷ []))
     (codes "{\"a\":[\"" ++ (239 ∷ 191 ∷ 189 ∷ []) ++ codes "\",\"" ++ (239 ∷ 191 ∷ 189 ∷ [])
     ++ codes "\"],\"a_base64\":{\"0\":\"/w==\",\"1\":\"/g==\"}}") ∷
+    row (change_fields (record { was_built = true; new = []; gone = 50; newly_fails = false; is_fixed = true }))
+    (codes "{\"built\":true,\"gone\":50,\"newly_fails\":false,\"fixed\":true}") ∷
+    row (change_fields (record { was_built = false; new = []; gone = 0; newly_fails = true; is_fixed = false }))
+    (codes "{\"built\":false,\"gone\":0,\"newly_fails\":true,\"fixed\":false}") ∷
     row (number_fields known) (codes "{\"status\":-2,\"start_ms\":10,\"end_ms\":20,\"cpu_ms\":30,\"peak_kb\":40}") ∷
     []
 
 these_fields : AllByRecursion (λ r. print (json_tokens (object_with r.fields)) ≡ r.json) rows
 unfolding chars digits encode_symbols encode_utf8 escape_byte is_utf8 pieces_from print_from
-these_fields = (refl, (refl, (refl, (refl, (refl, tt)))))
+these_fields = (refl, (refl, (refl, (refl, (refl, (refl, (refl, tt)))))))

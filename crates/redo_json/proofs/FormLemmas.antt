@@ -1,5 +1,5 @@
 -- Texts that are written in parts, if memory may run out.
-use Rattle.std.proofs.Common.{◌≡◌, ℕ, List, [], ◌++◌, Option, Result, Ok, Err, length, take, drop, refl, sym, ap, ◌∙◌}
+use Rattle.std.proofs.Common.{◌≡◌, ℕ, List, [], ◌++◌, Option, Result, Ok, Err, length, take, drop, refl, sym, ap, ◌∙◌, subst}
 use Rattle.std.proofs.lemmas.List.{append_assoc, append-nil, take-append-drop}
 use Rattle.std.proofs.Math.Seq.{take-append_seam}
 use Rattle.redo_device.specs.declared.feed.Broken.{Broken}
@@ -44,6 +44,11 @@ part_failed before middle after text part rest OutOfMemory so_far wrote =
           ∙ append_output-append_output before so_far.prefix (take wrote.0 part) 0 0
           ∙ ap (λ (b : List ℕ). append_output before b 0) (sym (take-append_seam done behind) ∙ ap (take (length done)) splits),
     )
+
+-- The writes of an equal text.
+pub forms_as : (before after : Option Output) (text other : List ℕ) (done : Result (Unit {0}) FormFault) → text ≡ other
+    → FormWrites before after text done → FormWrites before after other done
+forms_as before after text other done is wrote = subst (λ (t : List ℕ). FormWrites before after t done) is wrote
 
 -- The rest was written, or writing it failed.
 pub form_rest : (before middle after : Option Output) (text rest : List ℕ) (done : Result (Unit {0}) FormFault)

@@ -1,6 +1,7 @@
 mod BuildLemmas
 mod BuildRows
 mod CandidateLemmas
+mod ChangeLemmas
 mod DiagnosingLemmas
 mod DiagnosticLaws
 mod DiagnosticLemmas
@@ -16,6 +17,8 @@ mod LineLemmas
 mod LogLineLemmas
 mod MentionLemmas
 mod NeedLemmas
+mod NewLemmas
+mod NodeLemmas
 mod ObjectLemmas
 mod ObjectRows
 mod OneLineLemmas

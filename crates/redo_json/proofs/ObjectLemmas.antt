@@ -9,7 +9,7 @@ use Rattle.redo_line.specs.Lines.{with_line_feed}
 use Rattle.redo_json.specs.Build.{object_text}
 use Rattle.redo_json.specs.Diagnostics.{diagnostics_field}
 use Rattle.redo_json.specs.Fields.{Field, exact_fields, exact_name, field, list_fields, optional_bytes_fields}
-use Rattle.redo_json.specs.Object.{LogValues, number_fields}
+use Rattle.redo_json.specs.Object.{LogValues, baseline_field, new_flags, number_fields}
 use Rattle.redo_json.specs.Text.{exact_of, text_of}
 use Rattle.redo_json.specs.Private.Parts.{comma_field, comma_fields, commands_part, directory_part, exact_target, field_text, first_part, from_commands, from_directory, from_exact, from_needs, from_numbers, from_parent, front_text, lines_part, needs_part, numbers_part, parent_part, string_start}
 use Rattle.redo_json.proofs.PrintLemmas.{print_object, print_string}
@@ -37,10 +37,11 @@ directory_start = refl
 
 module _ (values : LogValues) where
   abbrev last_on : List Field
-  last_on = diagnostics_field values.lines ∷ []
+  last_on = diagnostics_field (new_flags values.changes) values.lines ∷ baseline_field values.changes ∷ []
 
   abbrev end : List ℕ
-  end = comma_field (diagnostics_field values.lines) ++ 125 ∷ 10 ∷ []
+  end = comma_field (diagnostics_field (new_flags values.changes) values.lines) ++ (comma_field (baseline_field values.changes) ++ 125 ∷
+      10 ∷ [])
 
   abbrev lines_on : List Field
   lines_on = list_fields (codes "lines") values.lines ++ last_on
@@ -72,7 +73,9 @@ module _ (values : LogValues) where
       (then (list_fields (codes "commands") values.commands) needs_on (125 ∷ 10 ∷ []) (from_needs values ++ end)
       (then (list_fields (codes "needs") values.needs) lines_on (125 ∷ 10 ∷ []) (lines_part values ++ end)
       (then (list_fields (codes "lines") values.lines) last_on (125 ∷ 10 ∷ []) end
-      (then_one (diagnostics_field values.lines) [] (125 ∷ 10 ∷ []) (125 ∷ 10 ∷ []) refl))
+      (then_one (diagnostics_field (new_flags values.changes) values.lines) (baseline_field values.changes ∷ []) (125 ∷ 10 ∷ [])
+      (comma_field (baseline_field values.changes) ++ 125 ∷ 10 ∷ [])
+      (then_one (baseline_field values.changes) [] (125 ∷ 10 ∷ []) (125 ∷ 10 ∷ []) refl)))
       ∙ sym (append_assoc (needs_part values) (lines_part values) end))
       ∙ sym (append_assoc (commands_part values) (from_needs values) end))
       ∙ sym (append_assoc (directory_part values) (from_commands values) end))

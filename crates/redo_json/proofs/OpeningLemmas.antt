@@ -3,7 +3,7 @@ use Rattle.std.proofs.Common.{◌≡◌, ℕ, zero, suc, ◌+◌, Bool, true, fa
 use Rattle.std.specs.Prelude.{not, ◌||◌, slice_get, nat_eq, if◌then◌else◌}
 use Rattle.std.specs.Cmp.Lexicographic.{pointwise, same_text}
 use Rattle.std.specs.List.{AllByRecursion, flat_map}
-use Rattle.std.proofs.lemmas.List.{map-append}
+use Rattle.std.proofs.lemmas.List.{append-nil, map-append}
 use Rattle.std.proofs.lemmas.List.Concat.{flat_map-append}
 use Rattle.std.proofs.lemmas.List.Quantifiers.{position-Some}
 use Rattle.std.proofs.lemmas.Option.{none-some, slice_get-get_or}
@@ -22,9 +22,12 @@ use Rattle.redo_outline.specs.Contents.{Contents, contents_from, contents_of, in
 use Rattle.redo_outline.specs.Contents.Contents.{Nothing, Shown, Opened}
 use Rattle.redo_outline.specs.Facts.{entries_at, name_or_empty, target_at, target_status, texts_of}
 use Rattle.redo_outline.specs.Laws.{events_of}
+use Rattle.redo_outline.specs.Outline.{log_count, node_of, outline_of}
+use Rattle.redo_outline.specs.declared.node.Node.{Node}
 use Rattle.redo_json.specs.Build.{Request, log_values, needs_of, values_in}
 use Rattle.redo_json.specs.Laws.{IsOfLog, targets_in}
 use Rattle.redo_json.specs.Object.{LogValues}
+use Rattle.redo_json.proofs.NodeLemmas.{both_count, first_count, node_here, nodes_in, split_both, split_first}
 
 -- ---- events
 
@@ -268,14 +271,18 @@ found_log logs event number is names = by event is names
     by (EntryShown depth entry) same found = absurd (cc)
     by (LogEnds depth) same found = absurd (cc)
 
-all-append : {A : Type 0} (P : A → Type 0) (xs ys : List A) → AllByRecursion P xs → AllByRecursion P ys → AllByRecursion P (xs ++ ys)
+pub all-append : {A : Type 0} (P : A → Type 0) (xs ys : List A) → AllByRecursion P xs → AllByRecursion P ys → AllByRecursion P (xs ++ ys)
 all-append P [] ys first last = last
 all-append P (x ∷ xs) ys first last = (first.0, all-append P xs ys first.1 last)
 
 module _ (request : Request) (logs : List Log) (events : List Event) where
-  of_log : (parent : Option (List ℕ)) (number : ℕ) → FoundLog logs number
-      → IsOfLog request logs events (log_values request logs parent (target_status logs events number) number)
-  of_log parent number found = record {
+  abbrev node_at : Option ℕ → ℕ → Contents → Contents → Node
+  node_at around number inside rest = node_of logs (target_status logs events) around number inside rest
+
+  of_log : (parent : Option (List ℕ)) (around : Option ℕ) (position number : ℕ) (inside rest : Contents) → FoundLog logs number
+      → slice_get (outline_of logs events) position ≡ Some (node_at around number inside rest)
+      → IsOfLog request logs events (log_values request logs parent (node_at None number inside rest))
+  of_log parent around position number inside rest found here = record {
     number = number;
     log = found.log;
     is_log = found.is_log;
@@ -289,16 +296,47 @@ module _ (request : Request) (logs : List Log) (events : List Event) where
     commands = refl;
     needs = λ i. needs_of (found.target i) (found.entries i);
     lines = ap texts_of found.entries;
+    position = position;
+    node = node_at around number inside rest;
+    is_node = here;
+    of_log = refl;
+    changes = refl;
   }
 
-  pub values_of_logs : (parent : Option (List ℕ)) (contents : Contents) → AreNamed logs contents
-      → AllByRecursion (IsOfLog request logs events) (values_in request logs (target_status logs events) parent contents)
-  values_of_logs parent Nothing named = tt
-  values_of_logs parent (Shown event rest) named = values_of_logs parent rest named.2
-  values_of_logs parent (Opened event number inside rest) named = (
-    of_log parent number (found_log logs event number named.0 named.1),
-    all-append (IsOfLog request logs events)
-        (values_in request logs (target_status logs events) (Some (target_at logs number)) inside)
-        (values_in request logs (target_status logs events) parent rest)
-        (values_of_logs (Some (target_at logs number)) inside named.2) (values_of_logs parent rest named.3),
-  )
+  abbrev objects_in : Option (List ℕ) → Contents → List LogValues
+  objects_in parent contents = values_in request logs (target_status logs events) parent contents
+
+  abbrev nodes : Option ℕ → ℕ → Contents → List Node
+  nodes around position contents = nodes_in logs (target_status logs events) around position contents
+
+  -- The nodes of some contents are within the outline: `before` are the nodes before them, and `after` those after them.
+  values_within : (before after : List Node) (around : Option ℕ) (position : ℕ) (parent : Option (List ℕ)) (contents : Contents)
+      → outline_of logs events ≡ before ++ (nodes around position contents ++ after) → length before ≡ position → AreNamed logs contents
+      → AllByRecursion (IsOfLog request logs events) (objects_in parent contents)
+  values_within before after around position parent Nothing whole counted named = tt
+  values_within before after around position parent (Shown event rest) whole counted named =
+      values_within before after around position parent rest whole counted named.2
+  values_within before after around position parent (Opened event number inside rest) whole counted named =
+      let status = target_status logs events in
+      let all = outline_of logs events in
+      let one = node_at around number inside rest in
+      let inner = nodes (Some position) (suc position) inside in
+      let outer = nodes around (suc position + log_count inside) rest in
+      let first : List Node = before ++ one ∷ [] in
+      let both : List Node = first ++ inner in
+      let in_log = split_first logs status all before after around position number event inside rest whole counted in
+      let in_rest = split_both logs status all before after around position number event inside rest whole counted in
+      let first_counted = first_count logs status all before after around position number event inside rest whole counted in
+      let both_counted = both_count logs status all before after around position number event inside rest whole counted in
+      let here = node_here logs status all before after around position number event inside rest whole counted in (
+        of_log parent around position number inside rest (found_log logs event number named.0 named.1) here,
+        all-append (IsOfLog request logs events) (objects_in (Some (target_at logs number)) inside) (objects_in parent rest)
+            (values_within first (outer ++ after) (Some position) (suc position) (Some (target_at logs number)) inside in_log first_counted
+            named.2)
+            (values_within both after around (suc position + log_count inside) parent rest in_rest both_counted named.3),
+      )
+
+  pub values_of_logs : AreNamed logs (contents_of events)
+      → AllByRecursion (IsOfLog request logs events) (objects_in None (contents_of events))
+  values_of_logs named =
+      values_within [] [] None 0 None (contents_of events) (sym (append-nil (outline_of logs events))) refl named

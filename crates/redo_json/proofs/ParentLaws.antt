@@ -20,6 +20,8 @@ use Rattle.redo_view.specs.Reachable.{mentioned_in, mentions_target}
 use Rattle.redo_outline.specs.Contents.{Contents}
 use Rattle.redo_outline.specs.Contents.Contents.{Nothing, Shown, Opened}
 use Rattle.redo_outline.specs.Facts.{entries_at, target_at}
+use Rattle.redo_outline.specs.Outline.{node_of}
+use Rattle.redo_outline.specs.declared.node.Node.{Node}
 use Rattle.redo_json.specs.Build.{Request, log_values, mentions_in, needs_of, options_of, values_in}
 use Rattle.redo_json.specs.Laws.{AllFollowing, HasLastParent, IsNeededByParent, IsRequestedIfAlone, is_needing, last_mentioning, log_mentions, target_if_mentions}
 use Rattle.redo_json.specs.Object.{LogValues}
@@ -136,8 +138,8 @@ module _ (request : Request) (logs : List Log) (requested : List (List ℕ)) (st
   abbrev objects_in : Parent → Contents → List LogValues
   objects_in parent contents = values_in request logs status parent contents
 
-  abbrev object_at : Parent → ℕ → LogValues
-  object_at parent number = log_values request logs parent (status number) number
+  abbrev object_at : Parent → Node → LogValues
+  object_at parent node = log_values request logs parent node
 
   abbrev after : Contents → List (List ℕ) → List (List ℕ)
   after contents ended = ended_after request logs requested contents ended
@@ -183,16 +185,16 @@ module _ (request : Request) (logs : List Log) (requested : List (List ℕ)) (st
   IsAround (Some parent) ended before = HasObject parent ended before
 
   -- In a log that is opened.
-  around_own : (parent : Parent) (number : ℕ) (ended : List (List ℕ)) (before : List LogValues)
-      → log_number (target_at logs number) logs ≡ Some number
-      → IsAround (Some (target_at logs number)) ended (before ++ object_at parent number ∷ [])
-  around_own parent number ended before own = record {
+  around_own : (parent : Parent) (node : Node) (ended : List (List ℕ)) (before : List LogValues)
+      → log_number (target_at logs node.number) logs ≡ Some node.number
+      → IsAround (Some (target_at logs node.number)) ended (before ++ object_at parent node ∷ [])
+  around_own parent node ended before own = record {
     earlier = before;
-    object = object_at parent number;
+    object = object_at parent node;
     since = [];
     is = refl;
     target = refl;
-    needs = ap (needs_of (target_at logs number)) (sym (numbered (target_at logs number) logs number own));
+    needs = ap (needs_of (target_at logs node.number)) (sym (numbered (target_at logs node.number) logs node.number own));
     have_ended = tt;
   }
 
@@ -215,8 +217,8 @@ module _ (request : Request) (logs : List Log) (requested : List (List ℕ)) (st
   -- ---- one property of each object, from its opening and the objects before it
 
   module _ (property : List LogValues → LogValues → Type 0)
-      (holds : (parent : Parent) (number : ℕ) (ended : List (List ℕ)) (before : List LogValues) → IsAround parent ended before
-      → Opens request logs requested parent ended number → property before (object_at parent number))
+      (holds : (parent : Parent) (node : Node) (ended : List (List ℕ)) (before : List LogValues) → IsAround parent ended before
+      → Opens request logs requested parent ended node.number → property before (object_at parent node))
     where
       all_follow : (parent : Parent) (contents : Contents) (ended : List (List ℕ)) (before : List LogValues) → IsAround parent ended before
           → AreRight request logs requested parent ended contents → AllFollowing property before (objects_in parent contents)
@@ -224,12 +226,13 @@ module _ (request : Request) (logs : List Log) (requested : List (List ℕ)) (st
       all_follow parent (Shown event rest) ended before around right = all_follow parent rest ended before around right
       all_follow parent (Opened event number inside rest) ended before around right =
           let target = target_at logs number in
-          let object = object_at parent number in
+          let node = node_of logs status None number inside rest in
+          let object = object_at parent node in
           let inner = objects_in (Some target) inside in
           let ended_inside = after inside ended in (
-            holds parent number ended before around right.0,
+            holds parent node ended before around right.0,
             following-append property (before ++ object ∷ []) inner (objects_in parent rest)
-                (all_follow (Some target) inside ended (before ++ object ∷ []) (around_own parent number ended before right.0.is_own)
+                (all_follow (Some target) inside ended (before ++ object ∷ []) (around_own parent node ended before right.0.is_own)
                 right.1)
                 (all_follow parent rest (target ∷ ended_inside) ((before ++ object ∷ []) ++ inner)
                 (subst (IsAround parent (target ∷ ended_inside)) (sym (append_assoc before (object ∷ []) inner))
@@ -260,10 +263,10 @@ module _ (request : Request) (logs : List Log) (requested : List (List ℕ)) (st
   last-earlier name target (values ∷ earlier) objects is =
       ap (λ (found : Parent). option_or found (target_if_mentions request logs name values)) (last-earlier name target earlier objects is)
 
-  parent_last : (parent : Parent) (number : ℕ) (ended : List (List ℕ)) (before : List LogValues) → IsAround parent ended before
-      → Opens request logs requested parent ended number → HasLastParent request logs before (object_at parent number)
-  parent_last None number ended before around opens = sym (last-none (target_at logs number) ended before around opens.unmentioned)
-  parent_last (Some parent) number ended before around opens =
+  parent_last : (parent : Parent) (node : Node) (ended : List (List ℕ)) (before : List LogValues) → IsAround parent ended before
+      → Opens request logs requested parent ended node.number → HasLastParent request logs before (object_at parent node)
+  parent_last None node ended before around opens = sym (last-none (target_at logs node.number) ended before around opens.unmentioned)
+  parent_last (Some parent) node ended before around opens =
       sym (ap (last name) around.is ∙ last-earlier name parent around.earlier (around.object ∷ around.since)
       (ap (λ (found : Parent). option_or found (target_if_mentions request logs name around.object))
       (last-none name ended around.since around.have_ended opens.unmentioned)
@@ -272,14 +275,14 @@ module _ (request : Request) (logs : List Log) (requested : List (List ℕ)) (st
       ∙ ap Some around.target))
     where
       name : List ℕ
-      name = target_at logs number
+      name = target_at logs node.number
 
   -- ---- needs, and requested targets
 
-  parent_needs : (parent : Parent) (number : ℕ) (ended : List (List ℕ)) (before : List LogValues) → IsAround parent ended before
-      → Opens request logs requested parent ended number → IsNeededByParent before (object_at parent number)
-  parent_needs None number ended before around opens = tt
-  parent_needs (Some parent) number ended before around opens =
+  parent_needs : (parent : Parent) (node : Node) (ended : List (List ℕ)) (before : List LogValues) → IsAround parent ended before
+      → Opens request logs requested parent ended node.number → IsNeededByParent before (object_at parent node)
+  parent_needs None node ended before around opens = tt
+  parent_needs (Some parent) node ended before around opens =
       ap (list_any needing) around.is
       ∙ list_any-append needing around.earlier (around.object ∷ around.since)
       ∙ or_right (list_any needing around.earlier) (list_any needing (around.object ∷ around.since))
@@ -290,10 +293,10 @@ module _ (request : Request) (logs : List Log) (requested : List (List ℕ)) (st
       ∙ is_needed name (options_of request) parent (entries_of_target parent logs) opens.reason.0 opens.reason.1)))
     where
       name : List ℕ
-      name = target_at logs number
+      name = target_at logs node.number
 
       needing : LogValues → Bool
-      needing = is_needing parent (target_at logs number)
+      needing = is_needing parent (target_at logs node.number)
 
   all_requested : (parent : Parent) (contents : Contents) (ended : List (List ℕ)) → AreRight request logs requested parent ended contents
       → AllByRecursion (IsRequestedIfAlone requested) (objects_in parent contents)
@@ -307,7 +310,7 @@ module _ (request : Request) (logs : List Log) (requested : List (List ℕ)) (st
   )
     where
       by : (around : Parent) → HasReason request logs requested around (target_at logs number)
-          → IsRequestedIfAlone requested (object_at around number)
+          → IsRequestedIfAlone requested (object_at around (node_of logs status None number inside rest))
       by None reason = reason
       by (Some other) reason = tt
 

@@ -1,5 +1,5 @@
 -- Objects are read back.
-use Rattle.std.proofs.Common.{◌≡◌, ℕ, ℤ, suc, ◌+◌, ◌<◌, ◌≤◌, ◌^◌, List, [], ◌∷◌, ◌++◌, Option, None, Some, length, option_and_then, option_map, refl, arith}
+use Rattle.std.proofs.Common.{◌≡◌, ℕ, ℤ, suc, ◌+◌, ◌<◌, ◌≤◌, ◌^◌, Bool, List, [], ◌∷◌, ◌++◌, Option, None, Some, length, option_and_then, option_map, refl, arith}
 use Rattle.std.specs.Prelude.{codes, decimal}
 use Rattle.std.specs.List.{AllByRecursion}
 use Rattle.std.proofs.lemmas.List.{length-append}
@@ -8,10 +8,11 @@ use Rattle.json.specs.Tree.{HasNumbers, ItemsHaveNumbers, MembersHaveNumbers, de
 use Rattle.json.proofs.Printed.Decimals.{IsNumber-decimal, IsNumber-signed_decimal}
 use Rattle.json.proofs.Printed.Trees.{document-print}
 use Rattle.redo_diagnostics.specs.Diagnostic.{DiagnosticValue, PlaceValue, diagnostic_of}
-use Rattle.redo_json.specs.Diagnostics.{LogDiagnostic, diagnostic_fields, diagnostic_objects, diagnostics_field, diagnostics_of, numbered_from, placed_from, placed_if, severity_name}
-use Rattle.redo_json.specs.Fields.{Field, field, bytes_fields, exact_fields, exact_items, exact_list, exact_name, list_fields, members_of, number_value, object_with, optional_bytes_fields, signed_value, strings}
-use Rattle.redo_json.specs.Laws.{HasExactNumbers, IsExact, IsExactSigned, IsReadBack}
-use Rattle.redo_json.specs.Object.{LogValues, number_fields, object_fields, object_of}
+use Rattle.redo_compare.specs.Baseline.{ChangesValue}
+use Rattle.redo_json.specs.Diagnostics.{FlaggedDiagnostic, LogDiagnostic, diagnostic_fields, diagnostic_objects, diagnostics_field, diagnostics_of, flagged, numbered_from, other_flags, placed_from, placed_if, severity_name}
+use Rattle.redo_json.specs.Fields.{Field, boolean_value, field, bytes_fields, exact_fields, exact_items, exact_list, exact_name, list_fields, members_of, number_value, object_with, optional_bytes_fields, signed_value, strings}
+use Rattle.redo_json.specs.Laws.{HasExactNumbers, IsExact, IsExactSigned, IsReadBack, gone_count}
+use Rattle.redo_json.specs.Object.{LogValues, baseline_field, change_fields, new_flags, number_fields, object_fields, object_of}
 use Rattle.redo_json.specs.Text.{exact_of, text_of}
 use Rattle.redo_json.proofs.DiagnosingLemmas.{times_low}
 use Rattle.redo_json.proofs.PlaceLemmas.{IsExactPlace, exact_place}
@@ -75,6 +76,10 @@ of_signed : (levels : ℕ) (value : Option ℤ) → IsExactSigned value → IsSm
 of_signed levels None exact = record { numbers = tt; shallow = omega arith }
 of_signed levels (Some value) exact = record { numbers = IsNumber-signed_decimal value (omega (arith, exact)); shallow = omega arith }
 
+of_boolean : (levels : ℕ) (value : Option Bool) → IsSmall levels (boolean_value value)
+of_boolean levels None = record { numbers = tt; shallow = omega arith }
+of_boolean levels (Some value) = record { numbers = tt; shallow = omega arith }
+
 of_exact_items : (position : ℕ) (list : List (List ℕ)) → AreSmall 0 (exact_items position list)
 of_exact_items position [] = tt
 of_exact_items position (bytes ∷ others) =
@@ -109,13 +114,13 @@ record IsExactDiagnostic (one : LogDiagnostic) : Type 0 where
   place : IsExactPlace one.value.place
   nth : one.nth < 2 ^ 53
 
-of_diagnostic : (one : LogDiagnostic) → IsExactDiagnostic one → AreSmall 0 (diagnostic_fields one)
-of_diagnostic one exact =
+of_diagnostic : (one : LogDiagnostic) (new : Option Bool) → IsExactDiagnostic one → AreSmall 0 (diagnostic_fields one new)
+of_diagnostic one new exact =
     let file : List Field = optional_bytes_fields (codes "file") (option_map (λ (place : PlaceValue). place.file) one.value.place) in
     let message : List Field = bytes_fields (codes "message") one.value.message in
     let flag : List Field = optional_bytes_fields (codes "flag") one.value.flag in
     let key : List Field = bytes_fields (codes "key") one.value.key in
-    let nth : List Field = field (codes "nth") (number (decimal one.nth)) ∷ [] in (
+    let nth : List Field = field (codes "nth") (number (decimal one.nth)) ∷ field (codes "new") (boolean_value new) ∷ [] in (
       of_number 0 (Some one.line) exact.line,
       (
         of_string 0 (severity_name one.value.severity),
@@ -125,21 +130,29 @@ of_diagnostic one exact =
             of_number 0 (option_and_then (λ (place : PlaceValue). place.column) one.value.place) exact.place.column,
             all-append 0 message (flag ++ (key ++ nth)) (of_bytes 0 (codes "message") one.value.message)
                 (all-append 0 flag (key ++ nth) (of_optional_bytes 0 (codes "flag") one.value.flag)
-                (all-append 0 key nth (of_bytes 0 (codes "key") one.value.key) (of_number 0 (Some one.nth) exact.nth, tt))),
+                (all-append 0 key nth (of_bytes 0 (codes "key") one.value.key) (of_number 0 (Some one.nth) exact.nth, (of_boolean 0 new, tt)))),
           ),
         ),
       ),
     )
 
-objects_numbers : (found : List LogDiagnostic) → AllByRecursion IsExactDiagnostic found → ItemsHaveNumbers (diagnostic_objects found)
+abbrev IsExactFlagged : FlaggedDiagnostic → Type 0
+IsExactFlagged one = IsExactDiagnostic one.0
+
+flagged_exact : (flags : Option (List Bool)) (found : List LogDiagnostic) → AllByRecursion IsExactDiagnostic found
+    → AllByRecursion IsExactFlagged (flagged flags found)
+flagged_exact flags [] exact = tt
+flagged_exact flags (one ∷ others) exact = (exact.0, flagged_exact (other_flags flags) others exact.1)
+
+objects_numbers : (found : List FlaggedDiagnostic) → AllByRecursion IsExactFlagged found → ItemsHaveNumbers (diagnostic_objects found)
 objects_numbers [] exact = tt
 objects_numbers (one ∷ others) exact =
-    ((of_object 0 (diagnostic_fields one) (of_diagnostic one exact.0)).numbers, objects_numbers others exact.1)
+    ((of_object 0 (diagnostic_fields one.0 one.1) (of_diagnostic one.0 one.1 exact.0)).numbers, objects_numbers others exact.1)
 
-objects_shallow : (found : List LogDiagnostic) → AllByRecursion IsExactDiagnostic found → items_depth (diagnostic_objects found) ≤ 1
+objects_shallow : (found : List FlaggedDiagnostic) → AllByRecursion IsExactFlagged found → items_depth (diagnostic_objects found) ≤ 1
 objects_shallow [] exact = omega arith
 objects_shallow (one ∷ others) exact =
-    let first = (of_object 0 (diagnostic_fields one) (of_diagnostic one exact.0)).shallow in
+    let first = (of_object 0 (diagnostic_fields one.0 one.1) (of_diagnostic one.0 one.1 exact.0)).shallow in
     let rest = objects_shallow others exact.1 in
     omega (arith, first, rest)
 
@@ -159,19 +172,35 @@ exact_from keys position (line ∷ lines) few low =
         let times = times_low value.key keys in
         (record { line = omega (arith, few); place = exact_place line value is; nth = omega (arith, few, low, times) }, after value.key)
 
-of_diagnostics : (lines : List (List ℕ)) → length lines ≤ 2 ^ 53 → IsSmall 2 (diagnostics_field lines).value
-of_diagnostics lines few =
-    let exact = exact_from [] 0 lines (omega (arith, few)) (omega arith) in
+of_diagnostics : (flags : Option (List Bool)) (lines : List (List ℕ)) → length lines ≤ 2 ^ 53
+    → IsSmall 2 (diagnostics_field flags lines).value
+of_diagnostics flags lines few =
+    let exact = flagged_exact flags (diagnostics_of lines) (exact_from [] 0 lines (omega (arith, few)) (omega arith)) in
     record {
-      numbers = objects_numbers (diagnostics_of lines) exact;
-      shallow = omega (arith, objects_shallow (diagnostics_of lines) exact);
+      numbers = objects_numbers (flagged flags (diagnostics_of lines)) exact;
+      shallow = omega (arith, objects_shallow (flagged flags (diagnostics_of lines)) exact);
     }
+
+-- ---- changes
+
+of_changes : (changes : Option ChangesValue) → IsExact (gone_count changes) → IsSmall 2 (baseline_field changes).value
+of_changes None exact = record { numbers = tt; shallow = omega arith }
+of_changes (Some changes) exact =
+    let fields : AreSmall 0 (change_fields changes) = (
+      of_boolean 0 (Some changes.was_built),
+      (
+        of_number 0 (Some changes.gone) exact,
+        (of_boolean 0 (Some changes.newly_fails), (of_boolean 0 (Some changes.is_fixed), tt)),
+      ),
+    ) in
+    let object = of_object 0 (change_fields changes) fields in
+    record { numbers = object.numbers; shallow = omega (arith, object.shallow) }
 
 -- ---- the object of a log
 
 of_fields : (values : LogValues) → HasExactNumbers values → AreSmall 2 (object_fields values)
 of_fields values exact =
-    let found : List Field = diagnostics_field values.lines ∷ [] in
+    let found : List Field = diagnostics_field (new_flags values.changes) values.lines ∷ baseline_field values.changes ∷ [] in
     let lines : List Field = list_fields (codes "lines") values.lines in
     let needs : List Field = list_fields (codes "needs") values.needs in
     let commands : List Field = list_fields (codes "commands") values.commands in
@@ -186,7 +215,10 @@ of_fields values exact =
     (all-append 2 directory (commands ++ (needs ++ (lines ++ found))) (of_optional_bytes 2 (codes "directory") values.directory)
     (all-append 2 commands (needs ++ (lines ++ found)) (of_list (codes "commands") values.commands)
     (all-append 2 needs (lines ++ found) (of_list (codes "needs") values.needs)
-    (all-append 2 lines found (of_list (codes "lines") values.lines) (of_diagnostics values.lines exact.5, tt)))))))
+    (all-append 2 lines found (of_list (codes "lines") values.lines) (
+      of_diagnostics (new_flags values.changes) values.lines exact.5,
+      (of_changes values.changes exact.6, tt),
+    )))))))
 
 pub has_numbers : (values : LogValues) → HasExactNumbers values → HasNumbers (object_of values)
 has_numbers values exact = (of_object 2 (object_fields values) (of_fields values exact)).numbers

@@ -15,9 +15,10 @@ use Rattle.json.proofs.Printed.Utf8.{IsUtf8-are_ascii, IsUtf8-key, IsUtf8-quoted
 use Rattle.redo_diagnostics.specs.declared.severity.Severity.{Severity}
 use Rattle.redo_diagnostics.specs.declared.severity.Severity.TheVariants.{Warning, Error, FatalError}
 use Rattle.redo_diagnostics.specs.Diagnostic.{PlaceValue}
-use Rattle.redo_json.specs.Diagnostics.{LogDiagnostic, diagnostic_fields, diagnostic_objects, diagnostics_field, diagnostics_of, severity_name}
-use Rattle.redo_json.specs.Fields.{Field, bytes_fields, field, exact_fields, exact_items, exact_list, exact_name, list_fields, members_of, number_value, object_with, optional_bytes_fields, signed_value, strings}
-use Rattle.redo_json.specs.Object.{LogValues, number_fields, object_fields, object_of}
+use Rattle.redo_compare.specs.Baseline.{ChangesValue}
+use Rattle.redo_json.specs.Diagnostics.{FlaggedDiagnostic, LogDiagnostic, diagnostic_fields, diagnostic_objects, diagnostics_field, diagnostics_of, flagged, severity_name}
+use Rattle.redo_json.specs.Fields.{Field, boolean_value, bytes_fields, field, exact_fields, exact_items, exact_list, exact_name, list_fields, members_of, number_value, object_with, optional_bytes_fields, signed_value, strings}
+use Rattle.redo_json.specs.Object.{LogValues, baseline_field, baseline_value, change_fields, new_flags, number_fields, object_fields, object_of}
 use Rattle.redo_json.specs.Text.{base64_of, exact_of, text_of}
 use Rattle.redo_json.proofs.TextLemmas.{text_utf8}
 
@@ -123,6 +124,11 @@ of_signed : (value : Option ℤ) → HaveText (json_tokens (signed_value value))
 of_signed None = of_null
 of_signed (Some value) = (signed_utf8 value, tt)
 
+of_boolean : (value : Option Bool) → HaveText (json_tokens (boolean_value value))
+of_boolean None = of_null
+of_boolean (Some true) = (IsUtf8-are_ascii (codes "true") refl, tt)
+of_boolean (Some false) = (IsUtf8-are_ascii (codes "false") refl, tt)
+
 of_exact_items : (position : ℕ) (list : List (List ℕ)) → AreText (exact_items position list)
 of_exact_items position [] = tt
 of_exact_items position (bytes ∷ others) =
@@ -161,13 +167,13 @@ severity_utf8 Warning = IsUtf8-are_ascii (codes "warning") refl
 severity_utf8 Error = IsUtf8-are_ascii (codes "error") refl
 severity_utf8 FatalError = IsUtf8-are_ascii (codes "fatal error") refl
 
-of_diagnostic : (one : LogDiagnostic) → AreText (diagnostic_fields one)
-of_diagnostic one =
+of_diagnostic : (one : LogDiagnostic) (new : Option Bool) → AreText (diagnostic_fields one new)
+of_diagnostic one new =
     let file : List Field = optional_bytes_fields (codes "file") (option_map (λ (place : PlaceValue). place.file) one.value.place) in
     let message : List Field = bytes_fields (codes "message") one.value.message in
     let flag : List Field = optional_bytes_fields (codes "flag") one.value.flag in
     let key : List Field = bytes_fields (codes "key") one.value.key in
-    let nth : List Field = field (codes "nth") (number (decimal one.nth)) ∷ [] in (
+    let nth : List Field = field (codes "nth") (number (decimal one.nth)) ∷ field (codes "new") (boolean_value new) ∷ [] in (
       (IsUtf8-are_ascii (codes "line") refl, of_number (Some one.line)),
       (
         (
@@ -181,30 +187,48 @@ of_diagnostic one =
             are-append message (flag ++ (key
                 ++ nth)) (of_bytes (codes "message") one.value.message (IsUtf8-are_ascii (codes "message") refl))
                 (are-append flag (key ++ nth) (of_optional_bytes (codes "flag") one.value.flag (IsUtf8-are_ascii (codes "flag") refl))
-                (are-append key nth (of_bytes (codes "key") one.value.key (IsUtf8-are_ascii (codes "key") refl))
-                ((IsUtf8-are_ascii (codes "nth") refl, of_number (Some one.nth)), tt))),
+                (are-append key nth (of_bytes (codes "key") one.value.key (IsUtf8-are_ascii (codes "key") refl)) (
+                  (IsUtf8-are_ascii (codes "nth") refl, of_number (Some one.nth)),
+                  ((IsUtf8-are_ascii (codes "new") refl, of_boolean new), tt),
+                ))),
           ),
         ),
       ),
     )
 
-of_objects : (found : List LogDiagnostic) → HaveText (items_tokens (diagnostic_objects found))
+of_objects : (found : List FlaggedDiagnostic) → HaveText (items_tokens (diagnostic_objects found))
 of_objects [] = (IsUtf8-are_ascii (93 ∷ []) refl, tt)
 of_objects (one ∷ others) =
-    have-append (json_tokens (object_with (diagnostic_fields one))) (items_tokens (diagnostic_objects others))
-    (of_object (diagnostic_fields one) (of_diagnostic one)) (of_objects others)
+    have-append (json_tokens (object_with (diagnostic_fields one.0 one.1))) (items_tokens (diagnostic_objects others))
+    (of_object (diagnostic_fields one.0 one.1) (of_diagnostic one.0 one.1)) (of_objects others)
 
-of_diagnostics : (lines : List (List ℕ)) → AreText (diagnostics_field lines ∷ [])
-of_diagnostics lines = (
-  (IsUtf8-are_ascii (codes "diagnostics") refl, (IsUtf8-are_ascii (91 ∷ []) refl, of_objects (diagnostics_of lines))),
-  tt,
+of_changes : (changes : Option ChangesValue) → HaveText (json_tokens (baseline_value changes))
+of_changes None = of_null
+of_changes (Some changes) =
+    of_object (change_fields changes) (
+      (IsUtf8-are_ascii (codes "built") refl, of_boolean (Some changes.was_built)),
+      (
+        (IsUtf8-are_ascii (codes "gone") refl, of_number (Some changes.gone)),
+        (
+          (IsUtf8-are_ascii (codes "newly_fails") refl, of_boolean (Some changes.newly_fails)),
+          ((IsUtf8-are_ascii (codes "fixed") refl, of_boolean (Some changes.is_fixed)), tt),
+        ),
+      ),
+    )
+
+-- The last two members.
+of_last : (flags : Option (List Bool)) (lines : List (List ℕ)) (changes : Option ChangesValue)
+    → AreText (diagnostics_field flags lines ∷ baseline_field changes ∷ [])
+of_last flags lines changes = (
+  (IsUtf8-are_ascii (codes "diagnostics") refl, (IsUtf8-are_ascii (91 ∷ []) refl, of_objects (flagged flags (diagnostics_of lines)))),
+  ((IsUtf8-are_ascii (codes "baseline") refl, of_changes changes), tt),
 )
 
 -- ---- the object of a log
 
 of_fields : (values : LogValues) → AreText (object_fields values)
 of_fields values =
-    let found : List Field = diagnostics_field values.lines ∷ [] in
+    let found : List Field = diagnostics_field (new_flags values.changes) values.lines ∷ baseline_field values.changes ∷ [] in
     let lines : List Field = list_fields (codes "lines") values.lines in
     let needs : List Field = list_fields (codes "needs") values.needs in
     let commands : List Field = list_fields (codes "commands") values.commands in
@@ -221,7 +245,8 @@ of_fields values =
     (of_optional_bytes (codes "directory") values.directory (IsUtf8-are_ascii _ refl))
     (are-append commands (needs ++ (lines ++ found)) (of_list (codes "commands") values.commands (IsUtf8-are_ascii _ refl))
     (are-append needs (lines ++ found) (of_list (codes "needs") values.needs (IsUtf8-are_ascii _ refl))
-    (are-append lines found (of_list (codes "lines") values.lines (IsUtf8-are_ascii _ refl)) (of_diagnostics values.lines)))))))
+    (are-append lines found (of_list (codes "lines") values.lines (IsUtf8-are_ascii _ refl))
+    (of_last (new_flags values.changes) values.lines values.changes)))))))
 
 pub object_utf8 : (values : LogValues) → IsUtf8 (print (json_tokens (object_of values)))
 object_utf8 values = print_utf8 false (json_tokens (object_of values)) (of_object (object_fields values) (of_fields values))

@@ -1,7 +1,7 @@
 -- Members of a JSON object, and which members say what bytes, numbers and lists are.
-use Rattle.std.specs.Prelude.{ℕ, ℤ, suc, List, [], ◌∷◌, ◌++◌, Option, None, Some, codes}
+use Rattle.std.specs.Prelude.{ℕ, ℤ, suc, Bool, List, [], ◌∷◌, ◌++◌, Option, None, Some, codes}
 use Rattle.std.specs.Fmt.{decimal, signed_decimal}
-use Rattle.json.specs.Json.{Json, Items, Members, array, item, member, no_items, no_members, null, number, object, string}
+use Rattle.json.specs.Json.{Json, Items, Members, array, boolean, item, member, no_items, no_members, null, number, object, string}
 use Rattle.redo_json.specs.Text.{exact_of, text_of}
 
 -- A member of an object.
@@ -47,6 +47,11 @@ number_value (Some value) = number (decimal value)
 abbrev pub signed_value : Option ℤ → Json
 signed_value None = null
 signed_value (Some value) = number (signed_decimal value)
+
+-- A truth value that may not be known.
+abbrev pub boolean_value : Option Bool → Json
+boolean_value None = null
+boolean_value (Some value) = boolean value
 
 -- The texts of a list.
 abbrev pub strings : List (List ℕ) → Items

@@ -1,5 +1,5 @@
 -- Definitions that state the laws about objects and builds.
-use Rattle.std.specs.Prelude.{◌≡◌, ⊤, ℕ, ℤ, ◌<◌, ◌≤◌, ◌^◌, Bool, true, ◌&&◌, List, [], ◌∷◌, ◌++◌, Option, None, Some, IfNone, IfSome, length, map, nat_eq, option_and_then, option_map, slice_get, slice_index_or, if◌then◌else◌}
+use Rattle.std.specs.Prelude.{◌≡◌, ⊤, ℕ, ℤ, ◌<◌, ◌≤◌, ◌^◌, ◌==◌, Bool, true, ◌&&◌, List, [], ◌∷◌, ◌++◌, Option, None, Some, IfNone, IfSome, length, map, nat_eq, option_and_then, option_map, slice_get, slice_index_or, if◌then◌else◌}
 use Rattle.std.specs.Cmp.Lexicographic.{pointwise}
 use Rattle.std.specs.List.{AllByRecursion, list_any}
 use Rattle.std.specs.Option.{option_or}
@@ -19,8 +19,12 @@ use Rattle.redo_view.specs.Event.{Event}
 use Rattle.redo_view.specs.Expansion.{entries_of_target, is_among}
 use Rattle.redo_view.specs.Reachable.{mentioned_in}
 use Rattle.redo_outline.specs.Facts.{target_status, texts_of}
-use Rattle.redo_json.specs.Build.{Request, cpu_time, needs_of, options_of, unknown_times, whole_commands}
-use Rattle.redo_json.specs.Diagnostics.{LogDiagnostic}
+use Rattle.redo_outline.specs.Outline.{outline_of}
+use Rattle.redo_outline.specs.declared.node.Node.{Node}
+use Rattle.redo_compare.specs.Baseline.{BaselineValue, ChangesValue}
+use Rattle.redo_compare.specs.Occurrences.{OccurrenceValue}
+use Rattle.redo_json.specs.Build.{Request, changes_in, cpu_time, needs_of, options_of, unknown_times, whole_commands}
+use Rattle.redo_json.specs.Diagnostics.{FlaggedDiagnostic, LogDiagnostic}
 use Rattle.redo_json.specs.Object.{LogValues, object_of}
 
 -- Whether programs that read numbers as doubles read this one exactly.
@@ -32,11 +36,14 @@ abbrev pub IsExactSigned : Option ℤ → Type 0
 IsExactSigned None = ⊤
 IsExactSigned (Some number) = mag number < 2 ^ 53
 
+abbrev pub gone_count : Option ChangesValue → Option ℕ
+gone_count changes = option_map (λ (some : ChangesValue). some.gone) changes
+
 -- The same of all numbers of a log. The numbers of its diagnostics are exact if it has no more lines than this.
 abbrev pub HasExactNumbers : LogValues → Type 0
 HasExactNumbers values =
     IsExactSigned values.status × IsExact values.start_ms × IsExact values.end_ms × IsExact values.cpu_ms × IsExact values.peak_kb
-    × (length values.lines ≤ 2 ^ 53)
+    × (length values.lines ≤ 2 ^ 53) × IsExact (gone_count values.changes)
 
 -- Whether an entry has a status that is exact, or none. The statuses of records have at most nine digits.
 abbrev pub IsExactEntry : Entry → Type 0
@@ -54,11 +61,16 @@ pub record HasExactUsage (usage : Usage) : Type 0 where
   pub system : usage.system_ms < 10 ^ 15
   pub peak : usage.peak_kb < 10 ^ 15
 
+-- Whether a log of the baseline has few enough entries.
+abbrev pub HasFewEntries : Log → Type 0
+HasFewEntries log = length log.entries < 2 ^ 53
+
 -- The numbers from which a build is written are as logs and files of facts have them.
 pub record HasExactInputs (request : Request) (logs : List Log) : Type 0 where
   pub times : AllByRecursion AreInRange request.times
   pub usage : AllByRecursion (λ (facts : RecipeFacts). IfSome facts.usage HasExactUsage) request.facts
   pub entries : AllByRecursion HasExactEntries logs
+  pub baseline : IfSome request.baseline (λ (baseline : BaselineValue). AllByRecursion HasFewEntries baseline.logs)
 
 -- Whether a reader of JSON reads the printed value as this value.
 abbrev pub IsReadBack : Json → Type 0
@@ -75,7 +87,7 @@ abbrev pub targets_in : List LogValues → List (List ℕ)
 targets_in all = map (λ (values : LogValues). values.target) all
 
 -- These are the values of one of the logs: what this log itself says of its target, and what is known of this target. `events` are what
--- is shown.
+-- is shown. `node` has what the outline says of this log, and the changes are what changed in this node's target.
 pub record IsOfLog (request : Request) (logs : List Log) (events : List Event) (values : LogValues) : Type 0 where
   pub number : ℕ
   pub log : Log
@@ -90,6 +102,11 @@ pub record IsOfLog (request : Request) (logs : List Log) (events : List Event) (
   pub commands : values.commands ≡ whole_commands (slice_index_or request.facts number nothing).commands
   pub needs : values.needs ≡ needs_of log.target log.entries
   pub lines : values.lines ≡ texts_of log.entries
+  pub position : ℕ
+  pub node : Node
+  pub is_node : slice_get (outline_of logs events) position ≡ Some node
+  pub of_log : node.number ≡ number
+  pub changes : values.changes ≡ changes_in request.baseline logs node
 
 -- ---- parents
 
@@ -126,6 +143,20 @@ IsNeededByParent before values = IfSome values.parent (λ (parent : List ℕ). l
 -- If an object has no parent, its target is requested.
 abbrev pub IsRequestedIfAlone : List (List ℕ) → LogValues → Type 0
 IsRequestedIfAlone requested values = IfNone values.parent (is_among values.target requested ≡ true)
+
+-- ---- what is new
+
+-- Whether one of these new diagnostics is in this line.
+abbrev pub is_new_line : List OccurrenceValue → ℕ → Bool
+is_new_line new line = list_any (λ (one : OccurrenceValue). one.line == line) new
+
+-- A diagnostic, and whether it is new: whether one of these new diagnostics is in its line.
+abbrev pub flagged_by_line : List OccurrenceValue → LogDiagnostic → FlaggedDiagnostic
+flagged_by_line new one = (one, Some (is_new_line new one.line))
+
+-- A diagnostic of which isn't known whether it is new.
+abbrev pub unflagged : LogDiagnostic → FlaggedDiagnostic
+unflagged one = (one, None)
 
 -- ---- diagnostics
 

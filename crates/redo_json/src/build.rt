@@ -8,11 +8,12 @@ ghost use Rattle.redo_logs.specs.Logs.{has_ended};
 ghost use Rattle.redo_outline.specs.Facts.{target_at};
 ghost use Rattle.redo_view.specs.Form.{FormWrites};
 ghost use Rattle.redo_view.specs.View.{find_unknown};
-ghost use Rattle.redo_json.specs.Build.{build_json, cpu_time, object_text, options_of, request_of, unknown_times, whole_commands};
+ghost use Rattle.redo_json.specs.Build.{build_json, changes_in, cpu_time, json_options, object_text, request_of, unknown_times, whole_commands};
 ghost use Rattle.redo_json.specs.Private.Values.{IsRecipeOf, node_values, parent_name};
 
 use crate::needs::needs_of;
 use crate::object::{LogObject, write_object};
+use redo_compare::{Baseline, TargetChanges};
 use redo_device::Sink;
 use redo_facts::{Command, Facts, Usage};
 use redo_line::{HashKeys, TargetName};
@@ -31,6 +32,8 @@ pub struct BuildRequest<'a> {
     pub times: &'a [Times],
     /// The facts of each target's recipe, by the number of its log. Nothing is known of a target past the end.
     pub facts: &'a [Facts],
+    /// The earlier build with which this one is compared, if there is one.
+    pub baseline: Option<&'a Baseline<'a>>,
     /// The keys with which names and diagnostics are hashed. The text doesn't depend on them.
     pub keys: HashKeys,
 }
@@ -53,7 +56,8 @@ impl Render for BuildRequest<'_> {
 /// target must have a log. All logs must have ended.
 ///
 /// A write that fails or takes no byte ends the call, and nothing is written after it. `out` isn't flushed. No object is held in memory,
-/// but the commands and the needs of one log are, and the keys of its diagnostics.
+/// but the commands and the needs of one log are, and the keys of its diagnostics. If there is a baseline, its diagnostics are in memory
+/// too, and the earlier log's diagnostics.
 pub fn write_build<W: Sink>(
     alloc: Global,
     table: &LogTable,
@@ -65,17 +69,18 @@ pub fn write_build<W: Sink>(
     requires known { find_unknown table.now requested.now ≡ None }
     ensures { FormWrites (W.written out.old) (W.written out.new) (build_json (request_of request.now) table.now requested.now) result }
 {
-    let outline = Outline::new(alloc, table, &options_of(request), requested)?;
+    let outline = Outline::new(alloc, table, &json_options(request.unchanged), requested)?;
     write_logs(alloc, table, request, outline.nodes(), out)
 }
 
-// Returns the options with which the logs are shown.
-fn options_of(request: &BuildRequest<'_>) -> Options
-    ensures { result ≡ options_of (request_of request.now) }
+/// Returns the options with which the logs are shown. `unchanged` says whether logs of targets that needed no rebuild are opened. A
+/// baseline is made with the same options.
+pub fn json_options(unchanged: bool) -> Options
+    ensures { result ≡ json_options unchanged }
 {
     Options {
         recursive: true,
-        unchanged: request.unchanged,
+        unchanged,
         details: true,
         debug_locks: false,
         debug_pids: false,
@@ -115,6 +120,7 @@ fn write_log<W: Sink>(
     let recipe = recipe_at(request.facts, node.number);
     let commands = whole_commands(alloc, recipe.commands)?;
     let needs = needs_of(alloc, request.keys, table, node.number)?;
+    let changes = changes_in(alloc, request.baseline, table, node)?;
     let command_texts = commands.as_slice();
     let names = needs.as_slice();
     let log = LogObject {
@@ -130,8 +136,24 @@ fn write_log<W: Sink>(
         needs: names,
         table,
         number: node.number,
+        changes: changes.as_ref(),
     };
     write_object(alloc, request.keys, &log, out)
+}
+
+// Returns what changed in the target of a node since the baseline, if there is one.
+fn changes_in(
+    alloc: Global,
+    baseline: Option<&Baseline<'_>>,
+    table: &LogTable,
+    node: &Node,
+) -> Result<Option<TargetChanges>, AllocError>
+    ensures { IfOk result (λ changes. changes ≡ changes_in (option_copied baseline.entry) table.now node.now) }
+{
+    match baseline {
+        None => Ok(None),
+        Some(baseline) => Ok(Some(baseline.changes(alloc, table, node)?)),
+    }
 }
 
 // Returns the target in whose log a node's log is opened.

@@ -1,13 +1,13 @@
 //! The member of an object with the diagnostics of a log.
-ghost use Rattle.std.specs.Prelude.{◌≡◌, ◌++◌, Some, true, codes, option_copied};
+ghost use Rattle.std.specs.Prelude.{◌≡◌, ◌∷◌, ◌++◌, [], Some, true, codes, option_copied};
 ghost use Rattle.json.specs.Json.{string};
 ghost use Rattle.json.specs.Print.{print};
 ghost use Rattle.json.specs.Tree.{json_tokens};
 ghost use Rattle.redo_device.specs.Sink.{Writes};
 ghost use Rattle.redo_outline.specs.Facts.{entries_at, texts_of};
 ghost use Rattle.redo_view.specs.Form.{FormWrites};
-ghost use Rattle.redo_json.specs.Diagnostics.{diagnostics_field, diagnostics_of, severity_name};
-ghost use Rattle.redo_json.specs.Fields.{field, number_value, optional_bytes_fields};
+ghost use Rattle.redo_json.specs.Diagnostics.{diagnostics_field, diagnostics_of, first_flag, flagged, other_flags, severity_name};
+ghost use Rattle.redo_json.specs.Fields.{boolean_value, field, number_value, optional_bytes_fields};
 ghost use Rattle.redo_json.specs.Private.Parts.{comma_field, comma_fields, comma_if, diagnostic_text, diagnostics_text, place_text};
 
 use crate::field::write_bytes;
@@ -20,19 +20,21 @@ use redo_logs::LogTable;
 use redo_view::FormFault;
 use std::alloc::Global;
 
-/// Writes a member with the diagnostics of a log. Their keys are hashed with `keys`.
+/// Writes a member with the diagnostics of a log. Their keys are hashed with `keys`. If there is a baseline, `flags` says of each
+/// diagnostic, in order, whether it is new.
 pub fn write_diagnostics<W: Sink>(
     alloc: Global,
     keys: HashKeys,
+    flags: Option<&[bool]>,
     table: &LogTable,
     number: u32,
     out: &mut W,
 ) -> Result<(), FormFault>
     ensures { FormWrites (W.written out.old) (W.written out.new)
-        (comma_field (diagnostics_field (texts_of (entries_at number table.now)))) result }
+        (comma_field (diagnostics_field (option_copied flags.entry) (texts_of (entries_at number table.now)))) result }
 {
     push_all(out, b",\"diagnostics\":[")?;
-    write_each(alloc, keys, table, number, out)?;
+    write_each(alloc, keys, flags, table, number, out)?;
     push_all(out, b"]")?;
     Ok(())
 }
@@ -41,24 +43,40 @@ pub fn write_diagnostics<W: Sink>(
 fn write_each<W: Sink>(
     alloc: Global,
     keys: HashKeys,
+    flags: Option<&[bool]>,
     table: &LogTable,
     number: u32,
     out: &mut W,
 ) -> Result<(), FormFault>
     ensures { FormWrites (W.written out.old) (W.written out.new)
-        (diagnostics_text true (diagnostics_of (texts_of (entries_at number table.now)))) result }
+        (diagnostics_text true (flagged (option_copied flags.entry) (diagnostics_of (texts_of (entries_at number table.now))))) result }
 {
     let mut lines = LogLines::new(table, number);
     let mut counts = KeyCounts::new(alloc, keys);
     let mut is_first = true;
+    let mut left = flags;
     'each: while let Some((position, line)) = lines.next_candidate() {
         if let Some(diagnostic) = read_diagnostic(alloc, line)? {
             let nth = counts.add(alloc, diagnostic.key())?;
-            write_diagnostic(is_first, position, &diagnostic, nth, out)?;
+            let (new, others) = next_flag(left);
+            write_diagnostic(is_first, position, &diagnostic, nth, new, out)?;
             is_first = false;
+            left = others;
         }
     }
     Ok(())
+}
+
+// Returns the flag of the next diagnostic, and the flags of the others.
+fn next_flag(flags: Option<&[bool]>) -> (Option<bool>, Option<&[bool]>)
+    ensures first { result.0 ≡ first_flag (option_copied flags.entry) }
+    ensures others { option_copied result.1 ≡ other_flags (option_copied flags.entry) }
+{
+    match flags {
+        None => (None, None),
+        Some([]) => (None, Some(&[])),
+        Some([first, others @ ..]) => (Some(*first), Some(others)),
+    }
 }
 
 // Writes the object of a diagnostic, after a comma unless it is the first one.
@@ -67,10 +85,11 @@ fn write_diagnostic<W: Sink>(
     position: usize,
     diagnostic: &Diagnostic,
     nth: u64,
+    new: Option<bool>,
     out: &mut W,
 ) -> Result<(), Broken>
     ensures { Writes (W.written out.old) (W.written out.new)
-        (diagnostic_text is_first (record { line = position; value = diagnostic.now; nth = nth })) result }
+        (diagnostic_text is_first (record { line = position; value = diagnostic.now; nth = nth }, new)) result }
 {
     write_parts(
         &[
@@ -88,10 +107,26 @@ fn write_diagnostic<W: Sink>(
         &[
             Part::Json(b",\"nth\":"),
             Part::Number(nth),
-            Part::Json(b"}"),
+            Part::Json(object_end(new)),
         ],
         out,
     )
+}
+
+// Returns the end of a diagnostic's object, from the member that says whether it is new.
+fn object_end(new: Option<bool>) -> &'static [u8]
+    ensures { result.now ≡ comma_field (field (codes "new") (boolean_value new)) ++ 125 ∷ [] }
+{
+    match new {
+        None => b",\"new\":null}",
+        Some(is_new) => {
+            if is_new {
+                b",\"new\":true}"
+            } else {
+                b",\"new\":false}"
+            }
+        }
+    }
 }
 
 // Returns the start of a diagnostic's object up to the position of its line, with the comma before an object that isn't the first one.

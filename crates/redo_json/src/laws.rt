@@ -1,21 +1,23 @@
 //! Laws, which are theorems about the definitions alone: each contract is a theorem, and the bodies are empty.
-ghost use Rattle.std.specs.Prelude.{◌≡◌, ◌≢◌, true, ℕ, List, [], None, Some, IsUtf8, filter_map, min, nat_eq};
+ghost use Rattle.std.specs.Prelude.{◌≡◌, ◌≢◌, true, ℕ, Bool, List, [], None, Some, IsUtf8, filter_map, length, map, min, nat_eq, option_map, slice_get};
 ghost use Rattle.std.specs.Cmp.Lexicographic.{pointwise};
 ghost use Rattle.std.specs.List.{AllByRecursion, IsDistinct};
 ghost use Rattle.base64.specs.GeneralPurpose.{IsBytes};
 ghost use Rattle.json.specs.Print.{print, quoted};
 ghost use Rattle.json.specs.Tree.{json_tokens};
+ghost use Rattle.redo_compare.specs.LogChanges.{are_new, new_in_log};
 ghost use Rattle.redo_diagnostics.specs.Counts.{numbered_keys, times_of};
 ghost use Rattle.redo_diagnostics.specs.Diagnostic.{diagnostic_of};
 ghost use Rattle.redo_line.specs.declared.entry.Entry.{Entry};
 ghost use Rattle.redo_logs.specs.Logs.{Log, targets_of};
+ghost use Rattle.redo_outline.specs.Facts.{entries_at, texts_of};
 ghost use Rattle.redo_view.specs.Expansion.{is_among};
 ghost use Rattle.redo_view.specs.Laws.{opened_for};
 ghost use Rattle.redo_view.specs.View.{find_unknown};
 ghost use Rattle.redo_json.specs.Build.{Request, build_events, build_json, build_values, mentions_in, needs_of, options_of};
-ghost use Rattle.redo_json.specs.Diagnostics.{diagnostics_of};
+ghost use Rattle.redo_json.specs.Diagnostics.{LogDiagnostic, diagnostics_of, flagged};
 ghost use Rattle.redo_json.specs.Every.{every_target};
-ghost use Rattle.redo_json.specs.Laws.{AllFollowing, AreReadBack, HasExactInputs, HasExactNumbers, HasLastParent, IsNeededByParent, IsOfLine, IsOfLog, IsReadBack, IsRequestedIfAlone, found_values, ids_in, keys_in, targets_in};
+ghost use Rattle.redo_json.specs.Laws.{AllFollowing, AreReadBack, HasExactInputs, HasExactNumbers, HasLastParent, IsNeededByParent, IsOfLine, IsOfLog, IsReadBack, IsRequestedIfAlone, flagged_by_line, found_values, ids_in, keys_in, targets_in, unflagged};
 ghost use Rattle.redo_json.specs.Object.{LogValues, object_of};
 ghost use Rattle.redo_json.specs.Text.{base64_of, bytes_from, exact_of, text_of};
 
@@ -48,7 +50,7 @@ pub fn objects_are_read()
 {}
 
 /// The numbers of a build's objects are below 2^53 if its times are in their range, its facts and the statuses in its logs have as many
-/// digits as lines and records may have, and no log has more than 2^53 entries.
+/// digits as lines and records may have, no log has more than 2^53 entries, and no log of the baseline has that many.
 pub fn numbers_are_exact()
     ensures { (request : Request) (logs : List Log) (requested : List (List ℕ)) → HasExactInputs request logs →
         AllByRecursion HasExactNumbers (build_values request logs requested) }
@@ -70,7 +72,8 @@ pub fn each_log_has_one_object()
     redo_view::each_log_once();
 }
 
-/// Each object has the values of one log: what this log says of its target, and what is known of this target.
+/// Each object has the values of one log: what this log says of its target, what is known of this target, and what changed in it since the
+/// baseline's log of the same target.
 pub fn objects_are_of_logs()
     ensures { (request : Request) (logs : List Log) (requested : List (List ℕ)) →
         AllByRecursion (IsOfLog request logs (build_events request logs requested)) (build_values request logs requested) }
@@ -104,4 +107,23 @@ pub fn diagnostics_are_of_lines()
     ensures all { (lines : List (List ℕ)) → found_values (diagnostics_of lines) ≡ filter_map diagnostic_of lines }
     ensures positions { (lines : List (List ℕ)) → AllByRecursion (IsOfLine lines) (diagnostics_of lines) }
     ensures ids { (lines : List (List ℕ)) → ids_in (diagnostics_of lines) ≡ numbered_keys (keys_in (diagnostics_of lines)) }
+{}
+
+/// A log has a flag for each diagnostic. A diagnostic is new exactly if one of the diagnostics that are new in this log is in its line.
+pub fn new_are_in_new_lines()
+    ensures flags { (earlier logs : List Log) (number : ℕ) →
+        length (are_new earlier logs number) ≡ length (diagnostics_of (texts_of (entries_at number logs))) }
+    ensures each { (flags : List Bool) (diagnostics : List LogDiagnostic) (position : ℕ) →
+        slice_get (flagged (Some flags) diagnostics) position
+        ≡ option_map (λ one. (one, slice_get flags position)) (slice_get diagnostics position) }
+    ensures lines { (earlier logs : List Log) (number : ℕ) →
+        flagged (Some (are_new earlier logs number)) (diagnostics_of (texts_of (entries_at number logs)))
+        ≡ map (flagged_by_line (new_in_log earlier logs number)) (diagnostics_of (texts_of (entries_at number logs))) }
+{}
+
+/// Without a baseline, no object says what changed, or which diagnostics are new.
+pub fn nothing_is_compared_without_baseline()
+    ensures changes { (request : Request) (logs : List Log) (requested : List (List ℕ)) → request.baseline ≡ None →
+        AllByRecursion (λ (values : LogValues). values.changes ≡ None) (build_values request logs requested) }
+    ensures diagnostics { (diagnostics : List LogDiagnostic) → flagged None diagnostics ≡ map unflagged diagnostics }
 {}

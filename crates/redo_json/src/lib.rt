@@ -14,10 +14,13 @@
 //!   exact bytes, lines that are stored together are tested together first: if all are UTF-8, no line is read.
 //! - The definition is a recursion over the tree of what is shown. The code iterates over the nodes of the outline.
 //! - Base64 is encoded in chunks of 768 bytes, on the stack, and written as the text of any string is. No proof knows its alphabet.
+//! - If there is a baseline, a log is compared before its object is written: `redo_compare` says of each diagnostic whether it is new, as a
+//!   list of flags, which are iterated over with the diagnostics.
 //! - Programs read numbers as doubles, so the law about reading has the premise that numbers are below 2^53.
 #![tactic(auto)]
 
 mod build;
+mod changes;
 mod diagnostics;
 mod escape;
 mod every;
@@ -33,12 +36,13 @@ mod part;
 mod plain;
 mod string;
 
-pub use build::{BuildRequest, write_build};
+pub use build::{BuildRequest, json_options, write_build};
 pub use every::every_target;
 pub use exact::write_base64;
 pub use laws::{
     bytes_are_recovered, diagnostics_are_of_lines, each_log_has_one_object, json_is_utf8,
-    needs_are_mentioned, numbers_are_exact, objects_are_of_logs, objects_are_read,
-    parents_mention_their_targets, strings_are_utf8,
+    needs_are_mentioned, new_are_in_new_lines, nothing_is_compared_without_baseline,
+    numbers_are_exact, objects_are_of_logs, objects_are_read, parents_mention_their_targets,
+    strings_are_utf8,
 };
 pub use string::write_string;

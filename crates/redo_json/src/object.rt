@@ -1,17 +1,20 @@
 //! The object of a log.
+ghost use Rattle.std.specs.Prelude.{◌≡◌, option_copied};
 ghost use Rattle.redo_device.specs.Sink.{Writes};
 ghost use Rattle.redo_line.specs.Lines.{with_line_feed};
 ghost use Rattle.redo_view.specs.Form.{FormWrites};
 ghost use Rattle.redo_json.specs.Build.{object_text};
-ghost use Rattle.redo_json.specs.Object.{number_fields};
+ghost use Rattle.redo_json.specs.Object.{new_flags, number_fields};
 ghost use Rattle.redo_json.specs.Private.Parts.{comma_fields, front_text};
 ghost use Rattle.redo_json.specs.Private.Values.{values_of};
 
+use crate::changes::write_baseline;
 use crate::diagnostics::write_diagnostics;
 use crate::field::{write_exact, write_number, write_optional_bytes, write_signed};
 use crate::lines::write_lines;
 use crate::list::write_list;
 use crate::part::{Part, write_parts};
+use redo_compare::TargetChanges;
 use redo_device::{Broken, Sink, push_all};
 use redo_line::HashKeys;
 use redo_logs::LogTable;
@@ -45,6 +48,8 @@ pub struct LogObject<'a> {
     pub table: &'a LogTable,
     /// The number of the log in this table.
     pub number: u32,
+    /// What changed in the target since the baseline, if there is one.
+    pub changes: Option<&'a TargetChanges>,
 }
 
 /// Writes the object of a log, and a line feed. The keys of diagnostics are hashed with `keys`.
@@ -57,9 +62,27 @@ pub fn write_object<W: Sink>(
     ensures { FormWrites (W.written out.old) (W.written out.new) (with_line_feed (object_text (values_of log.now))) result }
 {
     write_front(log, out)?;
-    write_diagnostics(alloc, keys, log.table, log.number, out)?;
+    write_diagnostics(
+        alloc,
+        keys,
+        new_flags(log.changes),
+        log.table,
+        log.number,
+        out,
+    )?;
+    write_baseline(log.changes, out)?;
     push_all(out, b"}\n")?;
     Ok(())
+}
+
+// Returns, for each diagnostic of a log, whether it is new, if there is a baseline.
+fn new_flags(changes: Option<&TargetChanges>) -> Option<&[bool]>
+    ensures { option_copied result ≡ new_flags (option_copied changes.entry) }
+{
+    match changes {
+        None => None,
+        Some(changes) => Some(changes.new()),
+    }
 }
 
 // Writes an object up to the text lines of the log.

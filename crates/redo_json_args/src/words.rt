@@ -73,7 +73,7 @@ fn arguments<'a>(alloc: Global) -> Result<Vec<Arg<'a>>, AllocError>
 {
     vec![in alloc;
         dir(alloc),
-        baseline(alloc).hide(true),
+        baseline(alloc),
         unchanged(alloc),
         flag(
             alloc,

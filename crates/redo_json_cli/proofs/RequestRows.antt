@@ -1,11 +1,16 @@
 -- Rows of what the JSON of a job is asked: each option reaches its own part of the request.
-use Rattle.std.proofs.Common.{◌≡◌, ℕ, Bool, true, false, List, [], ◌∷◌, ◌++◌, Option, None, Some, length, replicate, refl}
+use Rattle.std.proofs.Common.{◌≡◌, ℕ, pos, Bool, true, false, List, [], ◌∷◌, ◌++◌, Option, None, Some, length, map, option_map, replicate, refl}
 use Rattle.std.specs.Prelude.{codes}
 use Rattle.std.specs.List.{AllByRecursion}
+use Rattle.redo_compare.specs.Baseline.{BaselineValue}
 use Rattle.redo_facts.specs.Facts.{RecipeFacts, nothing}
+use Rattle.redo_line.specs.declared.entry.Entry.TheVariants.{Mention, Closing}
+use Rattle.redo_line.specs.declared.entry.How.TheVariants.{Unchanged}
+use Rattle.redo_outline.specs.declared.node.Node.{Node}
+use Rattle.redo_view.specs.Expansion.{show_log, show_log_within}
 use Rattle.redo_json.specs.Build.{Request, build_json}
 use Rattle.redo_json_args.specs.Job.{JsonParts}
-use Rattle.redo_json_cli.specs.Request.{job_json, request_for, shown_targets}
+use Rattle.redo_json_cli.specs.Request.{job_baseline, job_json, request_for, shown_targets}
 use Rattle.redo_logs.specs.Logs.{Log}
 use Rattle.redo_logs.specs.declared.log_state.LogState.TheVariants.{Ended}
 use Rattle.redo_times.specs.declared.times.Times.{Times}
@@ -43,7 +48,7 @@ record Row : Type 0 where
 abbrev row : Bool → Bool → List (List ℕ) → Row
 row unchanged every shown = record {
   job = job unchanged every;
-  request = record { unchanged = unchanged; times = times; facts = recipes };
+  request = record { unchanged = unchanged; times = times; facts = recipes; baseline = None };
   shown = shown;
 }
 
@@ -56,14 +61,42 @@ rows =
     ∷ row true true (codes "a" ∷ codes "b" ∷ codes "a" ∷ [])
     ∷ []
 
-these_requests : AllByRecursion (λ (r : Row). request_for r.job times recipes ≡ r.request) rows
+these_requests : AllByRecursion (λ (r : Row). request_for r.job times recipes None ≡ r.request) rows
 these_requests = (refl, (refl, (refl, (refl, tt))))
 
 these_targets : AllByRecursion (λ (r : Row). shown_targets r.job logs (codes "a" ∷ []) ≡ r.shown) rows
 these_targets = (refl, (refl, (refl, (refl, tt))))
 
-these_texts : AllByRecursion (λ (r : Row). job_json r.job times recipes logs (codes "a" ∷ []) ≡ build_json r.request logs r.shown) rows
+these_texts : AllByRecursion (λ (r : Row). job_json r.job times recipes None logs (codes "a" ∷ []) ≡ build_json r.request logs r.shown) rows
 these_texts = (refl, (refl, (refl, (refl, tt))))
+
+-- ---- a baseline
+
+-- An earlier build, in which `a` needed no rebuild of `b`, which had failed.
+abbrev earlier : List Log
+earlier =
+    record { target = codes "b"; entries = Closing 3 (pos 1) ∷ []; state = Ended }
+    ∷ record { target = codes "a"; entries = Mention 4 Unchanged (codes "b") ∷ []; state = Ended }
+    ∷ []
+
+-- The numbers of the logs that the outline of a baseline has, and whether a target in each of them failed.
+abbrev opened_in : Option BaselineValue → Option (List (ℕ × Bool))
+opened_in baseline =
+    option_map (λ (some : BaselineValue). map (λ (node : Node). (node.number, node.fails_below)) some.nodes) baseline
+
+these_baselines :
+    (job_baseline (job false true) (codes "a" ∷ []) None ≡ None)
+    × (option_map (λ (some : BaselineValue). some.logs) (job_baseline (job false true) (codes "a" ∷ []) (Some earlier)) ≡ Some earlier)
+    × (opened_in (job_baseline (job false true) (codes "a" ∷ []) (Some earlier)) ≡ Some ((1, false) ∷ (0, false) ∷ []))
+    × (opened_in (job_baseline (job true false) (codes "a" ∷ []) (Some earlier)) ≡ Some ((1, true) ∷ (0, false) ∷ []))
+    × (opened_in (job_baseline (job false false) (codes "z" ∷ codes "b" ∷ []) (Some earlier)) ≡ Some ((0, false) ∷ (1, false) ∷ []))
+unfolding show_log show_log_within
+these_baselines = (refl, refl, refl, refl, refl)
+
+-- A request has the baseline of the shown targets.
+these_compared : AllByRecursion (λ (r : Row). job_json r.job times recipes (Some earlier) logs (codes "a" ∷ [])
+    ≡ build_json (record r.request { baseline = job_baseline r.job r.shown (Some earlier) }) logs r.shown) rows
+these_compared = (refl, (refl, (refl, (refl, tt))))
 
 -- The targets of 301 logs, and the times and facts of as many targets.
 abbrev many : List Log

@@ -1,10 +1,15 @@
-ghost use Rattle.std.specs.Prelude.{◌≡◌, true, None};
+ghost use Rattle.std.specs.Prelude.{◌≡◌, true, None, option_copied};
+ghost use Rattle.std.specs.List.{list_all};
 ghost use Rattle.redo_command.specs.Facts.{AreBuildFacts};
+ghost use Rattle.redo_logs.specs.Logs.{has_ended};
+ghost use Rattle.redo_view.specs.Form.{FormWrites};
+ghost use Rattle.redo_view.specs.View.{find_unknown};
 ghost use Rattle.redo_json.specs.Build.{request_of};
-ghost use Rattle.redo_json_cli.specs.Request.{job_json, request_for};
+ghost use Rattle.redo_json_cli.specs.Request.{job_json, json_of_targets, request_for};
 
 use redo_command::{BaselineLogs, BuildFacts, Index, Job, OpenFacts, OpenLog, read_build_facts};
-use redo_json::{BuildRequest, every_target, write_build};
+use redo_compare::Baseline;
+use redo_json::{BuildRequest, every_target, json_options, write_build};
 use redo_json_args::JsonJob;
 use redo_line::{Sink, TargetName};
 use redo_logs::LogTable;
@@ -26,7 +31,7 @@ impl Job for BuildJob {
 
     ghost are_facts = { λ build logs file index facts. AreBuildFacts logs file index facts };
 
-    ghost text = { λ build facts baseline. job_json build.job facts.times.items facts.recipes.items };
+    ghost text = { λ build facts baseline. job_json build.job facts.times.items facts.recipes.items baseline };
 
     ghost arguments = { λ build. build.job.targets };
 
@@ -68,30 +73,64 @@ impl Job for BuildJob {
     fn render<W: Sink>(
         &self,
         facts: &BuildFacts,
-        _baseline: Option<&BaselineLogs>,
+        baseline: Option<&BaselineLogs>,
         alloc: Global,
         table: &LogTable,
         requested: &[TargetName],
         out: &mut W,
     ) -> Result<(), FormFault> {
-        let request = request_for(&self.job, facts);
         if self.job.every() {
             let targets = every_target(alloc, table, requested)?;
-            write_build(alloc, table, &request, &targets, out)
+            write_targets(&self.job, facts, baseline, alloc, table, &targets, out)
         } else {
-            write_build(alloc, table, &request, requested, out)
+            write_targets(&self.job, facts, baseline, alloc, table, requested, out)
+        }
+    }
+}
+
+// Writes the JSON of these targets.
+fn write_targets<W: Sink>(
+    job: &JsonJob,
+    facts: &BuildFacts,
+    baseline: Option<&BaselineLogs>,
+    alloc: Global,
+    table: &LogTable,
+    targets: &[TargetName],
+    out: &mut W,
+) -> Result<(), FormFault>
+    requires ended { list_all has_ended table.now ≡ true }
+    requires known { find_unknown table.now targets.now ≡ None }
+    ensures { FormWrites (W.written out.old) (W.written out.new) (json_of_targets job.now facts.now.times.items facts.now.recipes.items
+        (option_copied baseline.entry) table.now targets.now) result }
+{
+    match baseline {
+        None => {
+            let request = request_for(job, facts, None);
+            write_build(alloc, table, &request, targets, out)
+        }
+        Some(earlier) => {
+            let options = json_options(job.unchanged());
+            let baseline = Baseline::new(alloc, facts.keys, earlier.table(), &options, targets)?;
+            let request = request_for(job, facts, Some(&baseline));
+            write_build(alloc, table, &request, targets, out)
         }
     }
 }
 
 // Returns the request for the JSON of a job.
-fn request_for<'a>(job: &JsonJob, facts: &'a BuildFacts) -> BuildRequest<'a>
-    ensures { request_of result ≡ request_for job.entry.now facts.entry.now.times.items facts.entry.now.recipes.items }
+fn request_for<'a>(
+    job: &JsonJob,
+    facts: &'a BuildFacts,
+    baseline: Option<&'a Baseline<'a>>,
+) -> BuildRequest<'a>
+    ensures { request_of result ≡ request_for job.entry.now facts.entry.now.times.items facts.entry.now.recipes.items
+        (option_copied baseline.entry) }
 {
     BuildRequest {
         unchanged: job.unchanged(),
         times: &facts.times,
         facts: &facts.recipes,
+        baseline,
         keys: facts.keys,
     }
 }

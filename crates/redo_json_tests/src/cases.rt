@@ -86,7 +86,7 @@ pub const BUILDS: [Build; 6] = [
         "1 all\n2 file.o\n",
         "2 log file.o\n2 directory .\n2 command gcc .. -c -o file.o file.c\n2 usage 60 20 28228\n",
         &[b"all"],
-        b"{\"target\":\"all\",\"parent\":null,\"status\":1,\"start_ms\":null,\"end_ms\":null,\"cpu_ms\":null,\"peak_kb\":null,\"directory\":null,\"commands\":[],\"needs\":[\"file.o\"],\"lines\":[],\"diagnostics\":[]}\n{\"target\":\"file.o\",\"parent\":\"all\",\"status\":1,\"start_ms\":1795869824764,\"end_ms\":1795869826162,\"cpu_ms\":80,\"peak_kb\":28228,\"directory\":\".\",\"commands\":[\"gcc .. -c -o file.o file.c\"],\"needs\":[],\"lines\":[\"file.c: In function \xe2\x80\x98f\xe2\x80\x99:\",\"file.c:870:38: error: expected \xe2\x80\x98;\xe2\x80\x99 before \xe2\x80\x98}\xe2\x80\x99 token\"],\"diagnostics\":[{\"line\":1,\"severity\":\"error\",\"file\":\"file.c\",\"row\":870,\"column\":38,\"message\":\"expected \xe2\x80\x98;\xe2\x80\x99 before \xe2\x80\x98}\xe2\x80\x99 token\",\"flag\":null,\"key\":\"file.c: error: expected \xe2\x80\x98;\xe2\x80\x99 before \xe2\x80\x98}\xe2\x80\x99 token\",\"nth\":0}]}\n",
+        b"{\"target\":\"all\",\"parent\":null,\"status\":1,\"start_ms\":null,\"end_ms\":null,\"cpu_ms\":null,\"peak_kb\":null,\"directory\":null,\"commands\":[],\"needs\":[\"file.o\"],\"lines\":[],\"diagnostics\":[],\"baseline\":null}\n{\"target\":\"file.o\",\"parent\":\"all\",\"status\":1,\"start_ms\":1795869824764,\"end_ms\":1795869826162,\"cpu_ms\":80,\"peak_kb\":28228,\"directory\":\".\",\"commands\":[\"gcc .. -c -o file.o file.c\"],\"needs\":[],\"lines\":[\"file.c: In function \xe2\x80\x98f\xe2\x80\x99:\",\"file.c:870:38: error: expected \xe2\x80\x98;\xe2\x80\x99 before \xe2\x80\x98}\xe2\x80\x99 token\"],\"diagnostics\":[{\"line\":1,\"severity\":\"error\",\"file\":\"file.c\",\"row\":870,\"column\":38,\"message\":\"expected \xe2\x80\x98;\xe2\x80\x99 before \xe2\x80\x98}\xe2\x80\x99 token\",\"flag\":null,\"key\":\"file.c: error: expected \xe2\x80\x98;\xe2\x80\x99 before \xe2\x80\x98}\xe2\x80\x99 token\",\"nth\":0,\"new\":null}],\"baseline\":null}\n",
     ),
     (
         &[(
@@ -101,7 +101,7 @@ pub const BUILDS: [Build; 6] = [
         "1 all\n",
         "1 log other\n1 directory /d\n",
         &[b"all"],
-        b"{\"target\":\"all\",\"parent\":null,\"status\":null,\"start_ms\":1000000000000,\"end_ms\":null,\"cpu_ms\":null,\"peak_kb\":null,\"directory\":null,\"commands\":[],\"needs\":[\"x\xef\xbf\xbd\",\"y\"],\"needs_base64\":{\"0\":\"eP8=\"},\"lines\":[\"caf\xef\xbf\xbd\"],\"lines_base64\":{\"0\":\"Y2Fm6Q==\"},\"diagnostics\":[]}\n",
+        b"{\"target\":\"all\",\"parent\":null,\"status\":null,\"start_ms\":1000000000000,\"end_ms\":null,\"cpu_ms\":null,\"peak_kb\":null,\"directory\":null,\"commands\":[],\"needs\":[\"x\xef\xbf\xbd\",\"y\"],\"needs_base64\":{\"0\":\"eP8=\"},\"lines\":[\"caf\xef\xbf\xbd\"],\"lines_base64\":{\"0\":\"Y2Fm6Q==\"},\"diagnostics\":[],\"baseline\":null}\n",
     ),
     (
         &[
@@ -122,7 +122,7 @@ pub const BUILDS: [Build; 6] = [
         "1 c\n2 a\n",
         "2 log a\n2 directory x\n2 usage 1 2 3\n2 command cc\n2 more x\n2 truncated cut\n2 command \n2 usage 999999999999998 1 7\n2 directory d e\n",
         &[b"d", b"a", b"b", b"e"],
-        b"{\"target\":\"d\",\"parent\":null,\"status\":3,\"start_ms\":null,\"end_ms\":null,\"cpu_ms\":null,\"peak_kb\":null,\"directory\":null,\"commands\":[],\"needs\":[],\"lines\":[\"\xef\xbf\xbda: warning: \xef\xbf\xbd [\xef\xbf\xbd]\",\"warning: b\",\"\"],\"lines_base64\":{\"0\":\"/2E6IHdhcm5pbmc6IP4gW/1d\"},\"diagnostics\":[{\"line\":0,\"severity\":\"warning\",\"file\":null,\"row\":null,\"column\":null,\"message\":\"\xef\xbf\xbd\",\"message_base64\":\"/g==\",\"flag\":\"\xef\xbf\xbd\",\"flag_base64\":\"/Q==\",\"key\":\"\xef\xbf\xbda: warning: \xef\xbf\xbd [\xef\xbf\xbd]\",\"key_base64\":\"/2E6IHdhcm5pbmc6IP4gW/1d\",\"nth\":0},{\"line\":1,\"severity\":\"warning\",\"file\":null,\"row\":null,\"column\":null,\"message\":\"b\",\"flag\":null,\"key\":\": warning: b\",\"nth\":0}]}\n{\"target\":\"a\",\"parent\":null,\"status\":null,\"start_ms\":null,\"end_ms\":null,\"cpu_ms\":999999999999999,\"peak_kb\":7,\"directory\":\"d e\",\"commands\":[\"cc\\nx\",\"\"],\"needs\":[\"b\",\"c\"],\"lines\":[\"one\",\"a.c:1:2: warning: x [-Wx]\",\"a.c:9:9: warning: x [-Wx]\",\"b.c:9: warning: y\",\"a.c:3: warning: x [-Wx]\"],\"diagnostics\":[{\"line\":1,\"severity\":\"warning\",\"file\":\"a.c\",\"row\":1,\"column\":2,\"message\":\"x\",\"flag\":\"-Wx\",\"key\":\"a.c: warning: x [-Wx]\",\"nth\":0},{\"line\":2,\"severity\":\"warning\",\"file\":\"a.c\",\"row\":9,\"column\":9,\"message\":\"x\",\"flag\":\"-Wx\",\"key\":\"a.c: warning: x [-Wx]\",\"nth\":1},{\"line\":3,\"severity\":\"warning\",\"file\":\"b.c\",\"row\":9,\"column\":null,\"message\":\"y\",\"flag\":null,\"key\":\"b.c: warning: y\",\"nth\":0},{\"line\":4,\"severity\":\"warning\",\"file\":\"a.c\",\"row\":3,\"column\":null,\"message\":\"x\",\"flag\":\"-Wx\",\"key\":\"a.c: warning: x [-Wx]\",\"nth\":2}]}\n{\"target\":\"b\",\"parent\":\"a\",\"status\":0,\"start_ms\":null,\"end_ms\":null,\"cpu_ms\":null,\"peak_kb\":null,\"directory\":null,\"commands\":[],\"needs\":[\"d\",\"a\"],\"lines\":[],\"diagnostics\":[]}\n{\"target\":\"c\",\"parent\":\"a\",\"status\":-2,\"start_ms\":null,\"end_ms\":null,\"cpu_ms\":null,\"peak_kb\":null,\"directory\":null,\"commands\":[],\"needs\":[],\"lines\":[],\"diagnostics\":[]}\n{\"target\":\"e\",\"parent\":null,\"status\":null,\"start_ms\":null,\"end_ms\":null,\"cpu_ms\":null,\"peak_kb\":null,\"directory\":null,\"commands\":[],\"needs\":[],\"lines\":[\"fatal error: all is lost\"],\"diagnostics\":[{\"line\":0,\"severity\":\"fatal error\",\"file\":null,\"row\":null,\"column\":null,\"message\":\"all is lost\",\"flag\":null,\"key\":\": fatal error: all is lost\",\"nth\":0}]}\n",
+        b"{\"target\":\"d\",\"parent\":null,\"status\":3,\"start_ms\":null,\"end_ms\":null,\"cpu_ms\":null,\"peak_kb\":null,\"directory\":null,\"commands\":[],\"needs\":[],\"lines\":[\"\xef\xbf\xbda: warning: \xef\xbf\xbd [\xef\xbf\xbd]\",\"warning: b\",\"\"],\"lines_base64\":{\"0\":\"/2E6IHdhcm5pbmc6IP4gW/1d\"},\"diagnostics\":[{\"line\":0,\"severity\":\"warning\",\"file\":null,\"row\":null,\"column\":null,\"message\":\"\xef\xbf\xbd\",\"message_base64\":\"/g==\",\"flag\":\"\xef\xbf\xbd\",\"flag_base64\":\"/Q==\",\"key\":\"\xef\xbf\xbda: warning: \xef\xbf\xbd [\xef\xbf\xbd]\",\"key_base64\":\"/2E6IHdhcm5pbmc6IP4gW/1d\",\"nth\":0,\"new\":null},{\"line\":1,\"severity\":\"warning\",\"file\":null,\"row\":null,\"column\":null,\"message\":\"b\",\"flag\":null,\"key\":\": warning: b\",\"nth\":0,\"new\":null}],\"baseline\":null}\n{\"target\":\"a\",\"parent\":null,\"status\":null,\"start_ms\":null,\"end_ms\":null,\"cpu_ms\":999999999999999,\"peak_kb\":7,\"directory\":\"d e\",\"commands\":[\"cc\\nx\",\"\"],\"needs\":[\"b\",\"c\"],\"lines\":[\"one\",\"a.c:1:2: warning: x [-Wx]\",\"a.c:9:9: warning: x [-Wx]\",\"b.c:9: warning: y\",\"a.c:3: warning: x [-Wx]\"],\"diagnostics\":[{\"line\":1,\"severity\":\"warning\",\"file\":\"a.c\",\"row\":1,\"column\":2,\"message\":\"x\",\"flag\":\"-Wx\",\"key\":\"a.c: warning: x [-Wx]\",\"nth\":0,\"new\":null},{\"line\":2,\"severity\":\"warning\",\"file\":\"a.c\",\"row\":9,\"column\":9,\"message\":\"x\",\"flag\":\"-Wx\",\"key\":\"a.c: warning: x [-Wx]\",\"nth\":1,\"new\":null},{\"line\":3,\"severity\":\"warning\",\"file\":\"b.c\",\"row\":9,\"column\":null,\"message\":\"y\",\"flag\":null,\"key\":\"b.c: warning: y\",\"nth\":0,\"new\":null},{\"line\":4,\"severity\":\"warning\",\"file\":\"a.c\",\"row\":3,\"column\":null,\"message\":\"x\",\"flag\":\"-Wx\",\"key\":\"a.c: warning: x [-Wx]\",\"nth\":2,\"new\":null}],\"baseline\":null}\n{\"target\":\"b\",\"parent\":\"a\",\"status\":0,\"start_ms\":null,\"end_ms\":null,\"cpu_ms\":null,\"peak_kb\":null,\"directory\":null,\"commands\":[],\"needs\":[\"d\",\"a\"],\"lines\":[],\"diagnostics\":[],\"baseline\":null}\n{\"target\":\"c\",\"parent\":\"a\",\"status\":-2,\"start_ms\":null,\"end_ms\":null,\"cpu_ms\":null,\"peak_kb\":null,\"directory\":null,\"commands\":[],\"needs\":[],\"lines\":[],\"diagnostics\":[],\"baseline\":null}\n{\"target\":\"e\",\"parent\":null,\"status\":null,\"start_ms\":null,\"end_ms\":null,\"cpu_ms\":null,\"peak_kb\":null,\"directory\":null,\"commands\":[],\"needs\":[],\"lines\":[\"fatal error: all is lost\"],\"diagnostics\":[{\"line\":0,\"severity\":\"fatal error\",\"file\":null,\"row\":null,\"column\":null,\"message\":\"all is lost\",\"flag\":null,\"key\":\": fatal error: all is lost\",\"nth\":0,\"new\":null}],\"baseline\":null}\n",
     ),
     (
         &[
@@ -134,7 +134,7 @@ pub const BUILDS: [Build; 6] = [
         "",
         "",
         &[b"a"],
-        b"{\"target\":\"a\",\"parent\":null,\"status\":null,\"start_ms\":null,\"end_ms\":null,\"cpu_ms\":null,\"peak_kb\":null,\"directory\":null,\"commands\":[],\"needs\":[\"b\"],\"lines\":[],\"diagnostics\":[]}\n",
+        b"{\"target\":\"a\",\"parent\":null,\"status\":null,\"start_ms\":null,\"end_ms\":null,\"cpu_ms\":null,\"peak_kb\":null,\"directory\":null,\"commands\":[],\"needs\":[\"b\"],\"lines\":[],\"diagnostics\":[],\"baseline\":null}\n",
     ),
     (
         &[
@@ -146,7 +146,7 @@ pub const BUILDS: [Build; 6] = [
         "",
         "",
         &[b"a"],
-        b"{\"target\":\"a\",\"parent\":null,\"status\":null,\"start_ms\":null,\"end_ms\":null,\"cpu_ms\":null,\"peak_kb\":null,\"directory\":null,\"commands\":[],\"needs\":[\"b\"],\"lines\":[],\"diagnostics\":[]}\n{\"target\":\"b\",\"parent\":\"a\",\"status\":null,\"start_ms\":null,\"end_ms\":null,\"cpu_ms\":null,\"peak_kb\":null,\"directory\":null,\"commands\":[],\"needs\":[],\"lines\":[\"x\\r\",\"\\ty\"],\"diagnostics\":[]}\n",
+        b"{\"target\":\"a\",\"parent\":null,\"status\":null,\"start_ms\":null,\"end_ms\":null,\"cpu_ms\":null,\"peak_kb\":null,\"directory\":null,\"commands\":[],\"needs\":[\"b\"],\"lines\":[],\"diagnostics\":[],\"baseline\":null}\n{\"target\":\"b\",\"parent\":\"a\",\"status\":null,\"start_ms\":null,\"end_ms\":null,\"cpu_ms\":null,\"peak_kb\":null,\"directory\":null,\"commands\":[],\"needs\":[],\"lines\":[\"x\\r\",\"\\ty\"],\"diagnostics\":[],\"baseline\":null}\n",
     ),
     (
         &[
@@ -159,5 +159,63 @@ pub const BUILDS: [Build; 6] = [
         "",
         &[],
         b"",
+    ),
+];
+
+/// The targets of an earlier build and of this one, with their streams; the requested targets, whether unchanged targets are shown, and the
+/// JSON. The JSON is written by hand; Python's `json` reads it.
+pub type Compared = (
+    &'static [(&'static [u8], &'static [u8])],
+    &'static [(&'static [u8], &'static [u8])],
+    &'static [&'static [u8]],
+    bool,
+    &'static [u8],
+);
+
+// A warning moved, an equal one before it is new, and another one is gone. `a` fails now, `b` is fixed, and `c` is new. `all` fails because of
+// `a`.
+const EARLIER: &[(&[u8], &[u8])] = &[
+    (
+        b"gone",
+        b"error: nobody builds this\n@@REDO:done:2:1@@ 1 gone\n",
+    ),
+    (b"b", b"b.c:1: error: z\n@@REDO:done:3:1@@ 2 b\n"),
+    (
+        b"a",
+        b"a.c:1:5: warning: x\n    1 | int i;\na.c:2:5: warning: y\n@@REDO:done:4:1@@ 0 a\n",
+    ),
+    (
+        b"all",
+        b"@@REDO:do:5:1@@ a\n@@REDO:do:5:1@@ b\n@@REDO:done:5:1@@ 2 all\n",
+    ),
+];
+
+const NOW: &[(&[u8], &[u8])] = &[
+    (
+        b"all",
+        b"@@REDO:do:5:1@@ a\n@@REDO:do:5:1@@ b\n@@REDO:do:5:1@@ c\n@@REDO:done:5:1@@ 2 all\n",
+    ),
+    (
+        b"a",
+        b"a.c:1:5: warning: x\n    1 | int h;\na.c:7:5: warning: x\n    7 | int i;\n@@REDO:done:6:1@@ 1 a\n",
+    ),
+    (b"b", b"@@REDO:done:7:1@@ 0 b\n"),
+    (b"c", b"error: \xff\n"),
+];
+
+pub const COMPARED: [Compared; 2] = [
+    (
+        EARLIER,
+        NOW,
+        &[b"all"],
+        false,
+        b"{\"target\":\"all\",\"parent\":null,\"status\":2,\"start_ms\":null,\"end_ms\":null,\"cpu_ms\":null,\"peak_kb\":null,\"directory\":null,\"commands\":[],\"needs\":[\"a\",\"b\",\"c\"],\"lines\":[],\"diagnostics\":[],\"baseline\":{\"built\":true,\"gone\":0,\"newly_fails\":false,\"fixed\":false}}\n{\"target\":\"a\",\"parent\":\"all\",\"status\":1,\"start_ms\":null,\"end_ms\":null,\"cpu_ms\":null,\"peak_kb\":null,\"directory\":null,\"commands\":[],\"needs\":[],\"lines\":[\"a.c:1:5: warning: x\",\"    1 | int h;\",\"a.c:7:5: warning: x\",\"    7 | int i;\"],\"diagnostics\":[{\"line\":0,\"severity\":\"warning\",\"file\":\"a.c\",\"row\":1,\"column\":5,\"message\":\"x\",\"flag\":null,\"key\":\"a.c: warning: x\",\"nth\":0,\"new\":true},{\"line\":2,\"severity\":\"warning\",\"file\":\"a.c\",\"row\":7,\"column\":5,\"message\":\"x\",\"flag\":null,\"key\":\"a.c: warning: x\",\"nth\":1,\"new\":false}],\"baseline\":{\"built\":true,\"gone\":1,\"newly_fails\":true,\"fixed\":false}}\n{\"target\":\"b\",\"parent\":\"all\",\"status\":0,\"start_ms\":null,\"end_ms\":null,\"cpu_ms\":null,\"peak_kb\":null,\"directory\":null,\"commands\":[],\"needs\":[],\"lines\":[],\"diagnostics\":[],\"baseline\":{\"built\":true,\"gone\":1,\"newly_fails\":false,\"fixed\":true}}\n{\"target\":\"c\",\"parent\":\"all\",\"status\":null,\"start_ms\":null,\"end_ms\":null,\"cpu_ms\":null,\"peak_kb\":null,\"directory\":null,\"commands\":[],\"needs\":[],\"lines\":[\"error: \xef\xbf\xbd\"],\"lines_base64\":{\"0\":\"ZXJyb3I6IP8=\"},\"diagnostics\":[{\"line\":0,\"severity\":\"error\",\"file\":null,\"row\":null,\"column\":null,\"message\":\"\xef\xbf\xbd\",\"message_base64\":\"/w==\",\"flag\":null,\"key\":\": error: \xef\xbf\xbd\",\"key_base64\":\"OiBlcnJvcjog/w==\",\"nth\":0,\"new\":true}],\"baseline\":{\"built\":false,\"gone\":0,\"newly_fails\":false,\"fixed\":false}}\n",
+    ),
+    (
+        NOW,
+        NOW,
+        &[b"a"],
+        true,
+        b"{\"target\":\"a\",\"parent\":null,\"status\":1,\"start_ms\":null,\"end_ms\":null,\"cpu_ms\":null,\"peak_kb\":null,\"directory\":null,\"commands\":[],\"needs\":[],\"lines\":[\"a.c:1:5: warning: x\",\"    1 | int h;\",\"a.c:7:5: warning: x\",\"    7 | int i;\"],\"diagnostics\":[{\"line\":0,\"severity\":\"warning\",\"file\":\"a.c\",\"row\":1,\"column\":5,\"message\":\"x\",\"flag\":null,\"key\":\"a.c: warning: x\",\"nth\":0,\"new\":false},{\"line\":2,\"severity\":\"warning\",\"file\":\"a.c\",\"row\":7,\"column\":5,\"message\":\"x\",\"flag\":null,\"key\":\"a.c: warning: x\",\"nth\":1,\"new\":false}],\"baseline\":{\"built\":true,\"gone\":0,\"newly_fails\":false,\"fixed\":false}}\n",
     ),
 ];

@@ -2,16 +2,16 @@
 use Rattle.std.specs.Prelude.{ℕ, ◌≤◌, Bool, List, Option, length}
 use Rattle.redo_device.specs.Sink.{Output}
 use Rattle.redo_diagnostics.specs.Counts.{AreCounts}
-use Rattle.redo_json.specs.Diagnostics.{numbered_from, placed_from}
+use Rattle.redo_json.specs.Diagnostics.{flagged, numbered_from, placed_from}
 use Rattle.redo_json.specs.Private.LogLines.{Remaining}
 use Rattle.redo_json.specs.Private.Parts.{diagnostics_text}
 use Rattle.redo_json.specs.Private.Writing.{WroteUpTo}
 
--- Of a text, everything except the diagnostics of these lines was written. `keys` are the keys of the diagnostics before them.
-pub record WroteDiagnostics (before after : Option Output) (text : List ℕ) (is_first : Bool) (lines : Remaining) (counts : List (List ℕ ×
-    ℕ))
-    : Type 0 where
+-- Of a text, everything except the diagnostics of these lines was written, which have these flags. `keys` are the keys of the diagnostics
+-- before them.
+pub record WroteDiagnostics (before after : Option Output) (text : List ℕ) (is_first : Bool) (flags : Option (List Bool)) (lines : Remaining)
+    (counts : List (List ℕ × ℕ)) : Type 0 where
   pub keys : List (List ℕ)
   pub counted : AreCounts counts keys
   pub few : length keys ≤ lines.done
-  pub wrote : WroteUpTo before after text (diagnostics_text is_first (numbered_from keys (placed_from lines.done lines.left)))
+  pub wrote : WroteUpTo before after text (diagnostics_text is_first (flagged flags (numbered_from keys (placed_from lines.done lines.left))))

@@ -8,7 +8,7 @@ use Rattle.json.specs.Tree.{json_tokens}
 use Rattle.redo_json.specs.declared.part.Part.{Part}
 use Rattle.redo_json.specs.declared.part.Part.TheVariants.{Base64, Escaped, Json, Number, Position, Signed, Text}
 use Rattle.redo_diagnostics.specs.Diagnostic.{PlaceValue}
-use Rattle.redo_json.specs.Diagnostics.{LogDiagnostic, diagnostic_fields}
+use Rattle.redo_json.specs.Diagnostics.{FlaggedDiagnostic, diagnostic_fields}
 use Rattle.redo_json.specs.Fields.{Field, exact_fields, exact_items, exact_name, field, list_fields, number_value, object_with, optional_bytes_fields}
 use Rattle.redo_json.specs.Object.{LogValues, number_fields}
 use Rattle.redo_json.specs.Text.{base64_of, exact_of, text_of}
@@ -68,10 +68,10 @@ place_text place =
     ++ comma_field (field (codes "column") (number_value (option_and_then (λ (place : PlaceValue). place.column) place))))
 
 -- The object of a diagnostic, with the comma before it.
-abbrev pub diagnostic_text : Bool → LogDiagnostic → List ℕ
-diagnostic_text is_first one = comma_if is_first ++ print (json_tokens (object_with (diagnostic_fields one)))
+abbrev pub diagnostic_text : Bool → FlaggedDiagnostic → List ℕ
+diagnostic_text is_first one = comma_if is_first ++ print (json_tokens (object_with (diagnostic_fields one.0 one.1)))
 
-abbrev pub diagnostics_text : Bool → List LogDiagnostic → List ℕ
+abbrev pub diagnostics_text : Bool → List FlaggedDiagnostic → List ℕ
 diagnostics_text is_first [] = []
 diagnostics_text is_first (one ∷ others) = diagnostic_text is_first one ++ diagnostics_text false others
 

@@ -23,6 +23,7 @@ values_of log = record {
   commands = map (λ bytes. bytes.now) log.commands.now;
   needs = map (λ bytes. bytes.now) log.needs.now;
   lines = texts_of (entries_at log.number log.table.now);
+  changes = option_copied log.changes;
 }
 
 -- The target of the node at this position.
@@ -32,7 +33,7 @@ parent_name logs nodes (Some position) = option_map (λ (node : Node). target_at
 
 -- The values of the log of one of these nodes.
 abbrev pub node_values : Request → List Log → List Node → Node → LogValues
-node_values request logs nodes node = log_values request logs (parent_name logs nodes node.parent) node.status node.number
+node_values request logs nodes node = log_values request logs (parent_name logs nodes node.parent) node
 
 -- What is known of a recipe is what these facts say.
 pub record IsRecipeOf (facts : RecipeFacts) (recipe : Recipe) : Type 0 where

@@ -10,5 +10,5 @@ returns-in_err-outline g c = no_memory _ _ _ c.from_residual.ensures.1
 pub returns : goal.returns
 returns g c =
     subst (λ (text : List ℕ). FormWrites (g.W.Sink.written c.args.out.now) (g.W.Sink.written c.write_logs.new.out) text c.write_logs.result)
-    (build_text (request_of c.args.request.now) c.args.table.now c.args.requested.now _ _ c.options_of.ensures
+    (build_text (request_of c.args.request.now) c.args.table.now c.args.requested.now _ _ c.json_options.ensures
     (c.nodes.ensures ∙ c.in_ok-outline.ensures)) c.write_logs.ensures

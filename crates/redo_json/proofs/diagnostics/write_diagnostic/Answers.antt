@@ -1,5 +1,5 @@
-use Rattle.std.proofs.Common.{ℕ, List, [], ◌∷◌, ◌++◌, Option, Some, Ok, Err, ap}
-use Rattle.std.specs.Prelude.{codes, decimal}
+use Rattle.std.proofs.Common.{ℕ, List, ◌++◌, Option, Ok, Err, ap}
+use Rattle.std.specs.Prelude.{codes}
 use Rattle.json.specs.Json.{string}
 use Rattle.redo_diagnostics.specs.declared.severity.Severity.{Severity}
 use Rattle.redo_json.specs.Diagnostics.{LogDiagnostic, severity_name}
@@ -25,10 +25,10 @@ returns-in_err-write_parts g c =
     let message = comma_fields (bytes_fields (codes "message") value.message) in
     let flag = comma_fields (optional_bytes_fields (codes "flag") value.flag) in
     let key = comma_fields (bytes_fields (codes "key") value.key) in
-    let last = last_text c.args.nth in
-    let whole = diagnostic_text c.args.is_first one in
+    let last = last_text c.args.nth c.args.new in
+    let whole = diagnostic_text c.args.is_first (one, c.args.new) in
     failed_part _ _ _ whole first (severity ++ (place ++ (message ++ (flag ++ (key ++ last))))) _ _ c.from_residual.ensures.0
-    (begin (g.W.Sink.written c.args.out.now) whole _ (diagnostic_parts one c.args.is_first))
+    (begin (g.W.Sink.written c.args.out.now) whole _ (diagnostic_parts one c.args.new c.args.is_first))
     (writes_as _ _ _ first (Err _) (first_is c.args.is_first c.args.position _ c.object_start.ensures)
     c.in_err-write_parts.ensures)
 
@@ -42,11 +42,11 @@ returns-in_err-write_severity g c =
     let message = comma_fields (bytes_fields (codes "message") value.message) in
     let flag = comma_fields (optional_bytes_fields (codes "flag") value.flag) in
     let key = comma_fields (bytes_fields (codes "key") value.key) in
-    let last = last_text c.args.nth in
-    let whole = diagnostic_text c.args.is_first one in
+    let last = last_text c.args.nth c.args.new in
+    let whole = diagnostic_text c.args.is_first (one, c.args.new) in
     failed_part _ _ _ whole severity (place ++ (message ++ (flag ++ (key ++ last)))) _ _ c.from_residual-in_err-write_severity.ensures.0
     (wrote_more _ _ _ _ first (severity ++ (place ++ (message ++ (flag ++ (key ++ last)))))
-    (begin (g.W.Sink.written c.args.out.now) whole _ (diagnostic_parts one c.args.is_first))
+    (begin (g.W.Sink.written c.args.out.now) whole _ (diagnostic_parts one c.args.new c.args.is_first))
     (writes_as _ _ _ first (Ok tt) (first_is c.args.is_first c.args.position _ c.object_start.ensures)
     c.in_ok-write_parts.ensures))
     (writes_as _ _ _ severity (Err _) (ap (λ (s : Severity). comma_field (field (codes "severity") (string (severity_name s)))) c.severity.ensures)
@@ -62,12 +62,12 @@ returns-in_err-write_place g c =
     let message = comma_fields (bytes_fields (codes "message") value.message) in
     let flag = comma_fields (optional_bytes_fields (codes "flag") value.flag) in
     let key = comma_fields (bytes_fields (codes "key") value.key) in
-    let last = last_text c.args.nth in
-    let whole = diagnostic_text c.args.is_first one in
+    let last = last_text c.args.nth c.args.new in
+    let whole = diagnostic_text c.args.is_first (one, c.args.new) in
     failed_part _ _ _ whole place (message ++ (flag ++ (key ++ last))) _ _ c.from_residual-in_err-write_place.ensures.0
     (wrote_more _ _ _ _ severity (place ++ (message ++ (flag ++ (key ++ last))))
     (wrote_more _ _ _ _ first (severity ++ (place ++ (message ++ (flag ++ (key ++ last)))))
-    (begin (g.W.Sink.written c.args.out.now) whole _ (diagnostic_parts one c.args.is_first))
+    (begin (g.W.Sink.written c.args.out.now) whole _ (diagnostic_parts one c.args.new c.args.is_first))
     (writes_as _ _ _ first (Ok tt) (first_is c.args.is_first c.args.position _ c.object_start.ensures)
     c.in_ok-write_parts.ensures))
     (writes_as _ _ _ severity (Ok tt) (ap (λ (s : Severity). comma_field (field (codes "severity") (string (severity_name s)))) c.severity.ensures)
@@ -85,13 +85,13 @@ returns-in_err-write_bytes g c =
     let message = comma_fields (bytes_fields (codes "message") value.message) in
     let flag = comma_fields (optional_bytes_fields (codes "flag") value.flag) in
     let key = comma_fields (bytes_fields (codes "key") value.key) in
-    let last = last_text c.args.nth in
-    let whole = diagnostic_text c.args.is_first one in
+    let last = last_text c.args.nth c.args.new in
+    let whole = diagnostic_text c.args.is_first (one, c.args.new) in
     failed_part _ _ _ whole message (flag ++ (key ++ last)) _ _ c.from_residual-in_err-write_bytes.ensures.0
     (wrote_more _ _ _ _ place (message ++ (flag ++ (key ++ last)))
     (wrote_more _ _ _ _ severity (place ++ (message ++ (flag ++ (key ++ last))))
     (wrote_more _ _ _ _ first (severity ++ (place ++ (message ++ (flag ++ (key ++ last)))))
-    (begin (g.W.Sink.written c.args.out.now) whole _ (diagnostic_parts one c.args.is_first))
+    (begin (g.W.Sink.written c.args.out.now) whole _ (diagnostic_parts one c.args.new c.args.is_first))
     (writes_as _ _ _ first (Ok tt) (first_is c.args.is_first c.args.position _ c.object_start.ensures)
     c.in_ok-write_parts.ensures))
     (writes_as _ _ _ severity (Ok tt) (ap (λ (s : Severity). comma_field (field (codes "severity") (string (severity_name s)))) c.severity.ensures)
@@ -111,14 +111,14 @@ returns-in_err-write_flag g c =
     let message = comma_fields (bytes_fields (codes "message") value.message) in
     let flag = comma_fields (optional_bytes_fields (codes "flag") value.flag) in
     let key = comma_fields (bytes_fields (codes "key") value.key) in
-    let last = last_text c.args.nth in
-    let whole = diagnostic_text c.args.is_first one in
+    let last = last_text c.args.nth c.args.new in
+    let whole = diagnostic_text c.args.is_first (one, c.args.new) in
     failed_part _ _ _ whole flag (key ++ last) _ _ c.from_residual-in_err-write_flag.ensures.0
     (wrote_more _ _ _ _ message (flag ++ (key ++ last))
     (wrote_more _ _ _ _ place (message ++ (flag ++ (key ++ last)))
     (wrote_more _ _ _ _ severity (place ++ (message ++ (flag ++ (key ++ last))))
     (wrote_more _ _ _ _ first (severity ++ (place ++ (message ++ (flag ++ (key ++ last)))))
-    (begin (g.W.Sink.written c.args.out.now) whole _ (diagnostic_parts one c.args.is_first))
+    (begin (g.W.Sink.written c.args.out.now) whole _ (diagnostic_parts one c.args.new c.args.is_first))
     (writes_as _ _ _ first (Ok tt) (first_is c.args.is_first c.args.position _ c.object_start.ensures)
     c.in_ok-write_parts.ensures))
     (writes_as _ _ _ severity (Ok tt) (ap (λ (s : Severity). comma_field (field (codes "severity") (string (severity_name s)))) c.severity.ensures)
@@ -140,15 +140,15 @@ returns-in_err-write_bytes-2 g c =
     let message = comma_fields (bytes_fields (codes "message") value.message) in
     let flag = comma_fields (optional_bytes_fields (codes "flag") value.flag) in
     let key = comma_fields (bytes_fields (codes "key") value.key) in
-    let last = last_text c.args.nth in
-    let whole = diagnostic_text c.args.is_first one in
+    let last = last_text c.args.nth c.args.new in
+    let whole = diagnostic_text c.args.is_first (one, c.args.new) in
     failed_part _ _ _ whole key last _ _ c.from_residual-in_err-write_bytes-2.ensures.0
     (wrote_more _ _ _ _ flag (key ++ last)
     (wrote_more _ _ _ _ message (flag ++ (key ++ last))
     (wrote_more _ _ _ _ place (message ++ (flag ++ (key ++ last)))
     (wrote_more _ _ _ _ severity (place ++ (message ++ (flag ++ (key ++ last))))
     (wrote_more _ _ _ _ first (severity ++ (place ++ (message ++ (flag ++ (key ++ last)))))
-    (begin (g.W.Sink.written c.args.out.now) whole _ (diagnostic_parts one c.args.is_first))
+    (begin (g.W.Sink.written c.args.out.now) whole _ (diagnostic_parts one c.args.new c.args.is_first))
     (writes_as _ _ _ first (Ok tt) (first_is c.args.is_first c.args.position _ c.object_start.ensures)
     c.in_ok-write_parts.ensures))
     (writes_as _ _ _ severity (Ok tt) (ap (λ (s : Severity). comma_field (field (codes "severity") (string (severity_name s)))) c.severity.ensures)
@@ -172,8 +172,8 @@ returns g c =
     let message = comma_fields (bytes_fields (codes "message") value.message) in
     let flag = comma_fields (optional_bytes_fields (codes "flag") value.flag) in
     let key = comma_fields (bytes_fields (codes "key") value.key) in
-    let last = last_text c.args.nth in
-    let whole = diagnostic_text c.args.is_first one in
+    let last = last_text c.args.nth c.args.new in
+    let whole = diagnostic_text c.args.is_first (one, c.args.new) in
     wrote_rest _ _ _ whole last _
     (wrote_more _ _ _ _ key last
     (wrote_more _ _ _ _ flag (key ++ last)
@@ -181,7 +181,7 @@ returns g c =
     (wrote_more _ _ _ _ place (message ++ (flag ++ (key ++ last)))
     (wrote_more _ _ _ _ severity (place ++ (message ++ (flag ++ (key ++ last))))
     (wrote_more _ _ _ _ first (severity ++ (place ++ (message ++ (flag ++ (key ++ last)))))
-    (begin (g.W.Sink.written c.args.out.now) whole _ (diagnostic_parts one c.args.is_first))
+    (begin (g.W.Sink.written c.args.out.now) whole _ (diagnostic_parts one c.args.new c.args.is_first))
     (writes_as _ _ _ first (Ok tt) (first_is c.args.is_first c.args.position _ c.object_start.ensures)
     c.in_ok-write_parts.ensures))
     (writes_as _ _ _ severity (Ok tt) (ap (λ (s : Severity). comma_field (field (codes "severity") (string (severity_name s)))) c.severity.ensures)
@@ -194,4 +194,4 @@ returns g c =
     c.in_ok-write_flag.ensures))
     (writes_as _ _ _ key (Ok tt) (ap (λ (b : List ℕ). comma_fields (bytes_fields (codes "key") b)) c.key.ensures)
     c.in_ok-write_bytes-2.ensures))
-    (writes_as _ _ _ _ _ (last_is c.args.nth) c.write_parts-2.ensures)
+    (writes_as _ _ _ _ _ (last_is c.args.nth c.args.new _ c.object_end.ensures) c.write_parts-2.ensures)

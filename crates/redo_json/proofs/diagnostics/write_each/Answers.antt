@@ -1,9 +1,9 @@
-use Rattle.std.proofs.Common.{ℕ, true, List, [], ◌∷◌, ◌++◌, ap, sym, ◌∙◌, subst, arith}
+use Rattle.std.proofs.Common.{ℕ, true, List, [], ◌∷◌, ◌++◌, ap, sym, ◌∙◌, subst, arith, option_copied}
 use Rattle.std.proofs.lemmas.List.{length-append}
 use Rattle.std.proofs.lemmas.Result.{err_from_is_err_and}
 use Rattle.redo_diagnostics.specs.Counts.{AreCounts, stored, times_of}
 use Rattle.redo_outline.specs.Facts.{entries_at, texts_of}
-use Rattle.redo_json.specs.Diagnostics.{diagnostics_of}
+use Rattle.redo_json.specs.Diagnostics.{diagnostics_of, flagged}
 use Rattle.redo_json.specs.Private.Parts.{diagnostics_text}
 use Rattle.redo_json.proofs.CandidateLemmas.{at_candidates}
 use Rattle.redo_json.proofs.DiagnosingLemmas.{begins, finds, nth_is}
@@ -13,7 +13,8 @@ use Rattle.redo_json.proofs.diagnostics.write_each.Goals as goal
 
 pub each-init : goal.each-init
 each-init g c =
-    begins _ (texts_of (entries_at c.args.number c.args.table.now)) _ _ c.new-lines.ensures.left c.new-lines.ensures.done
+    begins _ (option_copied c.args.flags) (texts_of (entries_at c.args.number c.args.table.now)) _ _ c.new-lines.ensures.left
+    c.new-lines.ensures.done
     c.new-counts.ensures
 
 pub returns-in_err-diagnostic : goal.returns-in_err-diagnostic
@@ -28,26 +29,28 @@ returns-in_err-nth g c =
 
 pub returns-in_err-write_diagnostic : goal.returns-in_err-write_diagnostic
 returns-in_err-write_diagnostic g c =
-    let whole = diagnostics_text true (diagnostics_of (texts_of (entries_at c.args.number c.args.table.now))) in
+    let whole = diagnostics_text true (flagged (option_copied c.args.flags) (diagnostics_of (texts_of (entries_at c.args.number
+    c.args.table.now)))) in
     let found = c.in-Some.ensures.some in
     let lines = found.candidates in
-    let so_far = at_candidates _ _ _ _ _ lines _ found.are c.each.invariant in
+    let so_far = at_candidates _ _ _ _ _ _ lines _ found.are c.each.invariant in
     let done = found.done in
     let room = c.in-Some.ensures.no_overflow in
     let nth = nth_is c.in-Some-2.diagnostic.key so_far.keys lines.done c.in_ok-nth.nth so_far.few (omega (arith, done, room))
     (c.in_ok-nth.ensures.before so_far.keys so_far.counted ∙ ap (λ (k : List ℕ). stored (times_of k so_far.keys)) c.key.ensures) in
     let given = err_from_is_err_and c.from_residual-in_err-write_diagnostic.result c.from_residual-in_err-write_diagnostic.ensures.1 in
     rw (given.1, given.2) (write_failed _ _ _ whole _ _ _
-    (left_is _ _ _ _ _ (finds c.each.is_first lines c.next_candidate.new.self c.in-Some.line.now found.first done so_far.keys
-    c.in-Some-2.diagnostic c.in-Some.position c.in_ok-nth.nth (sym c.in_ok-diagnostic.ensures
-    ∙ c.in-Some-2.is) found.position_is nth) so_far.wrote)
+    (left_is _ _ _ _ _ (finds c.each.is_first (option_copied c.each.left) lines c.next_candidate.new.self c.in-Some.line.now found.first
+    done so_far.keys
+    c.in-Some-2.diagnostic c.in-Some.position c.in_ok-nth.nth _ _ (sym c.in_ok-diagnostic.ensures
+    ∙ c.in-Some-2.is) found.position_is nth c.next_flag-new.ensures.first c.next_flag-new.ensures.others) so_far.wrote)
     c.in_err-write_diagnostic.ensures)
 
 pub each-preserved-in-Some-2 : goal.each-preserved-in-Some-2
 each-preserved-in-Some-2 g c =
     let found = c.in-Some.ensures.some in
     let lines = found.candidates in
-    let so_far = at_candidates _ _ _ _ _ lines _ found.are c.each.invariant in
+    let so_far = at_candidates _ _ _ _ _ _ lines _ found.are c.each.invariant in
     let done = found.done in
     let room = c.in-Some.ensures.no_overflow in
     let few = so_far.few in
@@ -61,8 +64,8 @@ each-preserved-in-Some-2 g c =
       few = omega (arith, few, done, length-append so_far.keys (key ∷ []));
       wrote = wrote_more _ _ _ _ _ _
           (left_is _ _ _ _ _
-          (finds c.each.is_first lines c.next_candidate.new.self c.in-Some.line.now found.first done so_far.keys
-          c.in-Some-2.diagnostic c.in-Some.position c.in_ok-nth.nth (sym c.in_ok-diagnostic.ensures
-          ∙ c.in-Some-2.is) found.position_is nth) so_far.wrote)
+          (finds c.each.is_first (option_copied c.each.left) lines c.next_candidate.new.self c.in-Some.line.now found.first done so_far.keys
+          c.in-Some-2.diagnostic c.in-Some.position c.in_ok-nth.nth _ _ (sym c.in_ok-diagnostic.ensures
+          ∙ c.in-Some-2.is) found.position_is nth c.next_flag-new.ensures.first c.next_flag-new.ensures.others) so_far.wrote)
           c.in_ok-write_diagnostic.ensures;
     }

@@ -1,4 +1,4 @@
-use Rattle.std.proofs.Common.{ℕ, List, ◌∷◌, ◌++◌, [], ap, sym, ◌∙◌, append_assoc}
+use Rattle.std.proofs.Common.{◌∙◌}
 use Rattle.redo_logs.specs.Logs.{targets_of}
 use Rattle.redo_json.proofs.EveryLemmas.{one_more}
 use Rattle.redo_json.proofs.every.push_targets.Goals as goal

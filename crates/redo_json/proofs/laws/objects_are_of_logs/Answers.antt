@@ -1,10 +1,7 @@
-use Rattle.redo_outline.specs.Contents.{contents_of}
-use Rattle.std.proofs.Common.{None}
 use Rattle.redo_json.specs.Build.{build_events, options_of}
 use Rattle.redo_json.proofs.OpeningLemmas.{contents_named, values_of_logs}
 use Rattle.redo_json.proofs.laws.objects_are_of_logs.Goals as goal
 
 pub returns : goal.returns
 returns c = λ request logs requested.
-    values_of_logs request logs (build_events request logs requested) None (contents_of (build_events request logs requested))
-    (contents_named logs (options_of request) requested)
+    values_of_logs request logs (build_events request logs requested) (contents_named logs (options_of request) requested)

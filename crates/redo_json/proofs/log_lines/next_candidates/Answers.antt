@@ -1,4 +1,4 @@
-use Rattle.std.proofs.Common.{◌+◌, sym, ◌∙◌, arith}
+use Rattle.std.proofs.Common.{sym, ◌∙◌, arith}
 use Rattle.redo_json.proofs.CandidateLemmas.{more_skipped, skips_stretch}
 use Rattle.redo_json.proofs.LineLemmas.{fewer_left}
 use Rattle.redo_json.proofs.log_lines.next_candidates.Goals as goal

@@ -1,6 +1,3 @@
-use Rattle.std.proofs.Common.{◌∙◌, ap}
-use Rattle.clap.specs.Walk.{rule_of}
-use Rattle.clap.specs.declared.builder.arg.Arg.{Arg}
 use Rattle.redo_args.proofs.CommandLemmas.{collected, none, one_more}
 use Rattle.redo_json_args.specs.CommandLine.{rules}
 use Rattle.redo_json_args.proofs.words.arguments.Goals as goal
@@ -9,8 +6,7 @@ pub returns : goal.returns
 returns c =
     let listed =
     one_more c.dir.result c.dir.ensures.rule c.dir.ensures.local
-    (one_more c.hide.result (ap rule_of c.hide.ensures ∙ c.baseline.ensures.rule)
-    (ap (λ (argument : Arg). argument.global) c.hide.ensures ∙ c.baseline.ensures.local)
+    (one_more c.baseline.result c.baseline.ensures.rule c.baseline.ensures.local
     (one_more c.unchanged.result c.unchanged.ensures.rule c.unchanged.ensures.local
     (one_more c.flag.result c.flag.ensures.rule c.flag.ensures.local
     (one_more c.text_option.result c.text_option.ensures.rule c.text_option.ensures.local
