@@ -1,6 +1,6 @@
 """A slow, simple model of the page that `redo-log-html` writes. It reads captures with the model of `redo-log`.
 
-`page_of(logs, requested, title, directory, unchanged, debug_locks, times, max_bytes, recipes)` returns the bytes of the page. `read(page)` in
+`page_of(logs, requested, title, directory, unchanged, debug_locks, times, max_bytes, recipes, news)` returns the bytes of the page. `read(page)` in
 reading.py returns what a browser reads of it.
 """
 
@@ -205,8 +205,9 @@ class Timing:
 
 
 class Page:
-    def __init__(self, build, title, directory, requested, max_bytes, recipes):
+    def __init__(self, build, title, directory, requested, max_bytes, recipes, news):
         self.build, self.title, self.directory, self.requested, self.recipes = build, title, directory, requested, recipes
+        self.news = news
         self.out = []
         self.articles = build.first[:10]
         self.level = level_of([shown.size for shown in build.order], max_bytes)
@@ -354,9 +355,11 @@ class Page:
         self.put(b"</section>")
 
     def row(self, shown, to, with_cause):
-        cause = cause_of(shown.lines) if with_cause else None
-        code = b" <code>" + passage(cut_to(160, cause), colours=True)[0] + b"</code>" if cause is not None else b""
-        self.put(b'<li><a href="#%s%d">' % (to, shown.place), bdi(shown.target), b"</a>", badge(shown.status), code, b"</li>")
+        self.put(self.item_with(shown, to, cause_of(shown.lines) if with_cause else None))
+
+    def item_with(self, shown, to, line):
+        code = b" <code>" + passage(cut_to(160, line), colours=True)[0] + b"</code>" if line is not None else b""
+        return b"".join([b'<li><a href="#%s%d">' % (to, shown.place), bdi(shown.target), b"</a>", badge(shown.status), code, b"</li>"])
 
     def more(self, targets, words, start, with_cause):
         if not targets:
@@ -418,6 +421,28 @@ class Page:
             self.put(emphasized(lines[at], text))
             last = at
         self.put(b"</pre>")
+
+    # ---- what is new ----
+
+    def new(self):
+        news = self.news
+        if news is None:
+            return
+        self.put(b'<section id="new" aria-labelledby="h-new"><h2 id="h-new">New since the baseline</h2><p class="quiet">')
+        if not news.lines and not news.failing:
+            self.put(b"No warning or error is new, and no target newly fails. ")
+        self.put(b"New warnings and errors: %d. Gone: %d. Targets that newly fail: %d. Fixed: %d.</p>"
+                 % (len(news.lines), news.gone, len(news.failing), len(news.fixed)))
+        if news.lines:
+            self.put(b'<ol class="list">')
+            for shown, position in news.lines[:200]:
+                self.put(self.item_with(shown, b"t", shown.lines[position]))
+            self.put(b"</ol>")
+        if len(news.lines) > 200:
+            self.put(b'<p class="quiet">and %d more, in the logs</p>' % (len(news.lines) - 200))
+        self.more(news.failing, b" newly failing", b"", False)
+        self.more(news.fixed, b" fixed", b"", False)
+        self.put(b"</section>")
 
     # ---- summary ----
 
@@ -573,11 +598,14 @@ class Page:
         self.put(b'</header><nav aria-label="Parts of this page"><ul>')
         if failures:
             self.put(b'<li><a href="#failed">What failed</a></li>')
+        if self.news is not None:
+            self.put(b'<li><a href="#new">New since the baseline</a></li>')
         self.put(b'<li><a href="#summary">Summary</a></li>')
         if self.timing.timed:
             self.put(b'<li><a href="#timeline">Timeline</a></li>')
         self.put(b'<li><a href="#tree">All logs</a></li></ul></nav><main>')
         self.failed()
+        self.new()
         self.summary()
         self.timeline()
         self.tree()
@@ -635,7 +663,7 @@ with open(os.path.join(os.path.dirname(os.path.abspath(__file__)), "style.css"),
 MAX_BYTES = 16_000_000
 
 
-def page_of(logs, requested, title=b"", directory=b".", unchanged=False, debug_locks=False, times=None, max_bytes=MAX_BYTES, recipes=None):
+def page_of(logs, requested, title=b"", directory=b".", unchanged=False, debug_locks=False, times=None, max_bytes=MAX_BYTES, recipes=None, news=None):
     """`times` has when each target began and ended, as `times_of` in times_model.py returns it, and `recipes` has the facts of each target, as
-    `facts_of` in facts_model.py returns them."""
-    return Page(Build(logs, requested, unchanged, debug_locks, times or {}), title, directory, requested, max_bytes, recipes or {}).whole()
+    `facts_of` in facts_model.py returns them. `news` is what is new since a baseline, as `news_of` in news_model.py returns it."""
+    return Page(Build(logs, requested, unchanged, debug_locks, times or {}), title, directory, requested, max_bytes, recipes or {}, news).whole()

@@ -7,11 +7,11 @@ VOID = ["meta"]
 # The elements of a page, and the attributes and values that each may have. N is any number, P a percentage with two decimals.
 ELEMENTS = {
     "html": ["lang=en"], "head": [], "body": ["class=good", "class=bad", "class=open"], "title": [], "style": [], "header": [], "h1": [],
-    "h2": ["id=h-failed", "id=h-summary", "id=h-timeline", "id=h-tree"], "h3": [], "p": ["class=meta", "class=quiet", "class=cut"],
+    "h2": ["id=h-failed", "id=h-new", "id=h-summary", "id=h-timeline", "id=h-tree"], "h3": [], "p": ["class=meta", "class=quiet", "class=cut"],
     "nav": ["aria-label=Parts of this page"], "main": [],
-    "section": ["id=failed", "id=summary", "id=timeline", "id=tree", "aria-labelledby=h-failed", "aria-labelledby=h-summary",
-                "aria-labelledby=h-timeline", "aria-labelledby=h-tree"],
-    "a": ["href=#failed", "href=#summary", "href=#timeline", "href=#tree", "href=#tN", "href=#fN", "tabindex=-1"],
+    "section": ["id=failed", "id=new", "id=summary", "id=timeline", "id=tree", "aria-labelledby=h-failed", "aria-labelledby=h-new",
+                "aria-labelledby=h-summary", "aria-labelledby=h-timeline", "aria-labelledby=h-tree"],
+    "a": ["href=#failed", "href=#new", "href=#summary", "href=#timeline", "href=#tree", "href=#tN", "href=#fN", "tabindex=-1"],
     "article": ["id=fN"], "ul": ["class=tree"], "ol": ["class=list", "start=N"],
     "li": ["class=note", "id=tN"], "details": ["open=", "id=tN", "class=s", "class=more"], "summary": [], "pre": [], "bdi": [], "code": [],
     "strong": ["class=x", "class=o"], "em": [], "small": [], "footer": [], "i": [], "b": ["class=" + hue for hue in "rgybmc"],

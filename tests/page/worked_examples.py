@@ -2,6 +2,7 @@
 import re
 from typing import NamedTuple
 
+import news_model
 import page_model
 from chart_model import Bar, Span, Window, axis, lanes_of, layout, meter_html, most_at_once, percent, step_of, times_alone, units
 from page_model import level_of, page_of
@@ -335,6 +336,50 @@ check("ends in another log", listed(made_page({
 TWELVE_FAILED = {b"all": b"".join(record(b"do", 0, b"t%d" % place) for place in range(1, 13)),
                  **{b"t%d" % place: record(b"done", 20 - place, b"1 t%d" % place) for place in range(1, 13)}}
 check("ten failures have articles", listed(made_page(TWELVE_FAILED)), ([*range(12, 2, -1)],) * 2 + ([2, 1],))
+
+# ---- what is new -----------------------------------------------------------------------------------------------------
+
+for what, before, now, wanted in [
+    ("nothing before", [], [b"a.c:1: warning: x", b"b"], [0]), ("nothing now", [b"error: x"], [b"x"], []),
+    ("moved", [b"a.c:1: warning: x"], [b"cc", b"a.c:7:3: warning: x"], []), ("another file", [b"a.c:1: warning: x"], [b"b.c:1: warning: x"], [0]),
+    ("one more with the same key", [b"a.c:1: error: x"], [b"a.c:1: error: x", b"a.c:2: error: x"], [1]),
+    ("before one with the same source line", [b"a.c:1: error: x", b"    1 | int x;"],
+     [b"a.c:1: error: x", b"    1 | int y;", b"a.c:2: error: x", b"    2 | int x;"], [0]),
+    ("changed source lines", [b"a.c:1: error: x", b" 1 | p"], [b"a.c:1: error: x", b" 1 | q"], []),
+    ("colours", [b"a.c:1: error: x"], [b"\x1b[1ma.c:5:\x1b[m \x1b[31merror: \x1b[mx"], []), ("no word", [], [b"a.c:1: xerror: y", b"warning:x"], []),
+    ("temporary files", [b"/tmp/ccAbCdEf.o: error: y"], [b"/tmp/ccGhIjKl.o: error: y"], []),
+]:
+    check(("new", what), news_model.new_in(news_model.found_in(before), news_model.found_in(now)), wanted)
+
+
+def compared_page(logs, earlier, **other):
+    read = [[logs_model.log_of(target, data) for target, data in build.items()] for build in (logs, earlier)]
+    return made_page(logs, news=news_model.news_of(read[0], [b"all"], read[1]), **other)
+
+
+# Before, `b` failed, and `e` was built. Now `all` fails because of `d`, and `a` has another warning after its known one.
+BEFORE = {b"a": b"a.c:1: warning: x\n", b"b": b"error: y\nerror: y\n" + record(b"done", 1, b"1 b"), b"e": b"error: z\n", b"all": b""}
+NOW = {b"all": record(b"do", 1, b"a") + record(b"do", 1, b"b") + record(b"do", 1, b"d") + record(b"done", 9, b"2 all"),
+       b"a": b"cc a.c\na.c:5: warning: x\na.c:9: warning: <w>\n" + record(b"done", 2, b"0 a"), b"b": b"error: y\n" + record(b"done", 2, b"0 b"),
+       b"d": b"d.c:1: error: v\n" + record(b"done", 2, b"1 d")}
+compared = compared_page(NOW, BEFORE, max_bytes=1)
+check("what is new", part(compared, b'New since the baseline</h2>', b"</section>"),
+      b'<p class="quiet">New warnings and errors: 2. Gone: 1. Targets that newly fail: 1. Fixed: 1.</p><ol class="list">'
+      b'<li><a href="#t1"><bdi>a</bdi></a> <code>a.c:9: warning: &lt;w&gt;</code></li>'
+      b'<li><a href="#t3"><bdi>d</bdi></a> <strong class="x">exit 1</strong> <code>d.c:1: error: v</code></li></ol>'
+      b'<details class="more"><summary>1 newly failing</summary><ol class="list"><li><a href="#t3"><bdi>d</bdi></a> <strong class="x">exit 1</strong></li></ol></details>'
+      b'<details class="more"><summary>1 fixed</summary><ol class="list"><li><a href="#t2"><bdi>b</bdi></a></li></ol></details>')
+check("the sections of a comparison", re.findall(rb'<section id="(.*?)"', compared), [b"failed", b"new", b"summary", b"timeline", b"tree"])
+check("the links to them", re.findall(rb'<li><a href="#([a-z]+)"', compared), [b"failed", b"new", b"summary", b"timeline", b"tree"])
+LINK = b'<li><a href="#new">New since the baseline</a></li>'
+SECTION = b'<section id="new"' + (part(compared, b'<section id="new"', b"</section>") or b"") + b"</section>"
+check("all else", compared.replace(LINK, b"").replace(SECTION, b""), made_page(NOW, max_bytes=1))
+check("the same build", part(compared_page(NOW, NOW), b'New since the baseline</h2><p class="quiet">', b"</section>"),
+      b"No warning or error is new, and no target newly fails. New warnings and errors: 0. Gone: 0. Targets that newly fail: 0. Fixed: 0.</p>")
+lines = b"".join(b"a.c:%d: warning: %d\n" % (line, line) for line in range(201))
+many = part(compared_page({b"all": lines}, {b"all": b""}), b'<section id="new"', b"</section>")
+check("201 lines", (many.count(b"<li>"), many.count(b"errors: 201."), many.rpartition(b"</ol>")[2]), (200, 1, b'<p class="quiet">and 1 more, in the logs</p>'))
+check("200 lines", part(compared_page({b"all": lines[: lines.rindex(b"a.c:")]}, {b"all": b""}), b'<section id="new"', b"</section>").count(b"more, in"), 0)
 
 # ---- recipes ---------------------------------------------------------------------------------------------------------
 

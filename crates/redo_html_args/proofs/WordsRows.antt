@@ -12,14 +12,15 @@ record Row : Type 0 where
   words : List (List ℕ)
   parts_are : PageParts
 
--- A row: the arguments, and their directory, output file, title, options, number of bytes, number of senders and targets.
-abbrev asks : List (List ℕ) → List ℕ → Option (List ℕ) → Option (List ℕ) → Bool → Bool → ℕ → ℕ → List (List ℕ) → Row
-asks words dir output title unchanged debug_locks max_bytes senders targets =
+-- A row: the arguments, and their directory, baseline, output file, title, options, number of bytes, number of senders and targets.
+abbrev compares : List (List ℕ) → List ℕ → Option (List ℕ) → Option (List ℕ) → Option (List ℕ) → Bool → Bool → ℕ → ℕ → List (List ℕ) → Row
+compares words dir baseline output title unchanged debug_locks max_bytes senders targets =
     record {
       words = words;
       parts_are =
           record {
             dir = dir;
+            baseline = baseline;
             output = output;
             title = title;
             unchanged = unchanged;
@@ -29,6 +30,11 @@ asks words dir output title unchanged debug_locks max_bytes senders targets =
             targets = targets;
           };
     }
+
+-- A row without a baseline.
+abbrev asks : List (List ℕ) → List ℕ → Option (List ℕ) → Option (List ℕ) → Bool → Bool → ℕ → ℕ → List (List ℕ) → Row
+asks words dir output title unchanged debug_locks max_bytes senders targets =
+    compares words dir None output title unchanged debug_locks max_bytes senders targets
 
 abbrev jobs : List Row
 jobs =
@@ -50,6 +56,21 @@ these_jobs : AllByRecursion (λ row. (fault_of_words row.words ≡ None) × (par
 unfolding redo_log_html clap_on_literals
 these_jobs = ((refl, refl), ((refl, refl), ((refl, refl), ((refl, refl), ((refl, refl), ((refl, refl), ((refl, refl), tt)))))))
 
+-- A baseline, alone, after `=`, empty, and beside other options.
+abbrev baselines : List Row
+baselines =
+    compares (codes "--baseline" ∷ codes "d" ∷ []) (codes ".") (Some (codes "d")) None None false false 16000000 4 (codes "all" ∷ []) ∷
+    compares (codes "--baseline=d" ∷ codes "--dir=e" ∷ codes "--output=f" ∷ codes "--title=t" ∷ codes "a" ∷ [])
+    (codes "e") (Some (codes "d")) (Some (codes "f")) (Some (codes "t")) false false 16000000 4 (codes "a" ∷ []) ∷
+    compares (codes "a" ∷ codes "--baseline=" ∷ codes "-u" ∷ []) (codes ".") (Some []) None None true false 16000000 4 (codes "a" ∷ []) ∷
+    compares (codes "--" ∷ codes "--baseline" ∷ codes "d" ∷ [])
+    (codes ".") None None None false false 16000000 4 (codes "--baseline" ∷ codes "d" ∷ []) ∷
+    []
+
+these_baselines : AllByRecursion (λ row. (fault_of_words row.words ≡ None) × (parse_parts row.words ≡ row.parts_are)) baselines
+unfolding redo_log_html clap_on_literals
+these_baselines = ((refl, refl), ((refl, refl), ((refl, refl), ((refl, refl), tt))))
+
 abbrev refused : List (List (List ℕ))
 refused =
     (codes "-r" ∷ codes "all" ∷ []) ∷
@@ -64,6 +85,8 @@ refused =
     (codes "all" ∷ codes "--dir" ∷ []) ∷
     (codes "all" ∷ codes "--output" ∷ []) ∷
     (codes "--output" ∷ codes "a" ∷ codes "--output" ∷ codes "b" ∷ []) ∷
+    (codes "--baseline" ∷ []) ∷
+    (codes "--baseline" ∷ codes "a" ∷ codes "--baseline" ∷ codes "b" ∷ []) ∷
     (codes "-u" ∷ codes "-u" ∷ codes "all" ∷ []) ∷
     (codes "--unchanged=true" ∷ codes "all" ∷ []) ∷
     (codes "-f" ∷ codes "--help" ∷ []) ∷
@@ -71,7 +94,10 @@ refused =
 
 these_refused : AllByRecursion (λ words. fault_of_words words ≡ Some Refused) refused
 unfolding redo_log_html clap_on_literals
-these_refused = (refl, (refl, (refl, (refl, (refl, (refl, (refl, (refl, (refl, (refl, (refl, (refl, (refl, (refl, (refl, tt)))))))))))))))
+these_refused = (
+  refl,
+  (refl, (refl, (refl, (refl, (refl, (refl, (refl, (refl, (refl, (refl, (refl, (refl, (refl, (refl, (refl, (refl, tt)))))))))))))))),
+)
 
 abbrev asking_for_help : List (List (List ℕ))
 asking_for_help =

@@ -1,4 +1,4 @@
--- The definition of the command line of `redo-log-html` for `clap`: eight arguments, each with a rule.
+-- The definition of the command line of `redo-log-html` for `clap`: nine arguments, each with a rule.
 --
 -- `redo_args` defines the kinds of rules and says what their fields mean.
 use Rattle.std.specs.Prelude.{List, [], ◌∷◌, codes}
@@ -12,10 +12,12 @@ use Rattle.redo_args.specs.CommandLine.{checked_rule, flag_rule, letter_rule, nu
 abbrev pub unsigned_rule : Text → Rule
 unsigned_rule id = checked_rule id (parser.Unsigned 0 18446744073709551615)
 
--- `--dir DIR`, `--output FILE`, `--title TEXT`, `-u` and `--unchanged`, `--debug-locks`, `--max-bytes N`, `--senders N`, `TARGET..`
+-- `--dir DIR`, `--baseline DIR`, `--output FILE`, `--title TEXT`, `-u` and `--unchanged`, `--debug-locks`, `--max-bytes N`, `--senders N`,
+-- `TARGET..`
 abbrev pub rules : List Rule
 rules =
     text_rule (codes "dir") ∷
+    text_rule (codes "baseline") ∷
     text_rule (codes "output") ∷
     text_rule (codes "title") ∷
     letter_rule (codes "unchanged") 117 ∷

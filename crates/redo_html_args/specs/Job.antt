@@ -6,10 +6,11 @@ use Rattle.std.specs.Prelude.{ℕ, Bool, List, Option, codes}
 use Rattle.clap.specs.Walk.{Row, first_of}
 use Rattle.redo_args.specs.Job.{dir_of, is_on, number_or, targets_or_all}
 
--- The capture directory, the output file and the title of the page, the options, the number of bytes of text lines that may be
--- shown, the number of senders, and the arguments that name the requested targets.
+-- The capture directory, the baseline's directory, the output file and the title of the page, the options, the number of bytes of text lines
+-- that may be shown, the number of senders, and the arguments that name the requested targets.
 pub record PageParts : Type 0 where
   pub dir : List ℕ
+  pub baseline : Option (List ℕ)
   pub output : Option (List ℕ)
   pub title : Option (List ℕ)
   pub unchanged : Bool
@@ -21,6 +22,7 @@ pub record PageParts : Type 0 where
 abbrev pub parts_of : List Row → PageParts
 parts_of rows = record {
   dir = dir_of rows;
+  baseline = first_of (codes "baseline") rows;
   output = first_of (codes "output") rows;
   title = first_of (codes "title") rows;
   unchanged = is_on (codes "unchanged") rows;

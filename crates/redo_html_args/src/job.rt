@@ -25,6 +25,7 @@ const DEFAULT_TARGETS: &[&str] = &["all"];
 #[derive(Drop)]
 pub struct PageJob {
     dir: String,
+    baseline: Option<String>,
     output: Option<String>,
     title: Option<String>,
     unchanged: bool,
@@ -42,11 +43,12 @@ impl Model for PageJob {
 
     ghost Value = { PageParts };
 
-    ghost view = { λ job. parts_with (string_bytes job.dir) (option_map string_bytes job.output) (option_map string_bytes job.title)
-        job.unchanged job.debug_locks job.max_bytes job.senders job.targets.items };
+    ghost view = { λ job. parts_with (string_bytes job.dir) (option_map string_bytes job.baseline) (option_map string_bytes job.output)
+        (option_map string_bytes job.title) job.unchanged job.debug_locks job.max_bytes job.senders job.targets.items };
 
-    ghost invariant = { λ job. IsPageJob (parts_with (string_bytes job.dir) (option_map string_bytes job.output)
-        (option_map string_bytes job.title) job.unchanged job.debug_locks job.max_bytes job.senders job.targets.items) };
+    ghost invariant = { λ job. IsPageJob (parts_with (string_bytes job.dir) (option_map string_bytes job.baseline)
+        (option_map string_bytes job.output) (option_map string_bytes job.title) job.unchanged job.debug_locks job.max_bytes job.senders
+        job.targets.items) };
 }
 
 impl PageJob {
@@ -56,6 +58,14 @@ impl PageJob {
         ensures { result.now ≡ self.now.dir }
     {
         self.dir.as_str()
+    }
+
+    /// Returns the capture directory of an earlier build, with which this one is compared, as it was given, if it was. The rest is as
+    /// for [`PageJob::dir`].
+    pub fn baseline(&self) -> Option<&str>
+        ensures { option_map (λ text. text.now) result ≡ self.now.baseline }
+    {
+        self.baseline.as_deref()
     }
 
     /// Returns the path of the file that the page is written to, as it was given. Without it, the page goes to standard
@@ -121,6 +131,7 @@ pub(crate) fn job_from_matches(
     ensures { IfOk result (λ job. job ≡ parts_of (rows_of (found_of matches.now))) }
 {
     let dir = matches.get_str("dir").unwrap_or(DEFAULT_DIR);
+    let baseline = matches.get_str("baseline");
     let output = matches.get_str("output");
     let title = matches.get_str("title");
     let unchanged = matches.get_flag("unchanged");
@@ -130,6 +141,7 @@ pub(crate) fn job_from_matches(
     let targets = matches.get_strs("target").unwrap_or(DEFAULT_TARGETS);
     Ok(PageJob {
         dir: String::from_str(alloc, dir)?,
+        baseline: copy_of(alloc, baseline)?,
         output: copy_of(alloc, output)?,
         title: copy_of(alloc, title)?,
         unchanged,

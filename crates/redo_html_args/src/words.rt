@@ -9,7 +9,8 @@ ghost use Rattle.redo_html_args.specs.Words.{fault_of_words, parse_parts};
 use crate::job::{PageJob, job_from_matches};
 use clap::{Arg, Command, value_parser};
 use redo_args::arguments::{
-    command_line, debug_locks, dir, help_of, optional_targets, senders, text_option, unchanged,
+    baseline, command_line, debug_locks, dir, help_of, optional_targets, senders, text_option,
+    unchanged,
 };
 use redo_args::{CommandLine, WordsFault, parse};
 use std::alloc::{AllocError, Global};
@@ -32,7 +33,8 @@ Exit status:
 
 /// Parses the command-line arguments, without the name of the program:
 ///
-/// `[--dir DIR] [--output FILE] [--title TEXT] [-u|--unchanged] [--debug-locks] [--max-bytes N] [--senders N] [TARGET..]`
+/// `[--dir DIR] [--baseline DIR] [--output FILE] [--title TEXT] [-u|--unchanged] [--debug-locks] [--max-bytes N] [--senders N]
+/// [TARGET..]`
 ///
 /// By default, the directory is `.`, the number of bytes is 16,000,000, the number of senders is 4, and the target is
 /// `all`. A number of bytes is at most 18,446,744,073,709,551,615. The rules are the same as for `redo-log`
@@ -84,6 +86,7 @@ fn arguments<'a>(alloc: Global) -> Result<Vec<Arg<'a>>, AllocError>
 {
     vec![in alloc;
         dir(alloc),
+        baseline(alloc),
         text_option(
             alloc,
             "output",

@@ -1,13 +1,15 @@
-ghost use Rattle.std.specs.Prelude.{◌≡◌, true, None};
+ghost use Rattle.std.specs.Prelude.{◌≡◌, IfOk};
+ghost use Rattle.std.specs.Option.{option_copied};
 ghost use Rattle.redo_page.specs.Page.{page_html, request_of};
 ghost use Rattle.redo_command.specs.Facts.{AreBuildFacts};
-ghost use Rattle.redo_html_cli.specs.Request.{request_for, title_for};
+ghost use Rattle.redo_html_cli.specs.Request.{baseline_for, request_for, title_for};
 
 use redo_command::{BaselineLogs, BuildFacts, Index, Job, OpenFacts, OpenLog, read_build_facts};
+use redo_compare::Baseline;
 use redo_html_args::PageJob;
-use redo_line::{Sink, TargetName};
+use redo_line::{HashKeys, Sink, TargetName};
 use redo_logs::LogTable;
-use redo_page::{PageRequest, write_page};
+use redo_page::{PageRequest, page_options, write_page};
 use redo_view::FormFault;
 use std::alloc::{AllocError, Global};
 use std::marker::Model;
@@ -26,18 +28,19 @@ impl Job for HtmlJob {
 
     ghost are_facts = { λ html logs file index facts. AreBuildFacts logs file index facts };
 
-    ghost text = { λ html facts baseline. page_html (request_for html.job facts.times.items facts.recipes.items) };
+    ghost text = { λ html facts earlier logs requested. page_html
+        (request_for html.job facts.times.items facts.recipes.items (baseline_for html.job earlier requested)) logs requested };
 
     ghost arguments = { λ html. html.job.targets };
 
-    ghost baseline_dir = { λ html. None };
+    ghost baseline_dir = { λ html. html.job.baseline };
 
     fn dir(&self) -> &str {
         self.job.dir()
     }
 
     fn baseline(&self) -> Option<&str> {
-        None
+        self.job.baseline()
     }
 
     fn output(&self) -> Option<&str> {
@@ -68,19 +71,43 @@ impl Job for HtmlJob {
     fn render<W: Sink>(
         &self,
         facts: &BuildFacts,
-        _baseline: Option<&BaselineLogs>,
+        earlier: Option<&BaselineLogs>,
         alloc: Global,
         table: &LogTable,
         requested: &[TargetName],
         out: &mut W,
     ) -> Result<(), FormFault> {
-        write_page(alloc, table, &request_for(&self.job, facts), requested, out)
+        let baseline = baseline_for(alloc, &self.job, facts.keys, earlier, requested)?;
+        let request = request_for(&self.job, facts, baseline.as_ref());
+        write_page(alloc, table, &request, requested, out)
     }
 }
 
+// Returns the baseline with which a job compares a build with these requested targets, if it has the logs of an earlier build.
+fn baseline_for<'a>(
+    alloc: Global,
+    job: &PageJob,
+    keys: HashKeys,
+    earlier: Option<&'a BaselineLogs>,
+    requested: &[TargetName],
+) -> Result<Option<Baseline<'a>>, AllocError>
+    ensures { IfOk result (λ baseline. baseline ≡ baseline_for job.entry.now (option_copied earlier.entry) requested.entry.now) }
+{
+    let Some(earlier) = earlier else {
+        return Ok(None);
+    };
+    let options = page_options(job.unchanged(), job.debug_locks());
+    Ok(Some(Baseline::new(alloc, keys, earlier.table(), &options, requested)?))
+}
+
 // Returns the request for the page of a job.
-fn request_for<'a>(job: &'a PageJob, facts: &'a BuildFacts) -> PageRequest<'a>
-    ensures { request_of result ≡ request_for job.entry.now facts.entry.now.times.items facts.entry.now.recipes.items }
+fn request_for<'a>(
+    job: &'a PageJob,
+    facts: &'a BuildFacts,
+    baseline: Option<&'a Baseline<'a>>,
+) -> PageRequest<'a>
+    ensures { request_of result ≡ request_for job.entry.now facts.entry.now.times.items facts.entry.now.recipes.items
+        (option_copied baseline.entry) }
 {
     PageRequest {
         title: title_of(job),
@@ -90,6 +117,7 @@ fn request_for<'a>(job: &'a PageJob, facts: &'a BuildFacts) -> PageRequest<'a>
         max_bytes: job.max_bytes(),
         times: &facts.times,
         recipes: &facts.recipes,
+        baseline,
     }
 }
 

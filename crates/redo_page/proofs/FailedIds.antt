@@ -1,6 +1,6 @@
 -- The ids and the links of articles, and the positions of targets that failed.
 use Rattle.std.proofs.Common.{◌≡◌, ℕ, zero, suc, ◌+◌, Bool, true, false, List, [], ◌∷◌, ◌++◌, Option, None, Some, refl, sym, ◌∙◌, ap, arith}
-use Rattle.std.specs.Prelude.{◌==◌, nat_lt, drop, length, take, if◌then◌else◌}
+use Rattle.std.specs.Prelude.{◌==◌, nat_lt, drop, length, slice_get, take, if◌then◌else◌}
 use Rattle.std.specs.List.{flat_map, list_all}
 use Rattle.std.proofs.lemmas.Bool.{and_from, and_parts, eq-eqb, lt-ltb, or_left, or_right}
 use Rattle.std.proofs.lemmas.Grind.{flat_map-append}
@@ -20,7 +20,7 @@ use Rattle.redo_page.specs.Errors.{cause_of, is_error}
 use Rattle.redo_page.specs.Excerpt.{Stretch, cut_to, emphasized_if, error_position, excerpt_line_end, excerpt_line_parts, excerpt_parts, in_tree_parts, is_kept, left_out_parts, max_excerpt_line, stretch_parts, stretches_from}
 use Rattle.redo_page.specs.Excerpt.Stretch.{Shown, LeftOut}
 use Rattle.redo_units.specs.Durations.{duration_words}
-use Rattle.redo_page.specs.Article.{article_of, article_parts, article_took, cause_of_node, cause_parts, max_path, nothing_parts, output_line_parts, output_parts, path_parts, printed_by, whole_parts}
+use Rattle.redo_page.specs.Article.{article_of, article_parts, article_took, cause_of_node, cause_parts, line_of_node, max_path, nothing_parts, output_line_parts, output_parts, path_parts, printed_by, whole_parts}
 use Rattle.redo_page.specs.Failed.{positions_where}
 use Rattle.redo_page.specs.Recipe.{recipe_at}
 use Rattle.redo_page.specs.Laws.{is_among}
@@ -235,6 +235,10 @@ module _ (count : ℕ) (listed : List ℕ) where
   pub cause_of_node_refers : (logs : List Log) (node : Node) → Refer count listed (cause_of_node logs node) [] []
   unfolding cause_of_node
   cause_of_node_refers logs node = cause_refers (cause_of (printed_by logs node))
+
+  pub line_of_node_refers : (logs : List Log) (node : Node) (position : ℕ) → Refer count listed (line_of_node logs node position) [] []
+  unfolding line_of_node
+  line_of_node_refers logs node position = cause_refers (slice_get (printed_by logs node) position)
 
 -- ---- lists
 

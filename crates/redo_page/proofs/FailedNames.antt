@@ -1,6 +1,6 @@
 -- The names of targets in the sections before the tree.
 use Rattle.std.proofs.Common.{◌≡◌, ℕ, ◌*◌, Bool, true, false, List, [], ◌∷◌, ◌++◌, Option, None, Some, refl, sym, ◌∙◌, ap, subst, inl, inr}
-use Rattle.std.specs.Prelude.{◌==◌, ◌||◌, ◌&&◌, length, map, not, take, if◌then◌else◌}
+use Rattle.std.specs.Prelude.{◌==◌, ◌||◌, ◌&&◌, length, map, not, slice_get, take, if◌then◌else◌}
 use Rattle.std.specs.List.{AllByRecursion, flat_map, list_all}
 use Rattle.std.proofs.lemmas.Bool.{and_parts}
 use Rattle.std.proofs.lemmas.List.{append_assoc}
@@ -16,18 +16,20 @@ use Rattle.redo_html.specs.Style.{plain_style}
 use Rattle.redo_line.specs.Lines.{with_line_feed}
 use Rattle.redo_outline.specs.declared.node.Node.{Node}
 use Rattle.redo_outline.specs.Facts.{saturated, target_at}
-use Rattle.redo_page.specs.declared.labels.TheConstants.{AND, COUNT_NOT_CLOSED, FAILED_WITH_THESE, IN_ITS_LOG, MORE_IN_TREE, MORE_FAILED, MORE_LINE, MORE_LINES, PLACE_IN_TREE, WHAT_FAILED}
+use Rattle.redo_page.specs.declared.labels.TheConstants.{AND, COUNT_NOT_CLOSED, FAILED_WITH_THESE, FIXED, FIXED_COUNT, GONE, IN_ITS_LOG, MORE_IN_LOGS, MORE_IN_TREE, NEWLY_FAILING, NEWLY_FAILING_COUNT, NEW_LINES, NEW_SINCE, NOTHING_NEW, SENTENCE_END, MORE_FAILED, MORE_LINE, MORE_LINES, PLACE_IN_TREE, WHAT_FAILED}
 use Rattle.redo_page.specs.declared.failed.TheConstants.{DEPENDENTS, LIST, OTHERS, UNCLOSED}
+use Rattle.redo_page.specs.declared.news.TheConstants.{FAILING_NOW, FIXED_NOW, LINES}
 use Rattle.redo_page.specs.declared.scope.Count.{Count}
-use Rattle.redo_page.specs.declared.scope.Count.TheVariants.{All, Unlisted, Value}
+use Rattle.redo_page.specs.declared.scope.Count.TheVariants.{All, Gone, New, Unlisted, UnlistedNew, Value}
 use Rattle.redo_page.specs.declared.scope.Listed.{Listed}
 use Rattle.redo_page.specs.declared.scope.Listed.TheVariants as listed
 use Rattle.redo_page.specs.declared.scope.Measure.{Measure}
 use Rattle.redo_page.specs.declared.scope.Measure.TheVariants.{Duration, Memory}
 use Rattle.redo_page.specs.declared.scope.Rows.{Rows}
 use Rattle.redo_page.specs.declared.scope.Rows.TheVariants.{Longest, LongestAlone, MostMemory, Warned}
+use Rattle.redo_page.specs.declared.scope.Rows.TheVariants as ranking
 use Rattle.redo_page.specs.declared.scope.Test.{Test}
-use Rattle.redo_page.specs.declared.scope.Test.TheVariants.{HasAny, HasFailed, HasSeveral, HasUnlisted}
+use Rattle.redo_page.specs.declared.scope.Test.TheVariants.{HasAny, HasBaseline, HasFailed, HasNew, HasNews, HasSeveral, HasUnlisted, HasUnlistedNew}
 use Rattle.redo_page.specs.declared.template.Around.TheVariants.{If, Unless, Each, EachTarget, EachOf}
 use Rattle.redo_page.specs.declared.template.Item.{Item}
 use Rattle.redo_page.specs.declared.template.Item.TheVariants as item
@@ -35,9 +37,10 @@ use Rattle.redo_page.specs.declared.timeline.TheConstants.{START, END}
 use Rattle.redo_page.specs.Errors.{cause_of, is_error}
 use Rattle.redo_page.specs.Excerpt.{Stretch, cut_to, emphasized_if, error_position, excerpt_line_end, excerpt_line_parts, excerpt_parts, in_tree_parts, is_kept, left_out_parts, max_excerpt_line, stretch_parts, stretches_from}
 use Rattle.redo_page.specs.Excerpt.Stretch.{Shown, LeftOut}
-use Rattle.redo_page.specs.Article.{article_of, article_parts, article_took, cause_of_node, cause_parts, max_path, nothing_parts, output_line_parts, output_parts, path_parts, printed_by, whole_parts}
+use Rattle.redo_page.specs.Article.{article_of, article_parts, article_took, cause_of_node, cause_parts, line_of_node, max_path, nothing_parts, output_line_parts, output_parts, path_parts, printed_by, whole_parts}
 use Rattle.redo_page.specs.Failed.{failed_parts}
-use Rattle.redo_page.specs.Laws.{BeginWith, IsList, IsRow, KnownRecipes, TellsItsTarget, list_item, target_name}
+use Rattle.redo_page.specs.Laws.{BeginWith, IsList, IsRow, KnownRecipes, TellsItsTarget, item_with, line_item, list_item, target_name}
+use Rattle.redo_page.specs.NewSection.{news_parts}
 use Rattle.redo_page.specs.Scope.{View, count_of, holds, max_rows, measure_words, positions_of, row_name, row_view, rows_of, target_view}
 use Rattle.redo_page.specs.Recipe.{recipe_at, recipe_parts}
 use Rattle.redo_page.specs.Targets.{badge_parts, linked_parts, name_parts, parts_if, plural}
@@ -149,6 +152,10 @@ module _ (recipes : KnownRecipes) (logs : List Log) (nodes : List Node) where
   unfolding cause_of_node
   cause_of_node_tells node = cause_tells (cause_of (printed_by logs node))
 
+  line_of_node_tells : (node : Node) (position : ℕ) → Telling (line_of_node logs node position)
+  unfolding line_of_node
+  line_of_node_tells node position = cause_tells (slice_get (printed_by logs node) position)
+
   -- ---- articles
 
   article_tells : (position : ℕ) → Telling (article_parts logs nodes recipes.facts position)
@@ -204,9 +211,9 @@ module _ (view : View) where
   LinksTell link = (position : ℕ)
       → TellingOf (MarkupPart (link position) ∷ (name_parts (target_name view.logs view.nodes position) ++ MarkupPart markup.EndLink ∷ []))
 
-  item_tells_target : (link : ℕ → Markup) (causes : Bool) → LinksTell link → (position : ℕ)
-      → TellingOf (list_item view.logs view.nodes link causes position)
-  item_tells_target link causes tells position =
+  item_with_tells : (line : List Part) → TellingOf line → (link : ℕ → Markup) → LinksTell link → (position : ℕ)
+      → TellingOf (item_with view.logs view.nodes line link position)
+  item_with_tells line line_tells link tells position =
       let node = node_at view.nodes position in
       then_tell (known_in view) view.logs view.nodes {parts = MarkupPart markup.Item ∷ []} (calm _ refl)
       (then_tell (known_in view) view.logs view.nodes
@@ -214,14 +221,42 @@ module _ (view : View) where
       (tells position)
       (then_tell (known_in view) view.logs view.nodes
       (bare_tell (known_in view) view.logs view.nodes (badge_parts node.status) (badge_bare node.status))
-      (then_tell (known_in view) view.logs view.nodes
+      (then_tell (known_in view) view.logs view.nodes line_tells (calm (MarkupPart markup.EndItem ∷ []) refl))))
+
+  item_tells_target : (link : ℕ → Markup) (causes : Bool) → LinksTell link → (position : ℕ)
+      → TellingOf (list_item view.logs view.nodes link causes position)
+  item_tells_target link causes tells position =
+      item_with_tells (parts_if causes (cause_parts (cause_of (printed_by view.logs (node_at view.nodes position)))))
       (tell_if (known_in view) view.logs view.nodes causes
-      (cause_tells (known_in view) view.logs view.nodes (cause_of (printed_by view.logs node))))
-      (calm (MarkupPart markup.EndItem ∷ []) refl))))
+      (cause_tells (known_in view) view.logs view.nodes (cause_of (printed_by view.logs (node_at view.nodes position)))))
+      link tells position
+
+  line_item_tells : (rank : Rank) → TellingOf (line_item view.logs view.nodes rank)
+  line_item_tells rank =
+      let line = slice_get (printed_by view.logs (node_at view.nodes rank.position)) rank.value in
+      item_with_tells (cause_parts line) (cause_tells (known_in view) view.logs view.nodes line) (λ position. markup.TargetLink position)
+      (target_link_tells (known_in view) view.logs view.nodes) rank.position
 
   rows_split : (rows others rest : List Part)
       → (rows ++ MarkupPart markup.EndOrdered ∷ []) ++ (others ++ rest) ≡ (rows ++ (MarkupPart markup.EndOrdered ∷ others)) ++ rest
   rows_split rows others rest = simp (append_assoc)
+
+  -- A list, and the parts after it.
+  items_then : {X : Type 0} (item : X → List Part) → ((x : X) → TellingOf (item x)) → (list : Markup) (xs : List X)
+      → ((rest : List Part) → BeginWith (flat_map item xs ++ MarkupPart markup.EndOrdered ∷ []) rest
+      → TellsItsTarget view.logs view.nodes (known_in view) list rest)
+      → (others : List Part) → TellingOf others
+      → TellingOf (MarkupPart list ∷ (flat_map item xs ++ (MarkupPart markup.EndOrdered ∷ others)))
+  items_then item tells list xs says others more =
+      let rows = flat_map item xs in
+      let all = then_tell (known_in view) view.logs view.nodes (tell_each (known_in view) view.logs view.nodes item tells xs)
+      (then_tell (known_in view) view.logs view.nodes {parts = MarkupPart markup.EndOrdered ∷ []} (calm _ refl) more) in
+      record {
+        before = λ rest tell. (
+          says ((rows ++ (MarkupPart markup.EndOrdered ∷ others)) ++ rest) (others ++ rest, rows_split rows others rest),
+          all.before rest tell,
+        );
+      }
 
   -- A list of targets, and the parts after it.
   list_then : (link : ℕ → Markup) (causes : Bool) → LinksTell link → (list : Markup)
@@ -230,18 +265,8 @@ module _ (view : View) where
       → TellingOf (MarkupPart list
       ∷ (flat_map (list_item view.logs view.nodes link causes) positions ++ (MarkupPart markup.EndOrdered ∷ others)))
   list_then link causes tells list says positions others more =
-      let rows = flat_map (list_item view.logs view.nodes link causes) positions in
-      let all = then_tell (known_in view) view.logs view.nodes
-      (tell_each (known_in view) view.logs view.nodes (list_item view.logs view.nodes link causes)
-      (item_tells_target link causes tells) positions)
-      (then_tell (known_in view) view.logs view.nodes {parts = MarkupPart markup.EndOrdered ∷ []} (calm _ refl) more) in
-      record {
-        before = λ rest tell. (
-          says ((rows ++ (MarkupPart markup.EndOrdered ∷ others)) ++ rest)
-              (causes, positions, (others ++ rest, rows_split rows others rest)),
-          all.before rest tell,
-        );
-      }
+      items_then (list_item view.logs view.nodes link causes) (item_tells_target link causes tells) list positions
+      (λ rest begins. says rest (causes, positions, begins)) others more
 
   abbrev in_list : Block (Block (Unit {0})) → List Part
   in_list list = block_parts (block_parts nothing) list view
@@ -253,7 +278,7 @@ module _ (view : View) where
   unfolding cause_of_node
   list_tells =
       list_then (λ position. markup.OutputLink position) true (article_link_tells (known_in view) view.logs view.nodes) markup.Ordered
-      (λ after is. inl is)
+      (λ after is. inl (inl is))
       (listed_of listed.Articles) [] (none_tell (known_in view) view.logs view.nodes)
 
   -- How many targets aren't listed, and the end of more targets.
@@ -292,10 +317,51 @@ module _ (view : View) where
   others_tell = more_tell (markup.OrderedFrom 11) true (λ after is. is) listed.Others MORE_FAILED.now
 
   dependents_tell : TellingOf (in_list DEPENDENTS)
-  dependents_tell = more_tell markup.Ordered false (λ after is. inr is) listed.Dependents FAILED_WITH_THESE.now
+  dependents_tell = more_tell markup.Ordered false (λ after is. inl (inr is)) listed.Dependents FAILED_WITH_THESE.now
 
   unclosed_tell : TellingOf (in_list UNCLOSED)
-  unclosed_tell = more_tell markup.Ordered false (λ after is. inr is) listed.Unclosed COUNT_NOT_CLOSED.now
+  unclosed_tell = more_tell markup.Ordered false (λ after is. inl (inr is)) listed.Unclosed COUNT_NOT_CLOSED.now
+
+  failing_tell : TellingOf (in_list FAILING_NOW)
+  failing_tell = more_tell markup.Ordered false (λ after is. inl (inr is)) listed.NewlyFailing NEWLY_FAILING_COUNT.now
+
+  fixed_tell : TellingOf (in_list FIXED_NOW)
+  fixed_tell = more_tell markup.Ordered false (λ after is. inl (inr is)) listed.Fixed FIXED_COUNT.now
+
+  lines_tell_news : TellingOf (in_list LINES)
+  unfolding line_of_node
+  lines_tell_news =
+      let unlisted_lines = MarkupPart markup.QuietParagraph ∷ TextPart AND.now ∷ NumberPart (count_of view UnlistedNew)
+      ∷ TextPart MORE_IN_LOGS.now ∷ MarkupPart markup.EndParagraph ∷ [] in
+      items_then (line_item view.logs view.nodes) line_item_tells markup.Ordered (take max_rows view.news.lines)
+      (λ rest begins. inr (take max_rows view.news.lines, begins))
+      (parts_if (holds view HasUnlistedNew) unlisted_lines ++ [])
+      (then_tell (known_in view) view.logs view.nodes
+      (tell_if (known_in view) view.logs view.nodes (holds view HasUnlistedNew) (calm unlisted_lines refl))
+      (none_tell (known_in view) view.logs view.nodes))
+
+  pub news_tell : TellingOf (news_parts view)
+  unfolding news_parts
+  news_tell =
+      let some = λ (test : Test) (parts : List Part) (tells : TellingOf parts).
+      tell_if (known_in view) view.logs view.nodes (holds view test) {parts = parts} tells in
+      then_tell (known_in view) view.logs view.nodes
+      (tell_if (known_in view) view.logs view.nodes (holds view HasBaseline)
+      (then_tell (known_in view) view.logs view.nodes
+      {parts = MarkupPart markup.NewSection ∷ MarkupPart markup.NewHeading ∷ TextPart NEW_SINCE.now ∷ MarkupPart markup.EndHeading
+      ∷ MarkupPart markup.QuietParagraph ∷ []} (calm _ refl)
+      (then_tell (known_in view) view.logs view.nodes
+      {parts = parts_if (not (holds view HasNews)) (TextPart NOTHING_NEW.now ∷ [])}
+      (tell_if (known_in view) view.logs view.nodes (not (holds view HasNews)) (calm _ refl))
+      (then_tell (known_in view) view.logs view.nodes
+      {parts = TextPart NEW_LINES.now ∷ NumberPart (count_of view New) ∷ TextPart GONE.now ∷ NumberPart (count_of view Gone)
+      ∷ TextPart NEWLY_FAILING.now ∷ NumberPart (count_of view (All listed.NewlyFailing)) ∷ TextPart FIXED.now
+      ∷ NumberPart (count_of view (All listed.Fixed)) ∷ TextPart SENTENCE_END.now ∷ MarkupPart markup.EndParagraph ∷ []} (calm _ refl)
+      (then_tell (known_in view) view.logs view.nodes (some HasNew (in_list LINES) lines_tell_news)
+      (then_tell (known_in view) view.logs view.nodes (some (HasAny listed.NewlyFailing) (in_list FAILING_NOW) failing_tell)
+      (then_tell (known_in view) view.logs view.nodes (some (HasAny listed.Fixed) (in_list FIXED_NOW) fixed_tell)
+      (calm (MarkupPart markup.EndSection ∷ []) refl))))))))
+      (none_tell (known_in view) view.logs view.nodes)
 
   pub failed_tells : TellingOf (failed_parts view)
   unfolding failed_parts
@@ -327,6 +393,7 @@ IsValueOf recipes LongestAlone node rank = HasTimeAlone recipes.spans rank
 IsValueOf recipes MostMemory node rank =
     (usage : Usage) × (usage_at recipes.facts node.number ≡ Some usage) × (rank.value ≡ usage.peak_kb)
 IsValueOf recipes Warned node rank = rank.value ≡ node.warnings
+IsValueOf recipes ranking.New node rank = Unit {0}
 
 abbrev IsRank : View → Rows → Rank → Type 0
 IsRank view rows rank = IsValueOf (known_in view) rows (node_at view.nodes rank.position) rank
@@ -405,6 +472,15 @@ module _ {T B : Type 0} where
   begin_with [] items = true
   begin_with (test ∷ tests) [] = false
   begin_with (test ∷ tests) (item ∷ items) = test item && begin_with tests items
+
+  -- A test that nothing passes is among these.
+  never_begin : (first rest : List (Item T B → Bool)) (items : List (Item T B))
+      → begin_with (first ++ (λ item. false) ∷ rest) items ≡ true → ⊥
+  never_begin [] rest [] is = absurd (cc)
+  never_begin [] rest (item ∷ items) is = absurd (cc)
+  never_begin (test ∷ first) rest [] is = absurd (cc)
+  never_begin (test ∷ first) rest (item ∷ items) is =
+      never_begin first rest items (and_parts (test item) (begin_with (first ++ (λ item. false) ∷ rest) items) is).1
 
   -- Whether items are the rest of a row: the name of its target, the status, and the value.
   abbrev begin_row : Place → List (Item T B) → Bool
@@ -547,6 +623,7 @@ module _ {T B : Type 0} (text_of : T → List ℕ) (inner : B → View → List 
   value_parts LongestAlone = words_parts (duration_words view.rank.value)
   value_parts MostMemory = words_parts (size_words (saturated (view.rank.value * 1024)))
   value_parts Warned = NumberPart view.rank.value ∷ []
+  value_parts ranking.New = []
 
   value_sound : (rows : Rows) (item : Item T B) → is_value rows item ≡ true → value_parts rows ≡ shown item
   value_sound Longest (item.Measure measure) is = by measure is
@@ -576,6 +653,7 @@ module _ {T B : Type 0} (text_of : T → List ℕ) (inner : B → View → List 
   value_sound LongestAlone item is = absurd (cc)
   value_sound MostMemory item is = absurd (cc)
   value_sound Warned item is = absurd (cc)
+  value_sound ranking.New item is = absurd (cc)
 
   abbrev value_step : Rows → Step
   value_step rows = record { test = is_value rows; parts = value_parts rows; sound = value_sound rows }
@@ -601,7 +679,7 @@ module _ {T B : Type 0} (text_of : T → List ℕ) (inner : B → View → List 
 
   row_shown : (rows : Rows) (items : List (Item T B)) → begin_row (InRows rows) items ≡ true → IsNamedRow (InRows rows) view
       → (rest : List Part) → IsRow view.logs view.nodes (known_in view) (all_shown items ++ rest)
-  row_shown rows items is row rest = by rows row.1 (rows_begin rows (steps_shown (row_steps rows) items is))
+  row_shown rows items is row rest = by rows is row.1 (rows_begin rows (steps_shown (row_steps rows) items is))
     where
       rows_begin : (rows : Rows) → BeginWith (steps_parts (row_steps rows)) (all_shown items)
           → BeginWith (row_of (node_at view.nodes view.rank.position) (value_parts rows)) (all_shown items ++ rest)
@@ -611,10 +689,13 @@ module _ {T B : Type 0} (text_of : T → List ℕ) (inner : B → View → List 
             sym (append_assoc (row_of view.node (value_parts rows)) begins.0 rest) ∙ ap (λ (t : List Part). t ++ rest) begins.1,
           )
 
-      by : (rows : Rows) → IsValueOf (known_in view) rows (node_at view.nodes view.rank.position) view.rank
+      by : (rows : Rows) → begin_row (InRows rows) items ≡ true
+          → IsValueOf (known_in view) rows (node_at view.nodes view.rank.position) view.rank
           → BeginWith (row_of (node_at view.nodes view.rank.position) (value_parts rows)) (all_shown items ++ rest)
           → IsRow view.logs view.nodes (known_in view) (all_shown items ++ rest)
-      by Longest value begins =
+      by ranking.New is value begins =
+          absurd (never_begin (is_link ∷ is_badge ∷ is_heading_end ∷ is_cell ∷ []) (is_cell_end ∷ []) items is)
+      by Longest is value begins =
           inl (
             view.rank.position,
             value.0,
@@ -622,7 +703,7 @@ module _ {T B : Type 0} (text_of : T → List ℕ) (inner : B → View → List 
             subst (λ (n : ℕ). BeginWith (row_of (node_at view.nodes view.rank.position) (words_parts (duration_words n)))
                 (all_shown items ++ rest)) value.2 begins,
           )
-      by LongestAlone value begins =
+      by LongestAlone is value begins =
           inr (inr (inr (
             value.0,
             value.1,
@@ -631,7 +712,7 @@ module _ {T B : Type 0} (text_of : T → List ℕ) (inner : B → View → List 
                 (subst (λ (n : ℕ). BeginWith (row_at view.rank.position (words_parts (duration_words n))) (all_shown items ++ rest)) value.3
                 begins),
           )))
-      by MostMemory value begins =
+      by MostMemory is value begins =
           inr (inr (inl (
             view.rank.position,
             value.0,
@@ -639,7 +720,7 @@ module _ {T B : Type 0} (text_of : T → List ℕ) (inner : B → View → List 
             subst (λ (n : ℕ). BeginWith (row_of (node_at view.nodes view.rank.position) (words_parts (size_words (saturated (n * 1024)))))
                 (all_shown items ++ rest)) value.2 begins,
           )))
-      by Warned value begins =
+      by Warned is value begins =
           inr (inl (
             view.rank.position,
             subst (λ (n : ℕ). BeginWith (row_of (node_at view.nodes view.rank.position) (NumberPart n ∷ [])) (all_shown items ++ rest))
@@ -696,6 +777,8 @@ module _ {B : Type 0} (inner : B → View → List Part) (only : Place → B →
   item_tells text_of (InRows rows) item.ArticleLink is plain row = absurd (cc)
   item_tells text_of (InList these) item.ArticleLink is plain row = absurd row
   item_tells text_of place item.Cause is plain row = cause_of_node_tells (known_in view) view.logs view.nodes view.node
+  item_tells text_of place item.Line is plain row =
+      line_of_node_tells (known_in view) view.logs view.nodes view.node view.rank.value
   item_tells text_of place item.Articles is plain row =
       tell_each (known_in view) view.logs view.nodes (article_parts view.logs view.nodes view.recipes)
       (article_tells (known_in view) view.logs view.nodes)

@@ -1,6 +1,6 @@
 -- The elements of articles and causes nest.
 use Rattle.std.proofs.Common.{ℕ, zero, suc, Bool, true, false, List, [], ◌∷◌, Option, None, Some, refl}
-use Rattle.std.specs.Prelude.{◌==◌, length, if◌then◌else◌}
+use Rattle.std.specs.Prelude.{◌==◌, length, slice_get, if◌then◌else◌}
 use Rattle.redo_facts.specs.Facts.{RecipeFacts}
 use Rattle.redo_logs.specs.Logs.{Log}
 use Rattle.redo_html.specs.declared.style.Style.{Style}
@@ -15,7 +15,7 @@ use Rattle.redo_page.specs.Errors.{cause_of, is_error}
 use Rattle.redo_page.specs.Excerpt.{Stretch, cut_to, emphasized_if, error_position, excerpt_line_end, excerpt_line_parts, excerpt_parts, in_tree_parts, is_kept, left_out_parts, max_excerpt_line, stretch_parts, stretches_from}
 use Rattle.redo_page.specs.Excerpt.Stretch.{Shown, LeftOut}
 use Rattle.redo_units.specs.Durations.{duration_words}
-use Rattle.redo_page.specs.Article.{article_of, article_parts, article_took, cause_of_node, cause_parts, max_path, nothing_parts, output_line_parts, output_parts, path_parts, printed_by, whole_parts}
+use Rattle.redo_page.specs.Article.{article_of, article_parts, article_took, cause_of_node, cause_parts, line_of_node, max_path, nothing_parts, output_line_parts, output_parts, path_parts, printed_by, whole_parts}
 use Rattle.redo_page.specs.Recipe.{recipe_at}
 use Rattle.redo_page.specs.Tree.{is_short, node_at}
 use Rattle.redo_page.proofs.Nesting.{Nest, nest_each, then_lead, joined}
@@ -83,6 +83,10 @@ module _ (logs : List Log) where
   pub cause_of_node_nests : (node : Node) → Nest (cause_of_node logs node)
   unfolding cause_of_node
   cause_of_node_nests node = cause_nests (cause_of (printed_by logs node))
+
+  pub line_of_node_nests : (node : Node) (position : ℕ) → Nest (line_of_node logs node position)
+  unfolding line_of_node
+  line_of_node_nests node position = cause_nests (slice_get (printed_by logs node) position)
 
 article_took_nests : (took : Option ℕ) → Nest (article_took took)
 article_took_nests None = record { leads = λ around tags. refl }

@@ -26,6 +26,7 @@ use Rattle.redo_page.specs.Private.PageTexts.{AreFailures}
 use Rattle.redo_page.specs.Failed.{is_dependent_failure, failed_parts, is_unclosed, positions_where}
 use Rattle.redo_page.specs.declared.failed.TheConstants.{DEPENDENTS, OTHERS, UNCLOSED}
 use Rattle.redo_page.specs.Laws.{target_links}
+use Rattle.redo_page.specs.NewSection.{no_news}
 use Rattle.redo_page.specs.Page.{build_view}
 use Rattle.redo_page.specs.Recipe.{commands_parts, recipe_parts}
 use Rattle.redo_page.specs.Scope.{View}
@@ -88,6 +89,7 @@ view some nodes = build_view [] [] [] [] some nodes
       alone = [];
       warned = [];
     })
+    no_news
 
 abbrev failed : List Log → List Node → List Part
 failed some nodes = failed_parts (view some nodes)

@@ -20,6 +20,7 @@ use Rattle.redo_units.specs.Dates as dates
 use Rattle.redo_units.specs.Durations.{duration_words}
 use Rattle.redo_page.specs.Command.{argument, command, is_safe, quoted}
 use Rattle.redo_page.specs.Frame.{footer_parts, head_parts, header_parts}
+use Rattle.redo_page.specs.NewSection.{no_news}
 use Rattle.redo_page.specs.Page.{build_view}
 use Rattle.redo_page.specs.Scope.{View, began_parts}
 use Rattle.redo_page.specs.Verdict.{body_markup, sign_text, title_text, titled, verdict_of, verdict_text}
@@ -114,7 +115,7 @@ facts window took recipes marks = record {
 -- A page that was asked to have this title.
 abbrev view : List ℕ → List Node → Facts → View
 view title nodes facts =
-    record (build_view title (codes "d") (codes "c") [] logs nodes facts) { heading = codes "h"; tab = codes "tab" }
+    record (build_view title (codes "d") (codes "c") [] logs nodes facts no_news) { heading = codes "h"; tab = codes "tab" }
 
 head_is :
     (head_parts (view (codes "t") (begun ∷ []) (facts None 0 0 0))
@@ -186,6 +187,18 @@ header_links_are :
     ≡ codes "failed" ∷ codes "summary" ∷ codes "timeline" ∷ codes "tree" ∷ [])
 unfolding duration_words dates.date_text_of dates.date_parts dates.period_of
 header_links_are = (refl, refl)
+
+-- A build that is compared with an earlier one has a link to what is new, after the one to what failed.
+compared_is :
+    header_parts (record (view [] [] (facts None 0 0 0)) { news = record no_news { is_compared = true } })
+    ≡ heading (0xE2 ∷ 0x9C ∷ 0x93 ∷ []) (nav (item markup.NewLink (codes "New since the baseline")
+    (item markup.SummaryLink (codes "Summary") last_item)))
+compared_is = refl
+
+compared_links_are :
+    section_links (header_parts (record (view [] (failed ∷ []) (facts None 0 0 0)) { news = record no_news { is_compared = true } }))
+    ≡ codes "failed" ∷ codes "new" ∷ codes "summary" ∷ codes "tree" ∷ []
+compared_links_are = refl
 
 -- ---- the end
 

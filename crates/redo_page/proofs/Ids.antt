@@ -7,7 +7,7 @@ use Rattle.std.proofs.lemmas.List.{append-nil}
 use Rattle.std.proofs.lemmas.List.Folds.{list_all-append}
 use Rattle.std.proofs.lemmas.Grind.{flat_map-append}
 use Rattle.redo_html.specs.declared.markup.Markup.{Markup}
-use Rattle.redo_html.specs.declared.markup.Markup.TheVariants.{FailedSection, SummarySection, TimelineSection, TreeSection, FailedLink, SummaryLink, TimelineLink, TreeLink, TargetLink, OutputLink, Article, TargetItem, Details, OpenDetails, Ordered, OrderedFrom, RowHeading, Title1, DescriptionList, Small, EndSmall}
+use Rattle.redo_html.specs.declared.markup.Markup.TheVariants.{FailedSection, NewSection, SummarySection, TimelineSection, TreeSection, FailedLink, NewLink, SummaryLink, TimelineLink, TreeLink, TargetLink, OutputLink, Article, TargetItem, Details, OpenDetails, Ordered, OrderedFrom, RowHeading, Title1, DescriptionList, Small, EndSmall}
 use Rattle.redo_html.specs.Chart.{drawing_links}
 use Rattle.redo_html.specs.Parts.{Part}
 use Rattle.redo_html.specs.Parts.Part.{MarkupPart, LogPart, TextPart, NumberPart, TitlePart, StylePart, ChartPart, MeterPart}
@@ -25,10 +25,12 @@ use Rattle.redo_units.specs.Words.WordValue.{NumberWord, TextWord}
 -- Whether a tag begins a section, or leads to one, or begins a heading of the page or a list of terms.
 abbrev pub is_section : Markup → Bool
 is_section FailedSection = true
+is_section NewSection = true
 is_section SummarySection = true
 is_section TimelineSection = true
 is_section TreeSection = true
 is_section FailedLink = true
+is_section NewLink = true
 is_section SummaryLink = true
 is_section TimelineLink = true
 is_section TreeLink = true

@@ -34,6 +34,7 @@ use Rattle.redo_page.specs.Excerpt.Stretch.{LeftOut}
 use Rattle.redo_page.specs.Article.{article_took, name_of, nothing_parts, output_parts}
 use Rattle.redo_page.specs.Failed.{is_unclosed}
 use Rattle.redo_page.specs.Article.{whole_parts}
+use Rattle.redo_page.specs.NewSection.{no_news}
 use Rattle.redo_page.specs.Page.{build_view}
 use Rattle.redo_page.specs.Scope.{View, count_of, holds, measure_words}
 use Rattle.redo_page.specs.Targets.{below_parts, exit_parts, lines_parts, plural, took_parts, warnings_below_parts, warnings_parts}
@@ -151,7 +152,7 @@ facts callers marks = record {
 }
 
 abbrev view : Facts → View
-view facts = record (build_view [] [] [] [] [] (replicate 12345 no_node) facts) {
+view facts = record (build_view [] [] [] [] [] (replicate 12345 no_node) facts no_news) {
   roots = replicate 12346 0;
   dependents = replicate 12347 0;
   unclosed = replicate 12348 0;

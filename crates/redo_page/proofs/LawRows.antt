@@ -55,15 +55,15 @@ charts_are = refl
 -- Tags that begin sections or lead to them, and others.
 abbrev framed : List Part
 framed =
-    MarkupPart markup.FailedLink ∷ MarkupPart markup.TreeLink ∷ MarkupPart markup.EndLink ∷ MarkupPart markup.SummaryLink
-    ∷ MarkupPart markup.TreeSection ∷ MarkupPart markup.TreeHeading ∷ MarkupPart markup.SummarySection
-    ∷ MarkupPart markup.FailedSection ∷ MarkupPart markup.TimelineLink ∷ MarkupPart markup.TimelineSection
+    MarkupPart markup.FailedLink ∷ MarkupPart markup.NewLink ∷ MarkupPart markup.TreeLink ∷ MarkupPart markup.EndLink
+    ∷ MarkupPart markup.SummaryLink ∷ MarkupPart markup.TreeSection ∷ MarkupPart markup.TreeHeading ∷ MarkupPart markup.SummarySection
+    ∷ MarkupPart markup.NewSection ∷ MarkupPart markup.FailedSection ∷ MarkupPart markup.TimelineLink ∷ MarkupPart markup.TimelineSection
     ∷ MarkupPart markup.EndSection ∷ []
 
-section_links_are : section_links framed ≡ codes "failed" ∷ codes "tree" ∷ codes "summary" ∷ codes "timeline" ∷ []
+section_links_are : section_links framed ≡ codes "failed" ∷ codes "new" ∷ codes "tree" ∷ codes "summary" ∷ codes "timeline" ∷ []
 section_links_are = refl
 
-section_ids_are : section_ids framed ≡ codes "tree" ∷ codes "summary" ∷ codes "failed" ∷ codes "timeline" ∷ []
+section_ids_are : section_ids framed ≡ codes "tree" ∷ codes "summary" ∷ codes "new" ∷ codes "failed" ∷ codes "timeline" ∷ []
 section_ids_are = refl
 
 log_bytes_are : log_bytes parts ≡ codes "a\nd\n"

@@ -25,6 +25,9 @@ mod LimitLemmas
 mod LimitRows
 mod NameLemmas
 mod Nesting
+mod NewsLemmas
+mod NewsParts
+mod NewsRows
 mod OpeningLemmas
 mod OtherTags
 mod OwnLinks

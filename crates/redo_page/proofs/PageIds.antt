@@ -7,7 +7,7 @@ use Rattle.std.proofs.lemmas.List.{append-nil, length-map}
 use Rattle.redo_facts.specs.Facts.{RecipeFacts}
 use Rattle.redo_logs.specs.Logs.{Log}
 use Rattle.redo_html.specs.declared.markup.Markup.{Markup}
-use Rattle.redo_html.specs.declared.markup.Markup.TheVariants.{FailedLink, FailedSection, SummaryLink, SummarySection, TimelineLink, TreeLink, TreeSection, Title1, DescriptionList}
+use Rattle.redo_html.specs.declared.markup.Markup.TheVariants.{FailedLink, FailedSection, NewLink, NewSection, SummaryLink, SummarySection, TimelineLink, TreeLink, TreeSection, Title1, DescriptionList}
 use Rattle.redo_html.specs.Parts.{Part}
 use Rattle.redo_html.specs.Parts.Part.{MarkupPart}
 use Rattle.redo_page.specs.Targets.{parts_if}
@@ -17,18 +17,22 @@ use Rattle.redo_outline.specs.Contents.{Contents, contents_of}
 use Rattle.redo_outline.specs.Facts.{target_status}
 use Rattle.redo_outline.specs.Outline.{log_count, outline_of, with_times}
 use Rattle.redo_page.specs.declared.failed.TheConstants.{FAILURES}
+use Rattle.redo_page.specs.declared.news.TheConstants.{NEWS}
 use Rattle.redo_page.specs.declared.frame.TheConstants.{FOOTER, HEAD, HEADER}
-use Rattle.redo_page.specs.declared.scope.Listed.TheVariants.{Articles, Others, Dependents, Unclosed}
+use Rattle.redo_page.specs.declared.scope.Listed.TheVariants.{Articles, Others, Dependents, Unclosed, NewlyFailing, Fixed}
 use Rattle.redo_page.specs.declared.scope.Listed.{Listed}
 use Rattle.redo_page.specs.declared.scope.Rows.{Rows}
 use Rattle.redo_page.specs.declared.scope.Rows.TheVariants.{Longest, LongestAlone, MostMemory, Warned}
+use Rattle.redo_page.specs.declared.scope.Rows.TheVariants as rows
 use Rattle.redo_page.specs.declared.summary.TheConstants.{SECTION}
 use Rattle.redo_page.specs.Failed.{failed_parts, is_dependent_failure, is_unclosed}
 use Rattle.redo_page.specs.Frame.{footer_parts}
 use Rattle.redo_page.specs.Laws.{article_ids, article_links, charts, is_among, numbers_from, page_chart, part_chart, section_id, section_ids, section_link, section_links, target_ids, target_links, heading_tag}
 use Rattle.redo_page.specs.Page.{Request, options_of, page_contents, page_events, page_facts, page_outline, page_parts, page_view, run_times, top_parts}
 use Rattle.redo_page.specs.Scope.{View, positions_of, rows_of}
+use Rattle.redo_page.specs.NewSection.{news_parts}
 use Rattle.redo_page.specs.Summary.{summary_parts}
+use Rattle.redo_page.proofs.NewsLemmas.{failing_below, fixed_below, news_below}
 use Rattle.redo_page.specs.Template.{Template}
 use Rattle.redo_page.specs.Tree.{articles, max_articles, root_failures}
 use Rattle.redo_page.proofs.Ids.{Refers, is_section, section, then_refer}
@@ -98,18 +102,20 @@ heading_tag_part (MarkupPart markup) = by markup
     by markup = refl
 heading_tag_part part = refl
 
--- The heading, and the links to sections: what failed, the summary, the timeline, and the tree.
-abbrev links : Bool → Bool → Bool → List Part
-links failed some timed =
+-- The heading, and the links to sections: what failed, what is new, the summary, the timeline, and the tree.
+abbrev links : Bool → Bool → Bool → Bool → List Part
+links failed compared some timed =
     MarkupPart Title1
     ∷ (parts_if failed (MarkupPart FailedLink ∷ [])
-    ++ (MarkupPart SummaryLink ∷ (some_if some (parts_if timed (MarkupPart TimelineLink ∷ []) ++ []) ++ MarkupPart TreeLink ∷ [])))
+    ++ (parts_if compared (MarkupPart NewLink ∷ [])
+    ++ (MarkupPart SummaryLink ∷ (some_if some (parts_if timed (MarkupPart TimelineLink ∷ []) ++ []) ++ MarkupPart TreeLink ∷ []))))
 
--- The tags of sections of a page, and its charts, if targets failed, and if a window and most times are known.
-abbrev page_sections : Bool → Bool → Bool → List Part → List Part
-page_sections failed some timed timeline =
-    (links failed some timed
-    ++ ((parts_if failed (MarkupPart FailedSection ∷ []) ++ []) ++ MarkupPart SummarySection ∷ MarkupPart DescriptionList ∷ []))
+-- The tags of sections of a page, and its charts, if targets failed, if there is a baseline, and if a window and most times are known.
+abbrev page_sections : Bool → Bool → Bool → Bool → List Part → List Part
+page_sections failed compared some timed timeline =
+    (links failed compared some timed
+    ++ ((parts_if failed (MarkupPart FailedSection ∷ []) ++ [])
+    ++ ((parts_if compared (MarkupPart NewSection ∷ []) ++ []) ++ MarkupPart SummarySection ∷ MarkupPart DescriptionList ∷ [])))
     ++ ((timeline ++ MarkupPart TreeSection ∷ []) ++ [])
 
 chart_part : (part : Part) → flat_map part_chart (section part) ≡ part_chart part
@@ -121,58 +127,84 @@ chart_part (MarkupPart markup) = by (is_section markup)
 chart_part part = refl
 
 -- The charts are the charts of the timeline.
-charts_found : (failed some timed : Bool) (timeline : List Part) → charts (page_sections failed some timed timeline) ≡ charts timeline
-charts_found failed some timed timeline = by failed some timed
+charts_found : (failed compared some timed : Bool) (timeline : List Part)
+    → charts (page_sections failed compared some timed timeline) ≡ charts timeline
+charts_found failed compared some timed timeline = by failed compared some timed
   where
     last : charts ((timeline ++ MarkupPart TreeSection ∷ []) ++ []) ≡ charts timeline
     last = simp (flat_map-append, append-nil)
 
-    by : (failed some timed : Bool) → charts (page_sections failed some timed timeline) ≡ charts timeline
-    by true true true = last
-    by true true false = last
-    by true false true = last
-    by true false false = last
-    by false true true = last
-    by false true false = last
-    by false false true = last
-    by false false false = last
+    by : (failed compared some timed : Bool) → charts (page_sections failed compared some timed timeline) ≡ charts timeline
+    by true true true true = last
+    by true true true false = last
+    by true true false true = last
+    by true true false false = last
+    by true false true true = last
+    by true false true false = last
+    by true false false true = last
+    by true false false false = last
+    by false true true true = last
+    by false true true false = last
+    by false true false true = last
+    by false true false false = last
+    by false false true true = last
+    by false false true false = last
+    by false false false true = last
+    by false false false false = last
 
 module _ (view : View) where
   -- The tags of sections of a page with this outcome, and its charts.
-  abbrev sections_of : Bool → Bool → Option Window → List Part
-  sections_of failed timed window = page_sections failed (is_some window) timed (timeline_found view timed window)
+  abbrev sections_of : Bool → Bool → Bool → Option Window → List Part
+  sections_of failed compared timed window = page_sections failed compared (is_some window) timed (timeline_found view timed window)
 
   abbrev view_sections : List Part
-  view_sections = sections_of (nat_lt 0 (length (root_failures view.nodes))) (is_timed view.facts) view.facts.window
+  view_sections =
+      sections_of (nat_lt 0 (length (root_failures view.nodes))) view.news.is_compared (is_timed view.facts) view.facts.window
 
   -- There is a link to each section.
   sections_linked : section_links view_sections ≡ section_ids view_sections
-  sections_linked = by (nat_lt 0 (length (root_failures view.nodes))) (is_timed view.facts) view.facts.window
+  sections_linked = by (nat_lt 0 (length (root_failures view.nodes))) view.news.is_compared (is_timed view.facts) view.facts.window
     where
-      by : (failed timed : Bool) (window : Option Window)
-          → section_links (sections_of failed timed window) ≡ section_ids (sections_of failed timed window)
-      by true true None = refl
-      by true false None = refl
-      by true true (Some window) = refl
-      by true false (Some window) = refl
-      by false true None = refl
-      by false false None = refl
-      by false true (Some window) = refl
-      by false false (Some window) = refl
+      by : (failed compared timed : Bool) (window : Option Window)
+          → section_links (sections_of failed compared timed window) ≡ section_ids (sections_of failed compared timed window)
+      by true true true None = refl
+      by true true true (Some window) = refl
+      by true true false None = refl
+      by true true false (Some window) = refl
+      by true false true None = refl
+      by true false true (Some window) = refl
+      by true false false None = refl
+      by true false false (Some window) = refl
+      by false true true None = refl
+      by false true true (Some window) = refl
+      by false true false None = refl
+      by false true false (Some window) = refl
+      by false false true None = refl
+      by false false true (Some window) = refl
+      by false false false None = refl
+      by false false false (Some window) = refl
 
   headings_found : flat_map heading_tag view_sections ≡ Title1 ∷ DescriptionList ∷ []
-  headings_found = by (nat_lt 0 (length (root_failures view.nodes))) (is_timed view.facts) view.facts.window
+  headings_found = by (nat_lt 0 (length (root_failures view.nodes))) view.news.is_compared (is_timed view.facts) view.facts.window
     where
-      by : (failed timed : Bool) (window : Option Window)
-          → flat_map heading_tag (sections_of failed timed window) ≡ Title1 ∷ DescriptionList ∷ []
-      by true true None = refl
-      by true false None = refl
-      by true true (Some window) = refl
-      by true false (Some window) = refl
-      by false true None = refl
-      by false false None = refl
-      by false true (Some window) = refl
-      by false false (Some window) = refl
+      by : (failed compared timed : Bool) (window : Option Window)
+          → flat_map heading_tag (sections_of failed compared timed window) ≡ Title1 ∷ DescriptionList ∷ []
+      by true true true None = refl
+      by true true true (Some window) = refl
+      by true true false None = refl
+      by true true false (Some window) = refl
+      by true false true None = refl
+      by true false true (Some window) = refl
+      by true false false None = refl
+      by true false false (Some window) = refl
+      by false true true None = refl
+      by false true true (Some window) = refl
+      by false true false None = refl
+      by false true false (Some window) = refl
+      by false false true None = refl
+      by false false true (Some window) = refl
+      by false false false None = refl
+      by false false false (Some window) = refl
 
 -- The times of shown targets, and the recipes with the most memory, lead to positions of nodes.
 abbrev pub HavePositions : Type 0
@@ -229,12 +261,15 @@ module _ (have : HavePositions) (memory : HavePositionsOfMemory) (lead : BarsLea
       by false = tt
   rows_below positions MostMemory = memory nodes request.recipes facts.recipes
   rows_below positions Warned = positions.warned
+  rows_below positions rows.New = news_below request.baseline logs nodes
 
   lists_below : (these : Listed) → list_all (is_listed (length nodes) (articles nodes) these) (positions_of view these) ≡ true
   lists_below Articles = all_among (articles nodes)
   lists_below Others = others_below nodes
   lists_below Dependents = where_are_below is_dependent_failure nodes
   lists_below Unclosed = where_are_below is_unclosed nodes
+  lists_below NewlyFailing = failing_below request.baseline logs nodes
+  lists_below Fixed = fixed_below request.baseline logs nodes
 
   -- The ids of articles, if there are any.
   abbrev ids_of : List ℕ → List ℕ
@@ -249,7 +284,7 @@ module _ (have : HavePositions) (memory : HavePositionsOfMemory) (lead : BarsLea
 
   page_refers : Refers (length nodes) (articles nodes) parts (numbers_from 0 (log_count shown) ++ [])
       (((ids_of (root_failures nodes) ++ []) ++ []) ++ []) (view_sections view)
-  unfolding page_parts top_parts failed_parts footer_parts summary_parts
+  unfolding page_parts top_parts failed_parts news_parts footer_parts summary_parts
   page_refers =
       let positions = have nodes request.times in
       let rows : AreRows (length nodes) (articles nodes) view =
@@ -257,9 +292,10 @@ module _ (have : HavePositions) (memory : HavePositionsOfMemory) (lead : BarsLea
       let refers = λ (template : Template) (is : template_only Outside template ≡ true).
       template_refers (length nodes) (articles nodes) Outside template is view tt rows in
       let failures = template_refers (length nodes) (articles nodes) Failing FAILURES refl view tt rows in
+      let news = template_refers (length nodes) (articles nodes) Failing NEWS refl view tt rows in
       let timeline = timeline_refers lead (length nodes) (articles nodes) view rows positions.callers positions.recipes positions.marks in
       then_refer (then_refer (refers HEAD refl)
-      (then_refer (refers HEADER refl) (then_refer failures (refers SECTION refl))))
+      (then_refer (refers HEADER refl) (then_refer failures (then_refer news (refers SECTION refl)))))
       (then_refer (then_refer timeline (tree_refers logs (options_of request) nodes shown)) (refers FOOTER refl))
 
   pub page_target_ids : target_ids parts ≡ numbers_from 0 (length nodes)
@@ -295,7 +331,7 @@ module _ (have : HavePositions) (memory : HavePositionsOfMemory) (lead : BarsLea
   charts_are : charts parts ≡ charts (timeline_found view (is_timed facts) facts.window)
   charts_are =
       in_sections part_chart chart_part parts ∙ ap charts page_refers.sections_are
-      ∙ charts_found (nat_lt 0 (length (root_failures nodes))) (is_some facts.window) (is_timed facts)
+      ∙ charts_found (nat_lt 0 (length (root_failures nodes))) view.news.is_compared (is_some facts.window) (is_timed facts)
       (timeline_found view (is_timed facts) facts.window)
 
   pub page_has_chart : (window : Window) → facts.window ≡ Some window → is_timed facts ≡ true

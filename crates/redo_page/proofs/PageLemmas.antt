@@ -17,6 +17,8 @@ use Rattle.redo_outline.specs.declared.node.Node.{Node}
 use Rattle.redo_page.specs.declared.page.Texts.{Texts}
 use Rattle.redo_page.specs.Command.{command}
 use Rattle.redo_page.specs.Failed.{is_dependent_failure, is_unclosed, positions_where}
+use Rattle.redo_page.specs.NewSection.{news_of}
+use Rattle.redo_page.specs.News.{NewsValue}
 use Rattle.redo_page.specs.Page.{Request, build_view, options_of, page_outline, page_view}
 use Rattle.redo_page.specs.Private.PageTexts.{AreTexts}
 use Rattle.redo_page.specs.Scope.{View}
@@ -75,7 +77,7 @@ next_stage before middle after first second done wrote more =
 -- ---- the parts of templates
 
 module _ (request : Request) (options : Options) (logs : List Log) (requested : List (List ℕ)) (nodes : List Node) (texts : Texts)
-    (facts : Facts) (usage : UsageFacts) (roots dependents unclosed : List ℕ) where
+    (facts : Facts) (usage : UsageFacts) (roots dependents unclosed : List ℕ) (news : NewsValue) where
   abbrev pub view_with : View
   view_with = record {
     title = request.title;
@@ -92,6 +94,7 @@ module _ (request : Request) (options : Options) (logs : List Log) (requested : 
     roots = roots;
     dependents = dependents;
     unclosed = unclosed;
+    news = news;
     rank = record { value = 0; position = 0 };
     largest = 0;
     node = no_node;
@@ -100,8 +103,9 @@ module _ (request : Request) (options : Options) (logs : List Log) (requested : 
   pub view_is : options ≡ options_of request → nodes ≡ page_outline request logs requested → facts ≡ summary_of nodes request.times
       → usage ≡ usage_of nodes request.recipes facts.recipes → AreTexts request options requested nodes texts
       → roots ≡ root_failures nodes → dependents ≡ positions_where is_dependent_failure 0 nodes
-      → unclosed ≡ positions_where is_unclosed 0 nodes → view_with ≡ page_view request logs requested
-  view_is options_are nodes_are facts_are usage_is are roots_are dependents_are unclosed_are =
+      → unclosed ≡ positions_where is_unclosed 0 nodes → news ≡ news_of request.baseline logs nodes
+      → view_with ≡ page_view request logs requested
+  view_is options_are nodes_are facts_are usage_is are roots_are dependents_are unclosed_are news_are =
       let used : usage ≡ usage_of nodes request.recipes (summary_of nodes request.times).recipes =
       usage_is ∙ ap (λ (known : Facts). usage_of nodes request.recipes known.recipes) facts_are in
       (λ i. record view_with {
@@ -114,6 +118,7 @@ module _ (request : Request) (options : Options) (logs : List Log) (requested : 
         roots = roots_are i;
         dependents = dependents_are i;
         unclosed = unclosed_are i;
+        news = news_are i;
       })
       ∙ (λ i. build_view request.title request.dir (command request.dir (options_are i) requested) request.recipes logs (nodes_are i)
-      (summary_of (nodes_are i) request.times))
+      (summary_of (nodes_are i) request.times) (news_of request.baseline logs (nodes_are i)))

@@ -1,6 +1,6 @@
 -- The names of targets in the whole page.
 use Rattle.std.proofs.Common.{◌≡◌, ℕ, zero, suc, ◌+◌, Bool, true, false, List, [], ◌∷◌, ◌++◌, Option, None, Some, map, refl, sym, ◌∙◌, ap, subst}
-use Rattle.std.specs.Prelude.{◌&&◌, nat_lt, slice_get, if◌then◌else◌}
+use Rattle.std.specs.Prelude.{◌&&◌, nat_lt, slice_get, take, if◌then◌else◌}
 use Rattle.std.specs.List.{AllByRecursion}
 use Rattle.std.proofs.lemmas.List.{append-nil, map-append}
 use Rattle.std.proofs.lemmas.Option.{same_Some}
@@ -19,12 +19,13 @@ use Rattle.redo_page.specs.declared.frame.TheConstants.{FOOTER, HEAD, HEADER}
 use Rattle.redo_page.specs.declared.summary.TheConstants.{SECTION}
 use Rattle.redo_page.specs.Laws.{IsOfTarget, KnownRecipes, TellsItsTarget, page_recipes}
 use Rattle.redo_page.specs.Limits.{tree_limits}
-use Rattle.redo_page.specs.Page.{Request, options_of, page_contents, page_events, page_facts, page_outline, page_parts, page_usage, page_view, run_times, top_parts}
-use Rattle.redo_page.specs.Scope.{View}
+use Rattle.redo_page.specs.Page.{Request, options_of, page_contents, page_events, page_facts, page_news, page_outline, page_parts, page_usage, page_view, run_times, top_parts}
+use Rattle.redo_page.specs.Scope.{View, max_rows}
 use Rattle.redo_page.specs.Summary.{summary_parts}
 use Rattle.redo_page.specs.Tree.{node_at}
 use Rattle.redo_page.specs.declared.scope.Rows.TheVariants.{Longest, LongestAlone, MostMemory, Warned}
-use Rattle.redo_page.proofs.FailedNames.{HasValues, IsValueOf, failed_tells, known_in, template_tells, timeline_tells}
+use Rattle.redo_page.specs.declared.scope.Rows.TheVariants as rows
+use Rattle.redo_page.proofs.FailedNames.{HasValues, IsValueOf, failed_tells, known_in, news_tell, template_tells, timeline_tells}
 use Rattle.redo_page.proofs.NameLemmas.{Tell, TellHere, Tells, from_here, then_tell}
 use Rattle.redo_page.proofs.OpeningLemmas.{AreNamed, ArePlaced, contents_named, nodes_placed, same_placed, target_named, timed_node, trim_named, trim_placed}
 use Rattle.redo_page.proofs.TreeNames.{event_name, tree_tells}
@@ -84,7 +85,8 @@ unfolding top_parts summary_parts
 top_tells view values =
     then_tell (known_in view) view.logs view.nodes (template_tells HEAD refl view values)
     (then_tell (known_in view) view.logs view.nodes (template_tells HEADER refl view values)
-    (then_tell (known_in view) view.logs view.nodes (failed_tells view) (template_tells SECTION refl view values)))
+    (then_tell (known_in view) view.logs view.nodes (failed_tells view)
+    (then_tell (known_in view) view.logs view.nodes (news_tell view) (template_tells SECTION refl view values))))
 
 -- ---- rows of tables
 
@@ -157,6 +159,10 @@ module _ (request : Request) (logs : List Log) (requested : List (List ℕ)) whe
     each so [] have = tt
     each so (rank ∷ all) have = (so rank have.0, each so all have.1)
 
+    each_new : (all : List Rank) → AllByRecursion (λ (rank : Rank). IsValueOf recipes rows.New (node_at nodes rank.position) rank) all
+    each_new [] = tt
+    each_new (rank ∷ all) = (tt, each_new all)
+
     values : HasValues (page_view request logs requested)
     values Longest = by (is_timed (page_facts request logs requested))
       where
@@ -172,6 +178,7 @@ module _ (request : Request) (logs : List Log) (requested : List (List ℕ)) whe
         by false = tt
     values MostMemory = each memory_at (page_usage request logs requested).memory
         (ranks.memory nodes request.recipes (page_facts request logs requested).recipes)
+    values rows.New = each_new (take max_rows (page_news request logs requested).lines)
     values Warned = each warnings_at (page_facts request logs requested).warned (ranks.warned nodes request.times)
 
   page_tells : RanksHaveValues → Tells recipes logs nodes (page_parts request logs requested)

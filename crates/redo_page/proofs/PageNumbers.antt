@@ -21,6 +21,7 @@ use Rattle.redo_page.specs.Frame.{footer_parts, head_parts, header_parts}
 use Rattle.redo_page.specs.Laws.{IsPartOf, IsRead, end_shown, heading_shown, heading_with, number_of, requested_shown, root_count, summary_shown, tile, took_shown}
 use Rattle.redo_page.specs.Page.{Request, body_parts, heading_of, options_of, page_facts, page_html, page_outline, page_parts, page_usage, page_view, top_parts}
 use Rattle.redo_page.specs.Scope.{View}
+use Rattle.redo_page.specs.NewSection.{news_parts}
 use Rattle.redo_page.specs.Summary.{summary_parts}
 use Rattle.redo_page.specs.Targets.{parts_if}
 use Rattle.redo_page.specs.Template.{block_parts, nothing, parts_of_items}
@@ -203,7 +204,7 @@ module _ (request : Request) (logs : List Log) (requested : List (List ℕ)) whe
   unfolding top_parts
   header_has_part inner part =
       page_has inner
-      (part_later (head_parts view) (part_earlier (failed_parts view ++ summary_parts view) part))
+      (part_later (head_parts view) (part_earlier (failed_parts view ++ (news_parts view ++ summary_parts view)) part))
 
   page_has_heading : IsPartOf (heading_shown nodes) (page_parts request logs requested)
   page_has_heading =
@@ -215,7 +216,7 @@ module _ (request : Request) (logs : List Log) (requested : List (List ℕ)) whe
   page_has_summary =
       page_has (summary_shown nodes facts usage)
       (part_later (head_parts view)
-      (part_later (header_parts view) (part_later (failed_parts view) summary_has)))
+      (part_later (header_parts view) (part_later (failed_parts view) (part_later (news_parts view) summary_has))))
 
   footer_has : IsPartOf (end_shown request requested nodes) (footer_parts view)
   unfolding footer_parts
@@ -232,7 +233,7 @@ module _ (request : Request) (logs : List Log) (requested : List (List ℕ)) whe
   page_has_end = part_later (top_parts view) (part_later (body_parts view (options_of request) request.max_bytes requested) footer_has)
 
   module _ (are_read : read (page_html request logs requested) ≡ flat_map part_tokens (page_parts request logs requested)) where
-    part_read : (inner : List Part) → IsPartOf inner (page_parts request logs requested) → IsRead inner request logs requested
+    pub part_read : (inner : List Part) → IsPartOf inner (page_parts request logs requested) → IsRead inner request logs requested
     part_read inner part = record {
       before = flat_map part_tokens part.before;
       after = flat_map part_tokens part.after;

@@ -22,6 +22,7 @@ use Rattle.redo_page.specs.Laws.{IsPartOf, ListsFailures, is_among, list_item, p
 use Rattle.redo_page.specs.Timeline.{timeline_parts}
 use Rattle.redo_page.specs.Page.{Request, page_outline, page_parts, page_view, top_parts}
 use Rattle.redo_page.specs.Scope.{View, count_of, holds, max_rows, positions_of}
+use Rattle.redo_page.specs.NewSection.{news_parts}
 use Rattle.redo_page.specs.Summary.{summary_parts}
 use Rattle.redo_page.specs.Targets.{parts_if}
 use Rattle.redo_page.specs.Template.{Block, block_parts, nothing, parts_of_items}
@@ -62,7 +63,7 @@ part_among f (other ∷ numbers) number among = by (part_among f numbers number)
 abbrev after : View → ℕ → List Part
 after view count = parts_of_items (λ text. text.now) (block_parts (block_parts nothing)) view (drop count SECTION.now)
 
-some_parts : (condition : Bool) → condition ≡ true → {inner parts : List Part} → IsPartOf inner parts
+pub some_parts : (condition : Bool) → condition ≡ true → {inner parts : List Part} → IsPartOf inner parts
     → IsPartOf inner (parts_if condition parts)
 some_parts condition is part = rw is part
 
@@ -73,7 +74,8 @@ unfolding top_parts failed_parts
 section_in_top view some part =
     part_later (head_parts view)
     (part_later (header_parts view)
-    (part_earlier (summary_parts view) (part_earlier [] (some_parts (holds view HasFailed) (lt-ltb 0 (length view.roots) some) part))))
+    (part_earlier (news_parts view ++ summary_parts view)
+    (part_earlier [] (some_parts (holds view HasFailed) (lt-ltb 0 (length view.roots) some) part))))
 
 -- The items of the section, from some item on.
 module _ (view : View) where
@@ -101,7 +103,7 @@ module _ (view : View) where
   abbrev rows : (ℕ → Markup) → Bool → Listed → List Part
   rows link causes these = flat_map (list_item view.logs view.nodes link causes) (take max_rows (positions_of view these))
 
-  list_in : (front : List Part) (link : ℕ → Markup) (causes : Bool) (these : Listed) (back : List Part)
+  pub list_in : (front : List Part) (link : ℕ → Markup) (causes : Bool) (these : Listed) (back : List Part)
       → IsPartOf (target_list view.logs view.nodes link causes (take max_rows (positions_of view these)))
       (front ++ (rows link causes these ++ (MarkupPart markup.EndOrdered ∷ back)))
   list_in front link causes these back = record {
@@ -111,19 +113,19 @@ module _ (view : View) where
   }
 
   -- How many targets aren't listed, and the end of the list's element.
-  abbrev more_end : Listed → List Part
+  abbrev pub more_end : Listed → List Part
   more_end these =
       parts_if (holds view (HasUnlisted these))
       (MarkupPart markup.QuietParagraph ∷ TextPart AND.now ∷ NumberPart (count_of view (Unlisted these)) ∷ TextPart MORE_IN_TREE.now
       ∷ MarkupPart markup.EndParagraph ∷ [])
       ++ MarkupPart markup.EndDetails ∷ []
 
-  abbrev more_start : Listed → List ℕ → Markup → List Part
+  abbrev pub more_start : Listed → List ℕ → Markup → List Part
   more_start these heading list =
       MarkupPart markup.MoreDetails ∷ MarkupPart markup.Summary ∷ NumberPart (count_of view (All these)) ∷ TextPart heading
       ∷ MarkupPart markup.EndSummary ∷ MarkupPart list ∷ []
 
-  abbrev IsMore : Bool → Listed → List Part → Type 0
+  abbrev pub IsMore : Bool → Listed → List Part → Type 0
   IsMore causes these parts =
       IsPartOf
       (target_list view.logs view.nodes (λ position. markup.TargetLink position) causes (take max_rows (positions_of view these))) parts
@@ -155,7 +157,7 @@ module _ (view : View) where
       let size = length-take max_articles view.roots in
       take_all max_rows (take max_articles view.roots) (omega (arith, size))
 
-  any : (these : Listed) → 0 < length (positions_of view these) → holds view (HasAny these) ≡ true
+  pub any : (these : Listed) → 0 < length (positions_of view these) → holds view (HasAny these) ≡ true
   any these some = ap not (ne_eqb (length (positions_of view these)) 0 (λ none. omega (arith, none, some)))
 
 top_has_article : (view : View) (position : ℕ) → is_among (take max_articles view.roots) position ≡ true
@@ -180,7 +182,7 @@ module _ (request : Request) (logs : List Log) (requested : List (List ℕ)) whe
       part_later (top_parts view)
       (part_earlier (footer_parts view) (part_later (timeline_parts view) (whole_part (page_tree request logs requested))))
 
-  top_in_page : {inner : List Part} → IsPartOf inner (top_parts view) → IsPartOf inner (page_parts request logs requested)
+  pub top_in_page : {inner : List Part} → IsPartOf inner (top_parts view) → IsPartOf inner (page_parts request logs requested)
   unfolding page_parts
   top_in_page part = part_earlier ((timeline_parts view ++ page_tree request logs requested) ++ footer_parts view) part
 

@@ -4,6 +4,7 @@ use Rattle.std.specs.Fmt.{digits}
 use Rattle.std.specs.List.{filter, flat_map, starts_with}
 use Rattle.std.specs.Prelude.{bytes_eq, codes, nat_eq, sum_by, take, if◌then◌else◌}
 use Rattle.std.proofs.lemmas.List.{append_assoc}
+use Rattle.redo_compare.specs.Baseline.{BaselineValue}
 use Rattle.redo_facts.specs.Facts.{RecipeFacts}
 use Rattle.redo_line.specs.declared.entry.Entry.{Entry}
 use Rattle.redo_line.specs.declared.entry.Entry.TheVariants.{Text, Mention, Closing}
@@ -35,6 +36,7 @@ use Rattle.redo_page.specs.Frame.{footer_parts}
 use Rattle.redo_page.specs.Recipe.{commands_parts, recipe_parts}
 use Rattle.redo_page.specs.Summary.{summary_parts}
 use Rattle.redo_page.specs.Laws.{article_ids, article_links, log_bytes, positioned_lines, BeginWith, IsList, list_item}
+use Rattle.redo_page.specs.NewSection.{news_parts}
 use Rattle.redo_page.specs.Page.{Request, body_parts, options_of, page_contents, page_events, page_facts, page_html, page_outline, page_parts, page_usage, page_view, request_of, run_times, top_parts, tree_contents}
 use Rattle.redo_timeline.specs.declared.span.Window.{Window}
 use Rattle.redo_units.specs.Dates as dates
@@ -130,6 +132,7 @@ request title unchanged locks = record {
   max_bytes = 0;
   times = [];
   recipes = [];
+  baseline = None;
 }
 
 abbrev at : {A : Type 0} → List A → Bor (List A)
@@ -142,6 +145,9 @@ begun = record { began = Some 7; ended = None }
 abbrev known : RecipeFacts
 known = record { has_log = true; directory = Some (codes "x"); commands = []; usage = None }
 
+abbrev earlier : BaselineValue
+earlier = record { logs = log (codes "a") [] ∷ []; nodes = [] }
+
 requests_are :
     (request_of (record {
       title = at (codes "t");
@@ -151,6 +157,7 @@ requests_are :
       max_bytes = 0;
       times = at [];
       recipes = at [];
+      baseline = None;
     }) ≡ request (codes "t") true false)
     × (request_of (record {
       title = at [];
@@ -160,8 +167,9 @@ requests_are :
       max_bytes = 5;
       times = at (begun ∷ []);
       recipes = at (known ∷ []);
+      baseline = Some (record { ref_ptr = (0, 0); now = earlier });
     })
-    ≡ record (request [] false true) { max_bytes = 5; times = begun ∷ []; recipes = known ∷ [] })
+    ≡ record (request [] false true) { max_bytes = 5; times = begun ∷ []; recipes = known ∷ []; baseline = Some earlier })
 requests_are = (refl, refl)
 
 -- What is known of recipes reaches the page.
@@ -389,7 +397,7 @@ made_page :
     ∷ tag (markup.TargetItem 1) ∷ name (codes "b")
     (tag markup.EndItem ∷ tag markup.EndUnordered ∷ tag markup.EndDetails ∷ tag markup.EndItem
     ∷ footer (NumberPart 2 ∷ words (codes " logs in ") ∷ end (codes "redo-log -r --dir=d a"))))))))))
-unfolding page_parts top_parts summary_parts size_words footer_parts failed_parts is_safe number_text digits show_log show_log_within
+unfolding page_parts top_parts summary_parts size_words footer_parts failed_parts news_parts is_safe number_text digits show_log show_log_within
 made_page = refl
 
 abbrev badge : List Part → List Part
@@ -420,7 +428,7 @@ failed_page :
     ∷ tag markup.NoteItem ∷ tag (markup.OutputLink 0) ∷ words (codes "What it printed is shown above") ∷ tag markup.EndLink
     ∷ tag markup.EndItem ∷ tag markup.EndUnordered ∷ tag markup.EndDetails ∷ tag markup.EndItem
     ∷ footer (NumberPart 1 ∷ words (codes " log in ") ∷ end (codes "redo-log -r -u --debug-locks --dir=d a"))))))))))))))
-unfolding page_parts top_parts summary_parts size_words footer_parts failed_parts article_parts article_of recipe_parts commands_parts path_parts in_tree_parts output_parts whole_parts begins_with is_safe number_text digits show_log show_log_within
+unfolding page_parts top_parts summary_parts size_words footer_parts failed_parts news_parts article_parts article_of recipe_parts commands_parts path_parts in_tree_parts output_parts whole_parts begins_with is_safe number_text digits show_log show_log_within
 failed_page = refl
 
 -- The parts of these pages in short: where each section begins, the title, the first words, and the command.
@@ -430,6 +438,7 @@ milestone (MarkupPart markup.Header) = markup.Header ∷ []
 milestone (MarkupPart markup.Nav) = markup.Nav ∷ []
 milestone (MarkupPart markup.Main) = markup.Main ∷ []
 milestone (MarkupPart markup.FailedSection) = markup.FailedSection ∷ []
+milestone (MarkupPart markup.NewSection) = markup.NewSection ∷ []
 milestone (MarkupPart markup.SummarySection) = markup.SummarySection ∷ []
 milestone (MarkupPart markup.TimelineSection) = markup.TimelineSection ∷ []
 milestone (MarkupPart markup.TreeSection) = markup.TreeSection ∷ []
@@ -441,15 +450,24 @@ made_milestones :
     flat_map milestone (page_parts (request (codes "t") false false) made (codes "a" ∷ []))
     ≡ markup.Head ∷ markup.Header ∷ markup.Nav ∷ markup.Main ∷ markup.SummarySection ∷ markup.TreeSection ∷ markup.Footer
     ∷ markup.EndHtml ∷ []
-unfolding page_parts top_parts summary_parts size_words footer_parts failed_parts is_safe number_text digits show_log show_log_within
+unfolding page_parts top_parts summary_parts size_words footer_parts failed_parts news_parts is_safe number_text digits show_log show_log_within
 made_milestones = refl
 
 failed_milestones :
     flat_map milestone (page_parts (request [] true true) failed (codes "a" ∷ []))
     ≡ markup.Head ∷ markup.Header ∷ markup.Nav ∷ markup.Main ∷ markup.FailedSection ∷ markup.SummarySection ∷ markup.TreeSection
     ∷ markup.Footer ∷ markup.EndHtml ∷ []
-unfolding page_parts top_parts summary_parts size_words footer_parts failed_parts article_parts article_of recipe_parts commands_parts path_parts in_tree_parts output_parts whole_parts begins_with is_safe number_text digits show_log show_log_within
+unfolding page_parts top_parts summary_parts size_words footer_parts failed_parts news_parts article_parts article_of recipe_parts commands_parts path_parts in_tree_parts output_parts whole_parts begins_with is_safe number_text digits show_log show_log_within
 failed_milestones = refl
+
+-- What is new follows what failed.
+compared_milestones :
+    flat_map milestone
+    (page_parts (record (request [] true true) { baseline = Some earlier }) (log (codes "a") (Closing 9 (pos 2) ∷ []) ∷ []) (codes "a" ∷ []))
+    ≡ markup.Head ∷ markup.Header ∷ markup.Nav ∷ markup.Main ∷ markup.FailedSection ∷ markup.NewSection ∷ markup.SummarySection
+    ∷ markup.TreeSection ∷ markup.Footer ∷ markup.EndHtml ∷ []
+unfolding page_parts top_parts summary_parts size_words footer_parts failed_parts news_parts article_parts article_of recipe_parts commands_parts path_parts in_tree_parts output_parts nothing_parts is_safe number_text digits show_log show_log_within
+compared_milestones = refl
 
 -- Two targets that failed. The second one ended first.
 abbrev both_failed : List Log
@@ -463,7 +481,7 @@ both_ended = record (request [] false false) { times = begun ∷ ran 17958292110
 failures_in_order :
     (article_ids (page_parts both_ended both_failed (codes "a" ∷ [])) ≡ 2 ∷ 1 ∷ [])
     × (article_links (page_parts both_ended both_failed (codes "a" ∷ [])) ≡ 2 ∷ 1 ∷ [])
-unfolding page_parts top_parts summary_parts size_words tenths_words duration_words dates.date_text_of dates.date_parts dates.period_of footer_parts failed_parts cause_of_node cause_parts article_parts article_of recipe_parts commands_parts path_parts in_tree_parts output_parts nothing_parts is_safe number_text digits show_log show_log_within
+unfolding page_parts top_parts summary_parts size_words tenths_words duration_words dates.date_text_of dates.date_parts dates.period_of footer_parts failed_parts news_parts cause_of_node cause_parts article_parts article_of recipe_parts commands_parts path_parts in_tree_parts output_parts nothing_parts is_safe number_text digits show_log show_log_within
 failures_in_order = (refl, refl)
 
 -- If most times are known, there is a timeline.
@@ -471,7 +489,7 @@ timed_milestones :
     flat_map milestone (page_parts timed made (codes "a" ∷ []))
     ≡ markup.Head ∷ markup.Header ∷ markup.Nav ∷ markup.Main ∷ markup.SummarySection ∷ markup.TimelineSection ∷ markup.TreeSection
     ∷ markup.Footer ∷ markup.EndHtml ∷ []
-unfolding page_parts top_parts summary_parts size_words tenths_words duration_words dates.date_text_of dates.date_parts dates.period_of footer_parts failed_parts is_safe number_text digits show_log show_log_within
+unfolding page_parts top_parts summary_parts size_words tenths_words duration_words dates.date_text_of dates.date_parts dates.period_of footer_parts failed_parts news_parts is_safe number_text digits show_log show_log_within
 timed_milestones = refl
 
 -- The timeline is followed by the tree of the contents.
@@ -489,14 +507,14 @@ chart_count part = 0
 charts_are :
     (sum_by chart_count (page_parts timed made (codes "a" ∷ [])) ≡ 1)
     × (sum_by chart_count (page_parts (request [] false false) made (codes "a" ∷ [])) ≡ 0)
-unfolding page_parts top_parts summary_parts size_words tenths_words duration_words dates.date_text_of dates.date_parts dates.period_of footer_parts failed_parts is_safe number_text digits show_log show_log_within
+unfolding page_parts top_parts summary_parts size_words tenths_words duration_words dates.date_text_of dates.date_parts dates.period_of footer_parts failed_parts news_parts is_safe number_text digits show_log show_log_within
 charts_are = (refl, refl)
 
 -- The tree of a page shows these lines.
 limited_page :
     (length (log_bytes (page_parts (limited 0) long (codes "a" ∷ []))) ≡ 5005)
     × (length (log_bytes (page_parts (limited 1) long (codes "a" ∷ []))) ≡ 4004)
-unfolding page_parts top_parts summary_parts size_words footer_parts failed_parts is_safe number_text digits show_log show_log_within
+unfolding page_parts top_parts summary_parts size_words footer_parts failed_parts news_parts is_safe number_text digits show_log show_log_within
 limited_page = (refl, refl)
 
 abbrev title_of : Part → List (List ℕ)
@@ -509,25 +527,25 @@ words_of part = []
 
 title_is : flat_map title_of (page_parts (request (codes "t") false false) made (codes "a" ∷ []))
     ≡ (0xE2 ∷ 0x9C ∷ 0x93 ∷ (codes " t " ++ 0xC2 ∷ 0xB7 ∷ codes " 2 targets made, none failed")) ∷ []
-unfolding page_parts top_parts summary_parts size_words footer_parts failed_parts is_safe number_text digits show_log show_log_within
+unfolding page_parts top_parts summary_parts size_words footer_parts failed_parts news_parts is_safe number_text digits show_log show_log_within
 title_is = refl
 
 made_words :
     take 6 (flat_map words_of (page_parts (request (codes "t") false false) made (codes "a" ∷ [])))
     ≡ (0xE2 ∷ 0x9C ∷ 0x93 ∷ []) ∷ codes " " ∷ codes "2 targets made, none failed" ∷ codes "t" ∷ codes "a" ∷ codes "Summary" ∷ []
-unfolding page_parts top_parts summary_parts size_words footer_parts failed_parts is_safe number_text digits show_log show_log_within
+unfolding page_parts top_parts summary_parts size_words footer_parts failed_parts news_parts is_safe number_text digits show_log show_log_within
 made_words = refl
 
 failed_words :
     take 3 (flat_map words_of (page_parts (request [] true true) failed (codes "a" ∷ [])))
     ≡ (0xE2 ∷ 0x9C ∷ 0x97 ∷ []) ∷ codes " " ∷ codes "1 of 1 target failed" ∷ []
-unfolding page_parts top_parts summary_parts size_words footer_parts failed_parts article_parts article_of recipe_parts commands_parts path_parts in_tree_parts output_parts whole_parts is_safe number_text digits show_log show_log_within
+unfolding page_parts top_parts summary_parts size_words footer_parts failed_parts news_parts article_parts article_of recipe_parts commands_parts path_parts in_tree_parts output_parts whole_parts is_safe number_text digits show_log show_log_within
 failed_words = refl
 
 command_is :
     filter (λ text. starts_with nat_eq text (codes "redo-log -r"))
     (flat_map words_of (page_parts (request [] true true) failed (codes "a" ∷ []))) ≡ codes "redo-log -r -u --debug-locks --dir=d a" ∷ []
-unfolding page_parts top_parts summary_parts size_words footer_parts failed_parts article_parts article_of recipe_parts commands_parts path_parts in_tree_parts output_parts whole_parts begins_with is_safe number_text digits show_log show_log_within
+unfolding page_parts top_parts summary_parts size_words footer_parts failed_parts news_parts article_parts article_of recipe_parts commands_parts path_parts in_tree_parts output_parts whole_parts begins_with is_safe number_text digits show_log show_log_within
 command_is = refl
 
 -- A page has the bytes of its parts.
@@ -535,5 +553,5 @@ page_begins :
     bytes_eq (take 42 (page_html (request [] false false) [] []))
     (codes "<!doctype html><html lang=\"en\"><head><meta")
     ≡ true
-unfolding page_parts top_parts summary_parts size_words footer_parts failed_parts is_safe style_sheet symbols_after first_symbol symbol_len is_sequence sequence_len sequence_numbers first_code_point code_point_len is_unprintable notation unprintable_text number_text digits html_from show_log show_log_within
+unfolding page_parts top_parts summary_parts size_words footer_parts failed_parts news_parts is_safe style_sheet symbols_after first_symbol symbol_len is_sequence sequence_len sequence_numbers first_code_point code_point_len is_unprintable notation unprintable_text number_text digits html_from show_log show_log_within
 page_begins = refl

@@ -17,6 +17,7 @@ use Rattle.redo_page.specs.Frame.{footer_parts, head_parts, header_parts}
 use Rattle.redo_page.specs.Laws.{IsRed, first, says_failed, title_in}
 use Rattle.redo_page.specs.Page.{Request, body_parts, options_of, page_view}
 use Rattle.redo_page.specs.Scope.{View}
+use Rattle.redo_page.specs.NewSection.{news_parts}
 use Rattle.redo_page.specs.Summary.{summary_parts}
 use Rattle.redo_page.specs.Tree.{failure_cmp, has_failed, root_failures, root_failures_from}
 use Rattle.redo_page.specs.Verdict.{is_unfinished, title_text, verdict_of}
@@ -111,5 +112,5 @@ module _ (failed unfinished : Bool) (view : View) (rest : List Part) (verdict : 
 abbrev pub page_rest : Request → List Log → List (List ℕ) → List Part
 page_rest request logs requested =
     let view = page_view request logs requested in
-    (header_parts view ++ (failed_parts view ++ summary_parts view))
+    (header_parts view ++ (failed_parts view ++ (news_parts view ++ summary_parts view)))
     ++ (body_parts view (options_of request) request.max_bytes requested ++ footer_parts view)

@@ -13,6 +13,7 @@ use Rattle.redo_logs.specs.Logs.{Log}
 use Rattle.redo_outline.specs.declared.node.Node.{Node}
 use Rattle.redo_page.specs.Scope.{View, known_count, largest_of, meter_of, shown_alone, shown_longest}
 use Rattle.redo_page.specs.Laws.{heading_shown, requested_shown, summary_shown}
+use Rattle.redo_page.specs.NewSection.{no_news}
 use Rattle.redo_page.specs.Page.{build_view}
 use Rattle.redo_page.specs.Summary.{summary_parts}
 use Rattle.redo_page.specs.Template.{nothing, tile_end, tile_start}
@@ -99,7 +100,7 @@ abbrev few : Facts
 few = record known { callers = []; marks = span 0 ∷ [] }
 
 abbrev view : Facts → View
-view facts = build_view [] [] [] [] logs nodes facts
+view facts = build_view [] [] [] [] logs nodes facts no_news
 
 abbrev summary : Facts → List Part
 summary facts = summary_parts (view facts)
@@ -330,7 +331,7 @@ words_of part = []
 
 -- A build of three targets. The times of one are unknown, and no target failed with another one.
 few_words_are :
-    flat_map words_of (summary_parts (build_view [] [] [] [] (log (codes "a") ∷ []) (node 0 None (Some (pos 1)) false ∷ []) (record few { warned = [] })))
+    flat_map words_of (summary_parts (build_view [] [] [] [] (log (codes "a") ∷ []) (node 0 None (Some (pos 1)) false ∷ []) (record few { warned = [] }) no_news))
     ≡ codes "Summary" ∷ codes "Targets" ∷ codes "Failed" ∷ codes "Lines with warning:" ∷ codes "Logs" ∷ codes " byte" ∷ [] ∷ []
     ∷ codes "Took" ∷ codes " min " ∷ codes " s"
     ∷ codes "There is no timeline: the logs of " ∷ codes " of " ∷ codes " targets do not say when they began, or when they ended." ∷ []
@@ -339,7 +340,7 @@ few_words_are = refl
 
 -- A build without known times: 46.0 kB of text.
 no_times_words_are :
-    flat_map words_of (summary_parts (build_view [] [] [] [] (log (codes "a") ∷ []) (node 0 None (Some (pos 1)) false ∷ []) unknown))
+    flat_map words_of (summary_parts (build_view [] [] [] [] (log (codes "a") ∷ []) (node 0 None (Some (pos 1)) false ∷ []) unknown no_news))
     ≡ codes "Summary" ∷ codes "Targets" ∷ codes "Failed" ∷ codes "Lines with warning:" ∷ codes "Logs" ∷ codes "." ∷ codes " kB"
     ∷ codes "There is no timeline: the logs do not say when the targets ran." ∷ []
 unfolding summary_parts duration_words size_words tenths_words
@@ -353,7 +354,7 @@ values_of part = []
 
 -- 1 target failed, 7 lines have warnings, 1 byte, 1 min 30 s, and the logs of 1 of 3 targets say too little.
 few_values_are :
-    flat_map values_of (summary_parts (build_view [] [] [] [] (log (codes "a") ∷ []) (node 0 None (Some (pos 1)) false ∷ []) (record few { warned = [] })))
+    flat_map values_of (summary_parts (build_view [] [] [] [] (log (codes "a") ∷ []) (node 0 None (Some (pos 1)) false ∷ []) (record few { warned = [] }) no_news))
     ≡ 1 ∷ 1 ∷ 7 ∷ 1 ∷ 1 ∷ 3 ∷ 0 ∷ 1 ∷ 3 ∷ []
 unfolding summary_parts duration_words size_words tenths_words
 few_values_are = refl

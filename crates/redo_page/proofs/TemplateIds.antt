@@ -22,14 +22,14 @@ use Rattle.redo_page.specs.Targets.{parts_if}
 use Rattle.redo_page.specs.Template.{Block, Template, block_parts, parts_of_item, parts_of_items, nothing, template_parts}
 use Rattle.redo_page.specs.Verdict.{body_markup}
 use Rattle.redo_page.specs.Words.{word_part}
-use Rattle.redo_page.proofs.FailedIds.{AreBelow, all_take, articles_refer, cause_of_node_refers}
+use Rattle.redo_page.proofs.FailedIds.{AreBelow, all_take, articles_refer, cause_of_node_refers, line_of_node_refers}
 use Rattle.redo_page.proofs.Ids.{article_link_refers, same_refer, Bare, Refer, Refers, badge_bare, bare_each, bare_refers, is_reference, is_section, linked_refers, section, then_refer, word_bare}
 use Rattle.redo_summary.specs.declared.rank.Rank.{Rank}
 use Rattle.redo_summary.specs.Laws.{AreRanksBelow}
 use Rattle.redo_timeline.specs.declared.span.Window.{Window}
 use Rattle.redo_units.specs.Dates.{date_text_of}
 
--- Where an item is: outside of loops, in the section on failures or not, or in a loop over targets, the rows of a table, or a list.
+-- Where an item is: outside of loops, in a section with lists of targets or not, or in a loop over targets, the rows of a table, or a list.
 pub data Place : Type 0 where
   Outside : Place
   Failing : Place
@@ -291,16 +291,22 @@ module _ (count : ℕ) (articles : List ℕ) where
     item_refers text_of (InList listed.Others) item.Link is row = linked_refers (Some view.rank.position) (row_name view) row
     item_refers text_of (InList listed.Dependents) item.Link is row = linked_refers (Some view.rank.position) (row_name view) row
     item_refers text_of (InList listed.Unclosed) item.Link is row = linked_refers (Some view.rank.position) (row_name view) row
+    item_refers text_of (InList listed.NewlyFailing) item.Link is row = linked_refers (Some view.rank.position) (row_name view) row
+    item_refers text_of (InList listed.Fixed) item.Link is row = linked_refers (Some view.rank.position) (row_name view) row
     item_refers text_of (InList listed.Articles) item.ArticleLink is row =
         same_refer {others = MarkupPart (OutputLink view.rank.position) ∷ []} refl (article_link_refers view.rank.position row)
     item_refers text_of (InList listed.Others) item.ArticleLink is row = absurd (cc)
     item_refers text_of (InList listed.Dependents) item.ArticleLink is row = absurd (cc)
     item_refers text_of (InList listed.Unclosed) item.ArticleLink is row = absurd (cc)
+    item_refers text_of (InList listed.NewlyFailing) item.ArticleLink is row = absurd (cc)
+    item_refers text_of (InList listed.Fixed) item.ArticleLink is row = absurd (cc)
     item_refers text_of Outside item.ArticleLink is row = absurd (cc)
     item_refers text_of Failing item.ArticleLink is row = absurd (cc)
     item_refers text_of InTargets item.ArticleLink is row = absurd (cc)
     item_refers text_of (InRows rows) item.ArticleLink is row = absurd (cc)
     item_refers text_of place item.Cause is row = refer_at place (cause_of_node_refers count articles view.logs view.node)
+    item_refers text_of place item.Line is row =
+        refer_at place (line_of_node_refers count articles view.logs view.node view.rank.value)
     item_refers text_of Failing item.Articles is row =
         articles_refer count articles view.logs view.nodes view.recipes (positions_of view listed.Articles) rows_are.2
     item_refers text_of Outside item.Articles is row = absurd (cc)

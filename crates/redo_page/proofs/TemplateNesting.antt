@@ -19,7 +19,7 @@ use Rattle.redo_page.specs.Scope.{View, began_parts, date_parts, holds, max_rows
 use Rattle.redo_page.specs.Template.{Block, Template, around_parts, block_parts, parts_of_item, parts_of_items, nothing, template_parts, tile_end, tile_start}
 use Rattle.redo_page.specs.Verdict.{body_markup}
 use Rattle.redo_page.specs.Words.{word_part}
-use Rattle.redo_page.proofs.FailedNesting.{article_nests, cause_of_node_nests}
+use Rattle.redo_page.proofs.FailedNesting.{article_nests, cause_of_node_nests, line_of_node_nests}
 use Rattle.redo_page.proofs.Nesting.{Leads, Nest, lead_in, nest_each, nest_if, then_lead}
 use Rattle.redo_page.proofs.TargetNesting.{badge_nests, linked_nests, name_nests, word_nests}
 use Rattle.redo_timeline.specs.declared.span.Window.{Window}
@@ -193,6 +193,7 @@ module _ {B : Type 0} (inner : B → View → List Part) (opened : B → Open) (
   item_leads text_of item.ArticleLink stack next is = stays stack next (record { leads = λ around tags. refl }) is
   item_leads text_of item.Badge stack next is = stays stack next (badge_nests view.node.status) is
   item_leads text_of item.Cause stack next is = stays stack next (cause_of_node_nests view.logs view.node) is
+  item_leads text_of item.Line stack next is = stays stack next (line_of_node_nests view.logs view.node view.rank.value) is
   item_leads text_of item.Articles stack next is =
       stays stack next (nest_each (article_parts view.logs view.nodes view.recipes) (article_nests view.logs view.nodes view.recipes)
       (positions_of view listed.Articles)) is

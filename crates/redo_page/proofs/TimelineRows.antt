@@ -13,6 +13,7 @@ use Rattle.redo_chart.specs.Laws.{shapes_of}
 use Rattle.redo_logs.specs.declared.log_state.LogState.TheVariants.{Ended}
 use Rattle.redo_logs.specs.Logs.{Log}
 use Rattle.redo_outline.specs.declared.node.Node.{Node}
+use Rattle.redo_page.specs.NewSection.{no_news}
 use Rattle.redo_page.specs.Page.{build_view}
 use Rattle.redo_page.specs.Scope.{View}
 use Rattle.redo_page.specs.Timeline.{facts_drawing, has_timeline, timeline_end, timeline_if, timeline_parts, timeline_section, timeline_start}
@@ -77,7 +78,7 @@ abbrev known : Facts
 known = facts (Some window) (span 0 1000 11000 ∷ []) (span 1 1000 6000 ∷ span 2 2000 11000 ∷ []) []
 
 abbrev view : Facts → View
-view facts = build_view [] [] [] [] logs nodes facts
+view facts = build_view [] [] [] [] logs nodes facts no_news
 
 -- ---- whether there is a timeline
 

@@ -1,5 +1,5 @@
 -- The outputs of targets that failed, why they failed, and their articles.
-use Rattle.std.specs.Prelude.{ℕ, zero, suc, ◌==◌, List, [], ◌∷◌, ◌++◌, Option, None, Some, codes, if◌then◌else◌}
+use Rattle.std.specs.Prelude.{ℕ, zero, suc, ◌==◌, List, [], ◌∷◌, ◌++◌, Option, None, Some, codes, slice_get, if◌then◌else◌}
 use Rattle.redo_facts.specs.Facts.{RecipeFacts}
 use Rattle.redo_logs.specs.Logs.{Log}
 use Rattle.redo_html.specs.declared.markup.Markup.TheVariants as markup
@@ -67,6 +67,10 @@ module _ (logs : List Log) where
 
   unfoldable pub cause_of_node : Node → List Part
   cause_of_node node = cause_parts (cause_of (printed_by node))
+
+  -- The line of a target's log at a position, if there is one, as causes are shown.
+  unfoldable pub line_of_node : Node → ℕ → List Part
+  line_of_node node position = cause_parts (slice_get (printed_by node) position)
 
 -- How long a target took, before its path.
 abbrev pub article_took : Option ℕ → List Part

@@ -1,6 +1,9 @@
 -- The statements of the laws.
-use Rattle.std.specs.Prelude.{◌≡◌, ◌⊎◌, ℕ, zero, suc, ◌+◌, ◌-◌, ◌*◌, ◌^◌, ◌<◌, ◌≤◌, ◌==◌, ◌||◌, ◌&&◌, nat_le, max, length, Bool, true, not, List, [], ◌∷◌, ◌++◌, map, Option, None, Some, is_none, is_some, codes, false, nat_eq, nat_lt, take, drop, unwrap_or, if◌then◌else◌}
+use Rattle.std.specs.Prelude.{◌≡◌, ◌⊎◌, ℕ, zero, suc, ◌+◌, ◌-◌, ◌*◌, ◌^◌, ◌<◌, ◌≤◌, ◌==◌, ◌||◌, ◌&&◌, nat_le, max, length, Bool, true, not, List, [], ◌∷◌, ◌++◌, map, Option, None, Some, is_none, is_some, codes, false, nat_eq, nat_lt, slice_get, take, drop, unwrap_or, if◌then◌else◌}
 use Rattle.std.specs.List.{AllByRecursion, Contains, filter, flat_map, list_any, starts_with}
+use Rattle.redo_compare.specs.Baseline.{BaselineValue}
+use Rattle.redo_compare.specs.Occurrences.{OccurrenceValue}
+use Rattle.redo_diagnostics.specs.Diagnostic.{diagnostic_of}
 use Rattle.redo_facts.specs.declared.statement.Usage.{Usage}
 use Rattle.redo_facts.specs.Facts.{RecipeCommand, RecipeFacts}
 use Rattle.redo_line.specs.declared.entry.Entry.TheVariants.{Text, Done, Note}
@@ -11,7 +14,7 @@ use Rattle.redo_view.specs.Event.{Event}
 use Rattle.redo_view.specs.LogLines.{text_lines}
 use Rattle.redo_view.specs.Event.Event.{Requested, Mentioned, EntryShown}
 use Rattle.redo_html.specs.declared.markup.Markup.{Markup}
-use Rattle.redo_html.specs.declared.markup.Markup.TheVariants.{BodyBad, BodyGood, BodyOpen, FailedSection, SummarySection, TimelineSection, TreeSection, FailedLink, SummaryLink, TimelineLink, TreeLink, TargetLink, EndLink, OutputLink, Article, TargetItem, Details, OpenDetails, Summary, Title3, EndTitle3, MetaParagraph, Paragraph, EndParagraph, Ordered, OrderedFrom, EndOrdered, Item, EndItem, RowHeading, EndRowHeading, NumberCell, EndCell, Title1, EndTitle1, Sign, EndSign, DescriptionList, EndDescriptionList, Div, EndDiv, Term, EndTerm, Description, EndDescription, Code, EndCode, Pre, EndPre}
+use Rattle.redo_html.specs.declared.markup.Markup.TheVariants.{BodyBad, BodyGood, BodyOpen, FailedSection, NewSection, SummarySection, TimelineSection, TreeSection, FailedLink, NewLink, SummaryLink, TimelineLink, TreeLink, TargetLink, EndLink, OutputLink, Article, TargetItem, Details, OpenDetails, Summary, Title3, EndTitle3, MetaParagraph, Paragraph, QuietParagraph, EndParagraph, Ordered, OrderedFrom, EndOrdered, Item, EndItem, RowHeading, EndRowHeading, NumberCell, EndCell, Title1, EndTitle1, Sign, EndSign, DescriptionList, EndDescriptionList, Div, EndDiv, Term, EndTerm, Description, EndDescription, Code, EndCode, Pre, EndPre}
 use Rattle.redo_html.specs.declared.chart.GroupKind.{GroupKind}
 use Rattle.redo_html.specs.Chart.{Drawing, drawing_links}
 use Rattle.redo_html.specs.Html.{Token, is_one_of, read}
@@ -25,16 +28,19 @@ use Rattle.redo_outline.specs.Contents.{Contents, contents_of}
 use Rattle.redo_outline.specs.Contents.Contents.{Nothing, Shown, Opened}
 use Rattle.redo_outline.specs.Facts.{saturated, target_at, target_status, text_size}
 use Rattle.redo_outline.specs.Outline.{log_count}
-use Rattle.redo_page.specs.declared.labels.TheConstants.{AND_COUNT, AS_ONE_TEXT, AT_MOST, AT_ONCE, BUILD_TOOK, DEPENDENT, DIRECTORY, FAILED, FAILED_SIGN, IN_ITS_LOG, LOGS, LOGS_IN, LOG_IN, MADE_SIGN, OF, PLACE_IN_TREE, PROCESSOR_TIME, SHOWN_ABOVE, SUM_OF_TIMES, TARGETS, TARGETS_FAILED, TARGETS_MADE, TARGETS_UNFINISHED, TARGET_FAILED, TARGET_MADE, TARGET_UNFINISHED, TOOK, UNFINISHED_SIGN, WARNED_LINES}
+use Rattle.redo_page.specs.declared.labels.TheConstants.{AND_COUNT, AS_ONE_TEXT, AT_MOST, AT_ONCE, BUILD_TOOK, DEPENDENT, DIRECTORY, FAILED, FAILED_SIGN, FIXED, GONE, IN_ITS_LOG, LOGS, LOGS_IN, LOG_IN, MADE_SIGN, NEWLY_FAILING, NEW_LINES, NEW_SINCE, NOTHING_NEW, OF, PLACE_IN_TREE, PROCESSOR_TIME, SENTENCE_END, SHOWN_ABOVE, SUM_OF_TIMES, TARGETS, TARGETS_FAILED, TARGETS_MADE, TARGETS_UNFINISHED, TARGET_FAILED, TARGET_MADE, TARGET_UNFINISHED, TOOK, UNFINISHED_SIGN, WARNED_LINES}
 use Rattle.redo_page.specs.Command.{command}
 use Rattle.redo_page.specs.Errors.{cause_of}
 use Rattle.redo_page.specs.Article.{article_parts, article_took, cause_parts, max_path, path_parts, printed_by}
 use Rattle.redo_page.specs.Failed.{is_dependent_failure, is_unclosed, positions_where}
+use Rattle.redo_page.specs.NewSection.{new_in}
+use Rattle.redo_page.specs.News.{NewsValue, has_news}
 use Rattle.redo_page.specs.Page.{Request, options_of, page_contents, page_events, page_facts, page_html, page_outline}
 use Rattle.redo_page.specs.Recipe.{recipe_at}
 use Rattle.redo_page.specs.Scope.{began_parts, max_rows}
 use Rattle.redo_page.specs.Timeline.{facts_drawing}
 use Rattle.redo_chart.specs.Laws.{DrawsAll, shapes_of}
+use Rattle.redo_summary.specs.declared.rank.Rank.{Rank}
 use Rattle.redo_summary.specs.Summary.{Facts, is_timed}
 use Rattle.redo_summary.specs.Targets.{duration_of, times_of}
 use Rattle.redo_summary.specs.Usage.{UsageFacts, usage_at}
@@ -124,6 +130,7 @@ article_links parts = flat_map article_link parts
 -- The ids of the sections of a page, and the links to them.
 abbrev pub section_id : Part → List (List ℕ)
 section_id (MarkupPart FailedSection) = codes "failed" ∷ []
+section_id (MarkupPart NewSection) = codes "new" ∷ []
 section_id (MarkupPart SummarySection) = codes "summary" ∷ []
 section_id (MarkupPart TimelineSection) = codes "timeline" ∷ []
 section_id (MarkupPart TreeSection) = codes "tree" ∷ []
@@ -134,6 +141,7 @@ section_ids parts = flat_map section_id parts
 
 abbrev pub section_link : Part → List (List ℕ)
 section_link (MarkupPart FailedLink) = codes "failed" ∷ []
+section_link (MarkupPart NewLink) = codes "new" ∷ []
 section_link (MarkupPart SummaryLink) = codes "summary" ∷ []
 section_link (MarkupPart TimelineLink) = codes "timeline" ∷ []
 section_link (MarkupPart TreeLink) = codes "tree" ∷ []
@@ -198,14 +206,17 @@ module _ (logs : List Log) (nodes : List Node) where
       ++ MarkupPart (TargetLink position) ∷ TextPart PLACE_IN_TREE.now ∷ MarkupPart EndLink ∷ MarkupPart EndParagraph ∷ []))))))
       after
 
-  -- An item of a list: a link with the name of its target, the status of the target, and maybe why it failed.
-  abbrev pub list_item : (ℕ → Markup) → Bool → ℕ → List Part
-  list_item link causes position =
+  -- An item of a list: a link with the name of its target, the status of the target, and a line.
+  abbrev pub item_with : List Part → (ℕ → Markup) → ℕ → List Part
+  item_with line link position =
       MarkupPart Item ∷ MarkupPart (link position)
       ∷ (name_parts (target_name position)
-      ++ (MarkupPart EndLink
-      ∷ (badge_parts (node_at nodes position).status
-      ++ (parts_if causes (cause_parts (cause_of (printed_by logs (node_at nodes position)))) ++ MarkupPart EndItem ∷ []))))
+      ++ (MarkupPart EndLink ∷ (badge_parts (node_at nodes position).status ++ (line ++ MarkupPart EndItem ∷ []))))
+
+  -- The line may say why the target failed.
+  abbrev pub list_item : (ℕ → Markup) → Bool → ℕ → List Part
+  list_item link causes position =
+      item_with (parts_if causes (cause_parts (cause_of (printed_by logs (node_at nodes position))))) link position
 
   -- A list of these targets, up to its end.
   abbrev pub target_list : (ℕ → Markup) → Bool → List ℕ → List Part
@@ -226,6 +237,21 @@ module _ (logs : List Log) (nodes : List Node) where
     pub others : IsListed true parts (drop max_articles (root_failures nodes))
     pub dependents : IsListed false parts (positions_where is_dependent_failure 0 nodes)
     pub unclosed : IsListed false parts (positions_where is_unclosed 0 nodes)
+
+  -- An item of a list of lines: the line is one of the log that the link leads to.
+  abbrev pub line_item : Rank → List Part
+  line_item rank =
+      item_with (cause_parts (slice_get (printed_by logs (node_at nodes rank.position)) rank.value)) (λ position. TargetLink position) rank.position
+
+  -- A list of these lines, up to its end.
+  abbrev pub line_list : List Rank → List Part
+  line_list ranks = flat_map line_item ranks ++ MarkupPart EndOrdered ∷ []
+
+  -- The lists of what is new: the lines with new warnings and errors, the targets that newly fail, and the fixed ones.
+  pub record ListsNews (news : NewsValue) (parts : List Part) : Type 0 where
+    pub lines : 0 < length news.lines → IsPartOf (line_list (take max_rows news.lines)) parts
+    pub failing : IsListed false parts news.failing
+    pub fixed : IsListed false parts news.fixed
 
   -- A row of a table: a link with the name of its target, the status of the target, and a value.
   abbrev pub IsRowWith : List Part → ℕ → List Part → Type 0
@@ -257,7 +283,9 @@ module _ (logs : List Log) (nodes : List Node) where
     TellsItsTarget (Details position) after = IsLogHeading (MarkupPart Summary ∷ []) position after
     TellsItsTarget (OpenDetails position) after = IsLogHeading (MarkupPart Summary ∷ []) position after
     TellsItsTarget (Article position) after = IsArticleHeading position after
-    TellsItsTarget Ordered after = IsList (λ position. OutputLink position) after ⊎ IsList (λ position. TargetLink position) after
+    TellsItsTarget Ordered after =
+        (IsList (λ position. OutputLink position) after ⊎ IsList (λ position. TargetLink position) after)
+        ⊎ ((lines : List Rank) × BeginWith (line_list lines) after)
     TellsItsTarget (OrderedFrom number) after = IsList (λ position. TargetLink position) after
     TellsItsTarget RowHeading after = IsRow after
     TellsItsTarget tag after = Unit {0}
@@ -370,6 +398,49 @@ abbrev pub ContainRoots : List Node → Type 0
 ContainRoots [] = Unit {0}
 ContainRoots (node ∷ nodes) =
     (is_dependent_failure node ≡ true → list_any is_root_failure (take node.below nodes) ≡ true) × ContainRoots nodes
+
+-- ---- what is new
+
+-- The values of the ranks at a position.
+abbrev pub values_at : ℕ → List Rank → List ℕ
+values_at position ranks = map (λ (rank : Rank). rank.value) (filter (λ (rank : Rank). rank.position == position) ranks)
+
+-- Whether the line at a position is a warning or an error.
+abbrev pub IsDiagnosticAt : List (List ℕ) → ℕ → Type 0
+IsDiagnosticAt lines position = (line : List ℕ) × (slice_get lines position ≡ Some line) × (is_some (diagnostic_of line) ≡ true)
+
+module _ (baseline : BaselineValue) (logs : List Log) (nodes : List Node) where
+  -- Whether a rank is the line of a warning or an error in the log of a node.
+  abbrev pub IsLineOfNode : Rank → Type 0
+  IsLineOfNode rank =
+      (rank.position < length nodes) × IsDiagnosticAt (printed_by logs (node_at nodes rank.position)) rank.value
+
+  -- Whether these are the lines of the new diagnostics of each node, in order, and each one is a warning or an error.
+  pub record AreNewLines (lines : List Rank) : Type 0 where
+    pub each : (position : ℕ) → position < length nodes →
+        values_at position lines ≡ map (λ (one : OccurrenceValue). one.line) (new_in baseline logs (node_at nodes position))
+    pub of_nodes : AllByRecursion IsLineOfNode lines
+
+-- The sentence that has the numbers.
+abbrev pub news_shown : NewsValue → List Part
+news_shown news =
+    MarkupPart QuietParagraph
+    ∷ (parts_if (not (has_news news)) (TextPart NOTHING_NEW.now ∷ [])
+    ++ TextPart NEW_LINES.now ∷ NumberPart (length news.lines) ∷ TextPart GONE.now ∷ NumberPart news.gone
+    ∷ TextPart NEWLY_FAILING.now ∷ NumberPart (length news.failing) ∷ TextPart FIXED.now ∷ NumberPart (length news.fixed)
+    ∷ TextPart SENTENCE_END.now ∷ MarkupPart EndParagraph ∷ [])
+
+-- The item that leads to the section.
+abbrev pub news_link : List Part
+news_link = MarkupPart Item ∷ MarkupPart NewLink ∷ TextPart NEW_SINCE.now ∷ MarkupPart EndLink ∷ MarkupPart EndItem ∷ []
+
+-- With these two, parts are a page, and without them another page.
+pub record HasMore (first second page other : List Part) : Type 0 where
+  pub before : List Part
+  pub middle : List Part
+  pub after : List Part
+  pub with_both : before ++ (first ++ (middle ++ (second ++ after))) ≡ page
+  pub without : before ++ (middle ++ after) ≡ other
 
 -- ---- recipes
 

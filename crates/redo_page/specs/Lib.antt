@@ -7,6 +7,8 @@ pub mod Failed
 pub mod Frame
 pub mod Laws
 pub mod Limits
+pub mod NewSection
+pub mod News
 pub mod Page
 pub mod Private
 pub mod Recipe

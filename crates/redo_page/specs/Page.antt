@@ -1,6 +1,8 @@
 -- The page of a build.
-use Rattle.std.specs.Prelude.{ℕ, Bool, true, false, List, [], ◌++◌, map}
+use Rattle.std.specs.Prelude.{ℕ, Bool, true, false, List, [], ◌++◌, Option, map}
 use Rattle.std.specs.List.{flat_map}
+use Rattle.std.specs.Option.{option_copied}
+use Rattle.redo_compare.specs.Baseline.{BaselineValue}
 use Rattle.redo_facts.specs.Facts.{RecipeFacts}
 use Rattle.redo_logs.specs.Logs.{Log}
 use Rattle.redo_options.specs.declared.options.Options.{Options}
@@ -17,6 +19,8 @@ use Rattle.redo_page.specs.Frame.{head_parts, header_parts, footer_parts}
 use Rattle.redo_page.specs.Verdict.{title_text, verdict_of, verdict_text}
 use Rattle.redo_page.specs.declared.page.PageRequest.{PageRequest}
 use Rattle.redo_page.specs.Limits.{tree_limits}
+use Rattle.redo_page.specs.NewSection.{news_of, news_parts}
+use Rattle.redo_page.specs.News.{NewsValue}
 use Rattle.redo_page.specs.Scope.{View}
 use Rattle.redo_page.specs.Summary.{summary_parts}
 use Rattle.redo_page.specs.Timeline.{timeline_parts}
@@ -28,8 +32,8 @@ use Rattle.redo_summary.specs.Usage.{UsageFacts, usage_of}
 use Rattle.redo_times.specs.declared.times.Times.{Times}
 
 -- The parameters of a page: a title, or none if it is empty; the capture directory as it was given; whether unchanged targets are shown,
--- and what was done about locks; how many bytes of text lines are shown, or 0 for all; and the times of targets and what is known of their
--- recipes, by the numbers of their logs.
+-- and what was done about locks; how many bytes of text lines are shown, or 0 for all; the times of targets and what is known of their
+-- recipes, by the numbers of their logs; and an earlier build, if the page says what is new since then.
 pub record Request : Type 0 where
   pub title : List ℕ
   pub dir : List ℕ
@@ -38,6 +42,7 @@ pub record Request : Type 0 where
   pub max_bytes : ℕ
   pub times : List Times
   pub recipes : List RecipeFacts
+  pub baseline : Option BaselineValue
 
 abbrev pub request_of : PageRequest → Request
 request_of request = record {
@@ -48,22 +53,26 @@ request_of request = record {
   max_bytes = request.max_bytes;
   times = request.times.now;
   recipes = request.recipes.now;
+  baseline = option_copied request.baseline;
 }
 
 -- A page shows the logs of mentioned targets too, and all text lines.
-abbrev pub options_of : Request → Options
-options_of request = record { recursive = true; unchanged = request.unchanged; details = true; debug_locks = request.debug_locks; debug_pids = false }
+abbrev pub page_options : Bool → Bool → Options
+page_options unchanged debug_locks = record { recursive = true; unchanged = unchanged; details = true; debug_locks = debug_locks; debug_pids = false }
 
--- The head of the page, its header, what failed, and the summary.
+abbrev pub options_of : Request → Options
+options_of request = page_options request.unchanged request.debug_locks
+
+-- The head of the page, its header, what failed, what is new, and the summary.
 unfoldable pub top_parts : View → List Part
-top_parts view = head_parts view ++ (header_parts view ++ (failed_parts view ++ summary_parts view))
+top_parts view = head_parts view ++ (header_parts view ++ (failed_parts view ++ (news_parts view ++ summary_parts view)))
 
 abbrev pub heading_of : List Node → List ℕ
 heading_of nodes = verdict_text (verdict_of nodes) nodes
 
 -- The view of a build for the templates, with the title and the directory of its page, and its command.
-abbrev pub build_view : List ℕ → List ℕ → List ℕ → List RecipeFacts → List Log → List Node → Facts → View
-build_view title dir command recipes logs nodes facts = record {
+abbrev pub build_view : List ℕ → List ℕ → List ℕ → List RecipeFacts → List Log → List Node → Facts → NewsValue → View
+build_view title dir command recipes logs nodes facts news = record {
   title = title;
   dir = dir;
   verdict = verdict_of nodes;
@@ -78,6 +87,7 @@ build_view title dir command recipes logs nodes facts = record {
   roots = root_failures nodes;
   dependents = positions_where is_dependent_failure 0 nodes;
   unclosed = positions_where is_unclosed 0 nodes;
+  news = news;
   rank = record { value = 0; position = 0 };
   largest = 0;
   node = no_node;
@@ -111,6 +121,10 @@ module _ (request : Request) (logs : List Log) (requested : List (List ℕ)) whe
   abbrev pub page_usage : UsageFacts
   page_usage = usage_of page_outline request.recipes page_facts.recipes
 
+  -- What is new since the baseline.
+  abbrev pub page_news : NewsValue
+  page_news = news_of request.baseline logs page_outline
+
   -- The build that the tree of the page shows.
   abbrev pub page_build : Build
   page_build = record { logs = logs; options = options_of request; nodes = page_outline; articles = articles page_outline }
@@ -120,7 +134,7 @@ module _ (request : Request) (logs : List Log) (requested : List (List ℕ)) whe
   page_contents = tree_contents logs (options_of request) request.max_bytes requested page_outline
 
   abbrev pub page_view : View
-  page_view = build_view request.title request.dir (command request.dir (options_of request) requested) request.recipes logs page_outline page_facts
+  page_view = build_view request.title request.dir (command request.dir (options_of request) requested) request.recipes logs page_outline page_facts page_news
 
   -- The parts of the page.
   unfoldable pub page_parts : List Part

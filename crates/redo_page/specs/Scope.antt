@@ -8,7 +8,7 @@ use Rattle.redo_outline.specs.declared.node.Node.{Node}
 use Rattle.redo_outline.specs.Facts.{saturated, target_at}
 use Rattle.redo_page.specs.declared.labels.TheConstants.{LOGS_IN, LOG_IN, MIDDLE_DOT}
 use Rattle.redo_page.specs.declared.scope.Count.{Count}
-use Rattle.redo_page.specs.declared.scope.Count.TheVariants.{Targets, Roots, Dependents, Warnings, Most, Unknown, Known, Value, All, Unlisted}
+use Rattle.redo_page.specs.declared.scope.Count.TheVariants.{Targets, Roots, Dependents, Warnings, Most, Unknown, Known, Value, All, Unlisted, New, UnlistedNew, Gone}
 use Rattle.redo_page.specs.declared.scope.Listed.{Listed}
 use Rattle.redo_page.specs.declared.scope.Listed.TheVariants as listed
 use Rattle.redo_page.specs.declared.scope.Measure.{Measure}
@@ -17,9 +17,11 @@ use Rattle.redo_page.specs.declared.scope.Phrase.{Phrase}
 use Rattle.redo_page.specs.declared.scope.Phrase.TheVariants as phrase
 use Rattle.redo_page.specs.declared.scope.Rows.{Rows}
 use Rattle.redo_page.specs.declared.scope.Rows.TheVariants.{Longest, LongestAlone, MostMemory, Warned}
+use Rattle.redo_page.specs.declared.scope.Rows.TheVariants as rows
 use Rattle.redo_page.specs.declared.scope.Test.{Test}
-use Rattle.redo_page.specs.declared.scope.Test.TheVariants.{HasTitle, IsRequested, HasFailed, HasDependents, HasWindow, IsTimed, HasKnown, HasMarks, HasCallers, HasProcessor, HasTables, HasLongest, HasAlone, HasMemory, HasWarned, HasAny, HasSeveral, HasUnlisted}
+use Rattle.redo_page.specs.declared.scope.Test.TheVariants.{HasTitle, IsRequested, HasFailed, HasDependents, HasWindow, IsTimed, HasKnown, HasMarks, HasCallers, HasProcessor, HasTables, HasLongest, HasAlone, HasMemory, HasWarned, HasAny, HasSeveral, HasUnlisted, HasBaseline, HasNew, HasUnlistedNew, HasNews}
 use Rattle.redo_page.specs.declared.verdict.Verdict.{Verdict}
+use Rattle.redo_page.specs.News.{NewsValue, has_news}
 use Rattle.redo_page.specs.Targets.{plural}
 use Rattle.redo_page.specs.Verdict.{sign_text}
 use Rattle.redo_page.specs.Tree.{max_articles, node_at}
@@ -33,8 +35,8 @@ use Rattle.redo_units.specs.Sizes.{size_words, tenths_words}
 use Rattle.redo_units.specs.Words.{WordValue}
 
 -- The title and the capture directory that the page was given, its verdict, heading, title in a tab and command, the targets of the build,
--- what is known of their recipes, the facts about times, what the recipes used, which targets failed or are unfinished, and a row of a
--- table: its value, the largest value and its target.
+-- what is known of their recipes, the facts about times, what the recipes used, which targets failed or are unfinished, what is new since a
+-- baseline, and a row of a table: its value, the largest value and its target.
 pub record View : Type 0 where
   pub title : List ℕ
   pub dir : List ℕ
@@ -50,6 +52,7 @@ pub record View : Type 0 where
   pub roots : List ℕ
   pub dependents : List ℕ
   pub unclosed : List ℕ
+  pub news : NewsValue
   pub rank : Rank
   pub largest : ℕ
   pub node : Node
@@ -85,6 +88,8 @@ positions_of view listed.Articles = take max_articles view.roots
 positions_of view listed.Others = drop max_articles view.roots
 positions_of view listed.Dependents = view.dependents
 positions_of view listed.Unclosed = view.unclosed
+positions_of view listed.NewlyFailing = view.news.failing
+positions_of view listed.Fixed = view.news.fixed
 
 -- The maximum number of targets that a list names.
 abbrev pub max_rows : ℕ
@@ -101,6 +106,9 @@ count_of view Known = known_count view.facts
 count_of view Value = view.rank.value
 count_of view (All these) = length (positions_of view these)
 count_of view (Unlisted these) = length (positions_of view these) - max_rows
+count_of view New = length view.news.lines
+count_of view UnlistedNew = length view.news.lines - max_rows
+count_of view Gone = view.news.gone
 
 abbrev pub measure_words : View → Measure → List WordValue
 measure_words view Size = size_words view.facts.bytes
@@ -147,12 +155,17 @@ holds view HasWarned = not (length view.facts.warned == 0)
 holds view (HasAny these) = not (length (positions_of view these) == 0)
 holds view (HasSeveral these) = nat_lt 1 (length (positions_of view these))
 holds view (HasUnlisted these) = nat_lt max_rows (length (positions_of view these))
+holds view HasBaseline = view.news.is_compared
+holds view HasNew = not (length view.news.lines == 0)
+holds view HasUnlistedNew = nat_lt max_rows (length view.news.lines)
+holds view HasNews = has_news view.news
 
 abbrev pub rows_of : View → Rows → List Rank
 rows_of view Longest = shown_longest view.facts
 rows_of view LongestAlone = shown_alone view.facts
 rows_of view MostMemory = view.usage.memory
 rows_of view Warned = view.facts.warned
+rows_of view rows.New = take max_rows view.news.lines
 
 abbrev pub row_view : View → List Rank → Rank → View
 row_view view ranks rank = record view { rank = rank; largest = largest_of ranks; node = node_at view.nodes rank.position }

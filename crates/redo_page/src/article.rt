@@ -6,13 +6,13 @@ ghost use Rattle.redo_html.specs.Lines.{style_after_lines};
 ghost use Rattle.redo_html.specs.Style.{plain_style};
 ghost use Rattle.redo_line.specs.Lines.{ended};
 ghost use Rattle.redo_outline.specs.Facts.{entries_at, texts_of};
-ghost use Rattle.redo_page.specs.Article.{article_of, article_parts, article_took, cause_of_node, cause_parts, no_failure_below, nothing_parts, output_line_parts, output_parts, path_parts, whole_parts};
+ghost use Rattle.redo_page.specs.Article.{article_of, article_parts, article_took, cause_of_node, cause_parts, line_of_node, no_failure_below, nothing_parts, output_line_parts, output_parts, path_parts, whole_parts};
 ghost use Rattle.redo_page.specs.Targets.{name_parts};
 ghost use Rattle.redo_outline.specs.Facts.{target_at};
 ghost use Rattle.redo_page.specs.Private.Printed.{IsWholeLine};
 ghost use Rattle.redo_page.specs.Private.Writing.{WroteParts};
 
-use crate::cause::{find_cause, is_error};
+use crate::cause::{find_cause, find_line, is_error};
 use crate::excerpt::{cut_to, write_excerpt, write_in_tree};
 use crate::labels::{
     MIDDLE_DOT, MORE_ABOVE, NO_FAILURE_BELOW, NOTHING_CAPTURED, PATH_SEPARATOR, PLACE_IN_TREE,
@@ -130,6 +130,20 @@ fn write_cause_line<W: Sink>(cause: Option<&[u8]>, page: &mut PageWriter<'_, W>)
             Piece::Markup(Markup::EndCode),
         ]),
     }
+}
+
+/// Writes the line of a target's log at a position, if there is one, as causes are written.
+#[tactic(auto, using(crate::proofs::WriterLemmas::wrote_then), unfolding(crate::specs::Article::line_of_node))]
+pub fn write_line<W: Sink>(
+    table: &LogTable,
+    node: &Node,
+    position: u64,
+    page: &mut PageWriter<'_, W>,
+)
+    ensures { WroteParts W.written page.old page.new (line_of_node table.now node.now position) }
+{
+    let line = find_line(table, node.number, position);
+    write_cause_line(line, page)
 }
 
 /// Writes why a target failed, in one line.

@@ -1,5 +1,5 @@
 //! Why a target failed: the line of its output that tells it best.
-ghost use Rattle.std.specs.Prelude.{◌≡◌};
+ghost use Rattle.std.specs.Prelude.{slice_get, ◌≡◌};
 ghost use Rattle.std.specs.Option.{option_copied, option_or};
 ghost use Rattle.redo_html.specs.Symbols.{is_link_byte};
 ghost use Rattle.redo_outline.specs.Facts.{entries_at, texts_of};
@@ -225,4 +225,21 @@ pub fn find_cause<'a>(table: &'a LogTable, number: u32) -> Option<&'a [u8]>
         last = last_filled(line, last);
     }
     last
+}
+
+/// Returns the line of log `number` at a position, if there is one.
+///
+/// It processes the lines before this one, too.
+pub fn find_line<'a>(table: &'a LogTable, number: u32, position: u64) -> Option<&'a [u8]>
+    ensures { option_copied result ≡ slice_get (texts_of (entries_at number table.now)) position }
+{
+    let mut printed = Printed::new(table, number);
+    let mut before = position;
+    'lines: while let Some(line) = printed.next_line() {
+        if before == 0 {
+            return Some(line);
+        }
+        before -= 1;
+    }
+    None
 }

@@ -1,11 +1,12 @@
 //! The frame of a page: its head, its header and its end.
 use crate::labels::{
-    ALL_LOGS, AS_ONE_TEXT, BUILD_TOOK, MADE_BY, OF, PROGRAM, SUMMARY, TIMELINE, WHAT_FAILED,
+    ALL_LOGS, AS_ONE_TEXT, BUILD_TOOK, MADE_BY, NEW_SINCE, OF, PROGRAM, SUMMARY, TIMELINE,
+    WHAT_FAILED,
 };
 use crate::scope::Count::Targets;
 use crate::scope::Measure::Took;
 use crate::scope::Phrase::{Command, Directory, Heading, LogsIn, Title, VerdictSign};
-use crate::scope::Test::{HasFailed, HasTitle, HasWindow, IsRequested, IsTimed};
+use crate::scope::Test::{HasBaseline, HasFailed, HasTitle, HasWindow, IsRequested, IsTimed};
 use crate::template::Around::{EachTarget, If};
 use crate::template::Item::{
     Badge, Body, Date, In, Measure, Name, Number, Phrase, StyleSheet, TabTitle, Tag, Text,
@@ -14,8 +15,8 @@ use crate::template::Template;
 use redo_html::Markup::{
     Charset, Code, ColorScheme, Doctype, EndBody, EndCode, EndFooter, EndHead, EndHeader, EndHtml,
     EndItem, EndLink, EndMain, EndNav, EndParagraph, EndSign, EndTitle1, EndUnordered, FailedLink,
-    Footer, Head, Header, Html, Item, Main, MetaParagraph, Nav, Paragraph, Policy, Referrer, Sign,
-    SummaryLink, TimelineLink, Title1, TreeLink, Unordered, Viewport,
+    Footer, Head, Header, Html, Item, Main, MetaParagraph, Nav, NewLink, Paragraph, Policy,
+    Referrer, Sign, SummaryLink, TimelineLink, Title1, TreeLink, Unordered, Viewport,
 };
 
 /// The head, up to the start of the body.
@@ -74,6 +75,16 @@ pub const HEADER: Template = &[
             Tag(Item),
             Tag(FailedLink),
             Text(WHAT_FAILED),
+            Tag(EndLink),
+            Tag(EndItem),
+        ],
+    ),
+    In(
+        If(HasBaseline),
+        &[
+            Tag(Item),
+            Tag(NewLink),
+            Text(NEW_SINCE),
             Tag(EndLink),
             Tag(EndItem),
         ],

@@ -6,6 +6,8 @@
 // The sections: their headings, and the links to them.
 pub const WHAT_FAILED: &[u8] = b"What failed";
 
+pub const NEW_SINCE: &[u8] = b"New since the baseline";
+
 pub const SUMMARY: &[u8] = b"Summary";
 
 pub const TIMELINE: &[u8] = b"Timeline";
@@ -113,6 +115,25 @@ pub const COUNT_NOT_CLOSED: &[u8] = b" unfinished";
 pub const AND: &[u8] = b"and ";
 
 pub const MORE_IN_TREE: &[u8] = b" more, in the tree";
+
+// The section *New since the baseline*.
+pub const NOTHING_NEW: &[u8] = b"No warning or error is new, and no target newly fails. ";
+
+pub const NEW_LINES: &[u8] = b"New warnings and errors: ";
+
+pub const GONE: &[u8] = b". Gone: ";
+
+pub const NEWLY_FAILING: &[u8] = b". Targets that newly fail: ";
+
+pub const FIXED: &[u8] = b". Fixed: ";
+
+pub const SENTENCE_END: &[u8] = b".";
+
+pub const MORE_IN_LOGS: &[u8] = b" more, in the logs";
+
+pub const NEWLY_FAILING_COUNT: &[u8] = b" newly failing";
+
+pub const FIXED_COUNT: &[u8] = b" fixed";
 
 // Summary.
 pub const TARGETS: &[u8] = b"Targets";

@@ -1,7 +1,8 @@
 //! Laws about the definitions alone: their contracts are theorems, and their bodies are empty or cite laws of other crates.
-ghost use Rattle.std.specs.Prelude.{◌==◌, ◌≡◌, ℕ, true, [], ◌∷◌, ◌++◌, List, None, Some, length, nat_eq, ◌<◌, ◌≤◌, false, ◌^◌};
+ghost use Rattle.std.specs.Prelude.{is_some, ◌==◌, ◌≡◌, ℕ, true, [], ◌∷◌, ◌++◌, List, None, Some, length, nat_eq, ◌<◌, ◌≤◌, false, ◌^◌};
 ghost use Rattle.std.specs.List.{All, AllByRecursion, IsDistinct, flat_map, list_all};
 ghost use Rattle.std.specs.List.Sorted.{IsPermutation};
+ghost use Rattle.redo_compare.specs.Baseline.{BaselineValue};
 ghost use Rattle.redo_html.specs.Html.{nests_in, read, tags_of, text_of};
 ghost use Rattle.redo_html.specs.declared.markup.Markup.{Markup};
 ghost use Rattle.redo_html.specs.declared.markup.Markup.TheVariants.{DescriptionList, EndDetails, Title1};
@@ -13,10 +14,11 @@ ghost use Rattle.redo_options.specs.declared.options.Options.{Options};
 ghost use Rattle.redo_view.specs.View.{find_unknown};
 ghost use Rattle.redo_outline.specs.declared.node.Node.{Node};
 ghost use Rattle.redo_outline.specs.Contents.{Contents};
-ghost use Rattle.redo_page.specs.Laws.{AreInOrderOfEnd, ContainRoots, ListsFailures, ShowsRecipe, HaveSameLogs, IsOfTarget, IsOwnTag, IsPartOf, IsRead, IsRed, ShowsItsLines, AreCountable, budget_of_tree, TellsItsTarget, article_ids, article_links, blanked, event_lines, is_among, kept_lines, lines_at, log_bytes, markups, numbers_from, page_article, page_chart, page_lines, page_recipe, page_recipes, page_tree, positioned_bytes, section_ids, section_links, target_ids, target_links, texts_of, unmoved_lines, charts, ChartDraws, HasTimeline, end_shown, first, heading_shown, heading_tag, requested_shown, summary_shown, took_shown, page_limit, says_failed, shows_failure, title_in};
+ghost use Rattle.redo_page.specs.Laws.{AreNewLines, HasMore, ListsNews, news_link, news_shown, AreInOrderOfEnd, ContainRoots, ListsFailures, ShowsRecipe, HaveSameLogs, IsOfTarget, IsOwnTag, IsPartOf, IsRead, IsRed, ShowsItsLines, AreCountable, budget_of_tree, TellsItsTarget, article_ids, article_links, blanked, event_lines, is_among, kept_lines, lines_at, log_bytes, markups, numbers_from, page_article, page_chart, page_lines, page_recipe, page_recipes, page_tree, positioned_bytes, section_ids, section_links, target_ids, target_links, texts_of, unmoved_lines, charts, ChartDraws, HasTimeline, end_shown, first, heading_shown, heading_tag, requested_shown, summary_shown, took_shown, page_limit, says_failed, shows_failure, title_in};
 ghost use Rattle.redo_page.specs.Failed.{is_dependent_failure, positions_where};
 ghost use Rattle.redo_page.specs.Limits.{bytes_shown, highest_cap};
-ghost use Rattle.redo_page.specs.Page.{Request, page_build, page_events, page_facts, page_html, page_outline, page_parts, page_usage};
+ghost use Rattle.redo_page.specs.NewSection.{news_parts, news_since};
+ghost use Rattle.redo_page.specs.Page.{Request, page_build, page_events, page_facts, page_html, page_news, page_outline, page_parts, page_usage, page_view};
 ghost use Rattle.redo_page.specs.Tree.{articles, root_failures, has_failed, is_moved, tree_parts};
 ghost use Rattle.redo_chart.specs.Bands.{max_caller_lanes, max_recipe_lanes, max_mark_lanes};
 ghost use Rattle.redo_chart.specs.Laws.{DrawsAll, shapes_of};
@@ -149,6 +151,24 @@ pub fn failures_are_listed()
         ListsFailures logs (page_outline request logs requested) (page_parts request logs requested) }
 {
     nodes_sum_up_logs_below();
+}
+
+/// A page with a baseline says what is new since then. It has the numbers of lines with new warnings and errors, of warnings and errors
+/// that are gone, of targets that newly fail, and of fixed ones. The page lists these lines and targets, at most 200 of each. Each line is
+/// one of the log that its link leads to, is a warning or an error, and is new; and each new one of a shown target is among them, in
+/// order. The section, and the link to it, are all that a baseline changes.
+pub fn news_are_shown()
+    ensures numbers { (request : Request) (logs : List Log) (requested : List (List ℕ)) → is_some request.baseline ≡ true →
+        IsRead (news_shown (page_news request logs requested)) request logs requested }
+    ensures listed { (request : Request) (logs : List Log) (requested : List (List ℕ)) → is_some request.baseline ≡ true →
+        ListsNews logs (page_outline request logs requested) (page_news request logs requested) (page_parts request logs requested) }
+    ensures lines { (baseline : BaselineValue) (logs : List Log) (nodes : List Node) →
+        AreNewLines baseline logs nodes (news_since baseline logs nodes).lines }
+    ensures otherwise { (request : Request) (logs : List Log) (requested : List (List ℕ)) → is_some request.baseline ≡ true →
+        HasMore news_link (news_parts (page_view request logs requested)) (page_parts request logs requested)
+        (page_parts (record request { baseline = None }) logs requested) }
+{
+    page_is_read();
 }
 
 /// The contents of a page have the text lines of the events, each once and in order, if each requested target has a log. The tree shows

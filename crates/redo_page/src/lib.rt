@@ -9,6 +9,7 @@
 //!   what templates consist of, and `scope.rt` what they say about a build.
 //! - What failed, a template of lists, and the articles in it: `failed.rt`, `article.rt`, `recipe.rt`, `cause.rt`, `excerpt.rt`,
 //!   `printed.rt`.
+//! - What is new since an earlier build, a template of lists: `news.rt`.
 //! - All logs: `tree.rt`, `step.rt`, `logs.rt`, `items.rt`, `block.rt`, `level.rt`, `texts.rt`. `limits.rt` says how much of each log is
 //!   shown.
 //! - What several of them use: `build.rt`, `nodes.rt`, `targets.rt`, `words.rt`, `writer.rt`, `labels.rt`.
@@ -28,6 +29,7 @@ mod laws;
 mod level;
 mod limits;
 mod logs;
+mod news;
 mod nodes;
 mod page;
 mod printed;
@@ -46,8 +48,8 @@ mod writer;
 
 pub use laws::{
     cap_is_highest, failed_builds_are_red, failures_are_listed, lines_are_shown, links_lead_to_ids,
-    numbers_are_shown, page_is_read, recipes_are_shown, tags_are_its_own, tags_nest,
-    targets_have_their_names, times_are_shown,
+    news_are_shown, numbers_are_shown, page_is_read, recipes_are_shown, tags_are_its_own,
+    tags_nest, targets_have_their_names, times_are_shown,
 };
-pub use page::{PageRequest, write_page};
+pub use page::{PageRequest, page_options, write_page};
 pub use redo_view::FormFault;

@@ -18,7 +18,7 @@ ghost use Rattle.redo_outline.specs.Outline.{log_count};
 ghost use Rattle.redo_view.specs.Expansion.{shown_events};
 ghost use Rattle.redo_page.specs.Frame.{footer_parts};
 ghost use Rattle.redo_page.specs.Tree.{articles, root_failures};
-ghost use Rattle.redo_page.specs.Page.{body_parts, options_of, page_html, page_outline, request_of, run_times, top_parts};
+ghost use Rattle.redo_page.specs.Page.{body_parts, options_of, page_html, page_options, page_outline, request_of, run_times, top_parts};
 ghost use Rattle.redo_summary.specs.Targets.{time_between};
 ghost use Rattle.redo_page.specs.Private.PageTexts.{AreFailures, AreTexts};
 ghost use Rattle.redo_page.specs.Private.Viewing.{view_of};
@@ -27,6 +27,7 @@ ghost use Rattle.redo_page.specs.Private.Writing.{WroteParts};
 use crate::command::command;
 use crate::failed::{FAILURES, Failures, find_failures};
 use crate::frame::{FOOTER, HEAD, HEADER};
+use crate::news::{NEWS, News};
 use crate::nodes::NO_NODE;
 use crate::scope::{Listed, Scope};
 use crate::summary::SECTION;
@@ -35,6 +36,7 @@ use crate::timeline::write_timeline;
 use crate::tree::write_tree;
 use crate::verdict::{Verdict, title_text};
 use crate::writer::PageWriter;
+use redo_compare::Baseline;
 use redo_device::{Broken, Sink};
 use redo_facts::Facts;
 use redo_line::TargetName;
@@ -62,6 +64,8 @@ pub struct PageRequest<'a> {
     pub times: &'a [Times],
     /// The facts of each target's recipe, by the number of its log. Nothing is known of a target past the end.
     pub recipes: &'a [Facts],
+    /// An earlier build, if the page says what is new since then. It is made with the page's options ([`page_options`]) and requested targets.
+    pub baseline: Option<&'a Baseline<'a>>,
 }
 
 /// Writes the page of the requested targets. Each of them must have a log. All logs must have ended.
@@ -79,7 +83,7 @@ pub fn write_page<W: Sink>(
     requires known { find_unknown table.now requested.now ≡ None }
     ensures { FormWrites (W.written out.old) (W.written out.new) (page_html (request_of request.now) table.now requested.now) result }
 {
-    let options = options_of(request);
+    let options = page_options(request.unchanged, request.debug_locks);
     let outline = outline_of(alloc, table, request, &options, requested)?;
     write_outlined(alloc, table, request, &options, requested, &outline, out)
 }
@@ -166,6 +170,7 @@ fn write_outlined<W: Sink>(
     let roots = failures.roots.as_slice();
     let dependents = failures.dependents.as_slice();
     let unclosed = failures.unclosed.as_slice();
+    let news = News::find(alloc, table, nodes, request.baseline)?;
     let scope = Scope {
         request,
         texts: &texts,
@@ -176,6 +181,7 @@ fn write_outlined<W: Sink>(
         roots,
         dependents,
         unclosed,
+        news: &news,
         rank: Rank {
             value: 0,
             position: 0,
@@ -278,15 +284,16 @@ impl Texts {
     }
 }
 
-// Returns the options with which the logs are shown.
-fn options_of(request: &PageRequest<'_>) -> Options
-    ensures { result ≡ options_of (request_of request.now) }
+/// Returns the options with which a page shows logs: all of them, and whether it shows targets that needed no rebuild, and what was done
+/// about locks. The baseline of a page is made with these options.
+pub fn page_options(unchanged: bool, debug_locks: bool) -> Options
+    ensures { result ≡ page_options unchanged debug_locks }
 {
     Options {
         recursive: true,
-        unchanged: request.unchanged,
+        unchanged,
         details: true,
-        debug_locks: request.debug_locks,
+        debug_locks,
         debug_pids: false,
     }
 }
@@ -306,5 +313,6 @@ fn write_top_parts<W: Sink>(scope: &Scope<'_>, page: &mut PageWriter<'_, W>)
     HEAD.write(scope, page);
     HEADER.write(scope, page);
     FAILURES.write(scope, page);
+    NEWS.write(scope, page);
     SECTION.write(scope, page);
 }

@@ -8,6 +8,7 @@ ghost use Rattle.redo_units.specs.Dates.{date_text_of};
 
 use crate::failed::{MAX_ARTICLES, MAX_ROWS, first_of, others_of};
 use crate::labels::{LOG_IN, LOGS_IN, MIDDLE_DOT};
+use crate::news::News;
 use crate::nodes::node_at;
 use crate::page::{PageRequest, Texts};
 use crate::targets::plural;
@@ -43,6 +44,12 @@ pub enum Count {
     All(Listed),
     /// The targets of a list that it doesn't name.
     Unlisted(Listed),
+    /// New warnings and errors.
+    New,
+    /// New warnings and errors that aren't listed.
+    UnlistedNew,
+    /// Warnings and errors that are gone.
+    Gone,
 }
 
 /// A number with a unit in a template.
@@ -120,9 +127,17 @@ pub enum Test {
     HasSeveral(Listed),
     /// Their list doesn't name all of them.
     HasUnlisted(Listed),
+    /// The build is compared with an earlier one.
+    HasBaseline,
+    /// A warning or an error is new.
+    HasNew,
+    /// More of them are new than are listed.
+    HasUnlistedNew,
+    /// A warning or an error is new, or a target newly fails.
+    HasNews,
 }
 
-/// The rows of a table.
+/// The rows of a table, or of a list of lines.
 #[derive(Clone, Copy)]
 pub enum Rows {
     /// The targets that took longest.
@@ -133,6 +148,8 @@ pub enum Rows {
     MostMemory,
     /// The targets with most warnings.
     Warned,
+    /// The new warnings and errors that are listed. The value is the position of the line in the target's log.
+    New,
 }
 
 /// Targets that are in one list.
@@ -146,6 +163,10 @@ pub enum Listed {
     Dependents,
     /// The unfinished targets to be listed.
     Unclosed,
+    /// Targets that newly fail.
+    NewlyFailing,
+    /// Targets that are fixed.
+    Fixed,
 }
 
 /// The values for a template: the parameters of the page, the targets of a build, the facts about them, and a row of a table.
@@ -161,6 +182,7 @@ pub struct Scope<'a> {
     pub roots: &'a [usize],
     pub dependents: &'a [usize],
     pub unclosed: &'a [usize],
+    pub news: &'a News,
     /// The row, the largest value in its table, and its target.
     pub rank: Rank,
     pub largest: u64,
@@ -185,6 +207,9 @@ impl<'a> Scope<'a> {
             Count::Unlisted(listed) => {
                 self.positions(listed).len().saturating_sub(MAX_ROWS) as u64
             }
+            Count::New => self.news.lines().len() as u64,
+            Count::UnlistedNew => self.news.lines().len().saturating_sub(MAX_ROWS) as u64,
+            Count::Gone => self.news.gone(),
         }
     }
 
@@ -262,6 +287,10 @@ impl<'a> Scope<'a> {
             Test::HasAny(listed) => !self.positions(listed).is_empty(),
             Test::HasSeveral(listed) => self.positions(listed).len() > 1,
             Test::HasUnlisted(listed) => self.positions(listed).len() > MAX_ROWS,
+            Test::HasBaseline => self.news.is_compared(),
+            Test::HasNew => !self.news.lines().is_empty(),
+            Test::HasUnlistedNew => self.news.lines().len() > MAX_ROWS,
+            Test::HasNews => !self.news.lines().is_empty() || !self.news.failing().is_empty(),
         }
     }
 
@@ -274,6 +303,7 @@ impl<'a> Scope<'a> {
             Rows::LongestAlone => shown_alone(self.facts),
             Rows::MostMemory => self.usage.memory(),
             Rows::Warned => self.facts.warned(),
+            Rows::New => first_ranks(MAX_ROWS, self.news.lines()),
         }
     }
 
@@ -305,6 +335,8 @@ impl<'a> Scope<'a> {
             Listed::Others => others_of(MAX_ARTICLES, self.roots),
             Listed::Dependents => self.dependents,
             Listed::Unclosed => self.unclosed,
+            Listed::NewlyFailing => self.news.failing(),
+            Listed::Fixed => self.news.fixed(),
         }
     }
 
@@ -338,6 +370,17 @@ impl<'a> Scope<'a> {
         ensures { result ≡ meter_of (view_of self.now) }
     {
         self.rank.value.saturating_mul(10000) / self.largest.max(1)
+    }
+}
+
+// Returns the first ranks, at most `count` of them.
+fn first_ranks(count: usize, ranks: &[Rank]) -> &[Rank]
+    ensures { result.now ≡ take count ranks.now }
+{
+    if ranks.len() <= count {
+        ranks
+    } else {
+        &ranks[..count]
     }
 }
 

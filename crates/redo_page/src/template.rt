@@ -12,7 +12,7 @@ ghost use Rattle.redo_page.specs.Private.Writing.{WroteParts};
 ghost use Rattle.redo_page.specs.Scope.{View, max_rows, position_view, positions_of, row_view, target_view};
 ghost use Rattle.redo_page.specs.Template.{around_parts, parts_of_item, parts_of_items, nothing, tile_end, tile_start};
 
-use crate::article::{write_articles, write_cause};
+use crate::article::{write_articles, write_cause, write_line};
 use crate::scope::{Count, Listed, Measure, Phrase, Rows, Scope, Test};
 use crate::targets::{write_article_link, write_badge, write_linked, write_name};
 use crate::writer::PageWriter;
@@ -64,6 +64,8 @@ pub enum Item<T, B> {
     Badge,
     /// Why the row's target failed.
     Cause,
+    /// The line of the row's target whose position is the row's value.
+    Line,
     /// The articles of targets that failed.
     Articles,
     /// A meter that shows how large the row's value is.
@@ -166,6 +168,7 @@ fn write_item<T: Label, B: Block, W: Sink>(
         Item::ArticleLink => write_article_link(scope.rank.position, scope.name(), page),
         Item::Badge => write_badge(scope.node.status, page),
         Item::Cause => write_cause(scope.table, &scope.node, page),
+        Item::Line => write_line(scope.table, &scope.node, scope.rank.value, page),
         Item::Articles => write_articles(
             scope.table,
             scope.nodes,

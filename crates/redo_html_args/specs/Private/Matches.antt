@@ -22,9 +22,10 @@ pub record AreSound (rows : List Row) : Type 0 where
   pub some_target : 0 < length (targets_or_all rows)
 
 -- The parts of a job with these fields. Its targets are stored as bytes.
-abbrev pub parts_with : List ℕ → Option (List ℕ) → Option (List ℕ) → Bool → Bool → ℕ → ℕ → List (Vec ℕ) → PageParts
-parts_with dir output title unchanged debug_locks max_bytes senders targets = record {
+abbrev pub parts_with : List ℕ → Option (List ℕ) → Option (List ℕ) → Option (List ℕ) → Bool → Bool → ℕ → ℕ → List (Vec ℕ) → PageParts
+parts_with dir baseline output title unchanged debug_locks max_bytes senders targets = record {
   dir = dir;
+  baseline = baseline;
   output = output;
   title = title;
   unchanged = unchanged;

@@ -18,6 +18,7 @@ view_of scope = record {
   roots = scope.roots.now;
   dependents = scope.dependents.now;
   unclosed = scope.unclosed.now;
+  news = scope.news.now;
   rank = scope.rank;
   largest = scope.largest;
   node = scope.node;

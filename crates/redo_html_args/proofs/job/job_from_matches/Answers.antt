@@ -28,15 +28,17 @@ returns c =
     let found = found_of c.args.matches.now in
     let dir = c.in_ok-from_str.ensures.ok
     ∙ text_is found (codes "dir") c.get_str.result c.unwrap_or-dir.result _ c.unwrap_or-dir.ensures c.get_str.ensures in
-    let output = c.in_ok-copy_of.ensures ∙ given_text_is found (codes "output") c.get_str-output.result c.get_str-output.ensures in
-    let title = c.in_ok-copy_of-2.ensures ∙ given_text_is found (codes "title") c.get_str-title.result c.get_str-title.ensures in
+    let baseline = c.in_ok-copy_of.ensures
+    ∙ given_text_is found (codes "baseline") c.get_str-baseline.result c.get_str-baseline.ensures in
+    let output = c.in_ok-copy_of-2.ensures ∙ given_text_is found (codes "output") c.get_str-output.result c.get_str-output.ensures in
+    let title = c.in_ok-copy_of-3.ensures ∙ given_text_is found (codes "title") c.get_str-title.result c.get_str-title.ensures in
     let unchanged = flag_is found (codes "unchanged") c.get_flag-unchanged.result c.requires.unchanged_is c.get_flag-unchanged.ensures.none
     c.get_flag-unchanged.ensures.value c.get_flag-unchanged.ensures.other in
     let debug_locks = flag_is found (codes "debug_locks") c.get_flag-debug_locks.result c.requires.debug_locks_are
     c.get_flag-debug_locks.ensures.none c.get_flag-debug_locks.ensures.value c.get_flag-debug_locks.ensures.other in
     let targets = c.in_ok-bytes_of.ensures
     ∙ words_are found (codes "target") c.get_strs.result c.unwrap_or-targets.result _ c.unwrap_or-targets.ensures c.get_strs.ensures in
-    rw (dir, output, title, unchanged, debug_locks, max_bytes c, (senders c).0, targets) refl
+    rw (dir, baseline, output, title, unchanged, debug_locks, max_bytes c, (senders c).0, targets) refl
 
 pub invariant_of-result : goal.invariant_of-result
 invariant_of-result c = subst IsPageJob (sym (returns c)) (record {

@@ -7,9 +7,11 @@ use Rattle.redo_html.specs.Html.{nests_in, tags_of}
 use Rattle.redo_html.specs.Parts.{part_tokens}
 use Rattle.redo_page.specs.declared.failed.TheConstants.{FAILURES}
 use Rattle.redo_page.specs.declared.frame.TheConstants.{FOOTER, HEAD, HEADER}
+use Rattle.redo_page.specs.declared.news.TheConstants.{NEWS}
 use Rattle.redo_page.specs.declared.summary.TheConstants.{SECTION}
 use Rattle.redo_page.specs.Failed.{failed_parts}
 use Rattle.redo_page.specs.Frame.{footer_parts}
+use Rattle.redo_page.specs.NewSection.{news_parts}
 use Rattle.redo_page.specs.Page.{Request, options_of, page_contents, page_parts, page_view, top_parts}
 use Rattle.redo_page.specs.Scope.{View}
 use Rattle.redo_page.specs.Summary.{summary_parts}
@@ -27,10 +29,11 @@ abbrev main : List (List ℕ)
 main = codes "main" ∷ body
 
 top_leads : (view : View) → Leads [] (top_parts view) main
-unfolding top_parts failed_parts summary_parts
+unfolding top_parts failed_parts news_parts summary_parts
 top_leads view =
     then_lead (template_leads HEAD view [] body refl) (then_lead (template_leads HEADER view body main refl)
-    (then_lead (template_leads FAILURES view main main refl) (template_leads SECTION view main main refl)))
+    (then_lead (template_leads FAILURES view main main refl)
+    (then_lead (template_leads NEWS view main main refl) (template_leads SECTION view main main refl))))
 
 page_nests : (request : Request) (logs : List Log) (requested : List (List ℕ)) → Nest (page_parts request logs requested)
 unfolding page_parts footer_parts

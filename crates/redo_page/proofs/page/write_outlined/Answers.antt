@@ -19,6 +19,9 @@ returns-in_err-summary g c = no_memory _ _ _ c.from_residual-in_err-summary.ensu
 pub returns-in_err-usage : goal.returns-in_err-usage
 returns-in_err-usage g c = no_memory _ _ _ c.from_residual-in_err-usage.ensures.1
 
+pub returns-in_err-news : goal.returns-in_err-news
+returns-in_err-news g c = no_memory _ _ _ c.from_residual-in_err-news.ensures.1
+
 pub write_stages-requires-clause-count : goal.write_stages-requires-clause-count
 write_stages-requires-clause-count g c =
     let request = request_of c.args.request.now in
@@ -37,10 +40,11 @@ returns g c =
     let roots = c.as_slice-roots.ensures.value ∙ c.in_ok-failures.ensures.roots in
     let dependents = c.as_slice-dependents.ensures.value ∙ c.in_ok-failures.ensures.dependents in
     let unclosed = c.as_slice-unclosed.ensures.value ∙ c.in_ok-failures.ensures.unclosed in
+    let news = c.in_ok-news.ensures in
     let usage = c.in_ok-usage.ensures ∙ ap (usage_of nodes request.recipes) c.recipes.ensures in
     let is = view_is request c.args.options.now logs requested nodes c.in_ok-texts.texts c.in_ok-summary.summary c.in_ok-usage.usage
-    c.as_slice-roots.result.now c.as_slice-dependents.result.now c.as_slice-unclosed.result.now c.requires.options
-    (c.nodes-nodes.ensures ∙ c.requires.outline) c.in_ok-summary.ensures usage c.in_ok-texts.ensures roots dependents unclosed in
+    c.as_slice-roots.result.now c.as_slice-dependents.result.now c.as_slice-unclosed.result.now c.in_ok-news.news c.requires.options
+    (c.nodes-nodes.ensures ∙ c.requires.outline) c.in_ok-summary.ensures usage c.in_ok-texts.ensures roots dependents unclosed news in
     subst (λ text. FormWrites (g.W.Sink.written c.args.out.now) (g.W.Sink.written c.write_stages.new.out) text c.write_stages.result)
     (λ i. flat_map part_html
     (top_parts (is i) ++ (body_parts (is i) (c.requires.options i) request.max_bytes requested ++ footer_parts (is i))))

@@ -1,0 +1,16 @@
+use Rattle.redo_page.proofs.NewsLemmas.{are_new_lines}
+use Rattle.redo_page.proofs.NewsParts.{news_read, page_has_more, page_lists_news}
+use Rattle.redo_page.proofs.laws.news_are_shown.Goals as goal
+
+pub returns-clause-numbers : goal.returns-clause-numbers
+returns-clause-numbers c = λ request logs requested some.
+    news_read request logs requested some (c.page_is_read.ensures.parts request logs requested)
+
+pub returns-clause-listed : goal.returns-clause-listed
+returns-clause-listed c = page_lists_news
+
+pub returns-clause-lines : goal.returns-clause-lines
+returns-clause-lines c = are_new_lines
+
+pub returns-clause-otherwise : goal.returns-clause-otherwise
+returns-clause-otherwise c = page_has_more
