@@ -1,7 +1,8 @@
 # make try              builds the program without proofs, in a minute, and runs it on the captures in examples/variants
 # make run              proves and builds the program, and runs it on the captures in sample/
 # make check            runs all checks that a change must pass
-# make build            proves and builds redo-log, redo-log-html, which writes a page of HTML, and redo-log-json, which writes JSON
+# make build            proves and builds redo-log, redo-log-html, which writes a page of HTML, redo-log-json, which writes JSON, and
+#                       redo-log-new, which compares builds
 # make install          does the same, and installs in $(PREFIX): the programs with the scripts that start them, their manual
 #                       pages, completions for bash, zsh and fish, and the files of install-capture;
 #                       `make -o build install` installs the programs as they were built before
@@ -62,6 +63,12 @@ install: build install-capture
 	install -D -m 644 shell/redo-log-json.bash '$(DEST)/share/bash-completion/completions/redo-log-json'
 	install -D -m 644 shell/_redo-log-json '$(DEST)/$(ZSH_FUNCTIONS)/_redo-log-json'
 	install -D -m 644 shell/redo-log-json.fish '$(DEST)/share/fish/vendor_completions.d/redo-log-json.fish'
+	install -D crates/redo_log_new/out/redo_log_new '$(DEST)/libexec/redo-log/redo-log-new'
+	install -D shell/launcher '$(DEST)/bin/redo-log-new'
+	install -D -m 644 docs/redo-log-new.1 '$(DEST)/share/man/man1/redo-log-new.1'
+	install -D -m 644 shell/redo-log-new.bash '$(DEST)/share/bash-completion/completions/redo-log-new'
+	install -D -m 644 shell/_redo-log-new '$(DEST)/$(ZSH_FUNCTIONS)/_redo-log-new'
+	install -D -m 644 shell/redo-log-new.fish '$(DEST)/share/fish/vendor_completions.d/redo-log-new.fish'
 
 install-capture:
 	install -d '$(DEST)/bin' '$(DEST)/libexec/redo-log'

@@ -67,11 +67,11 @@ _redo_log_complete() {
     case $option in
       --) ;;
       --dir) dir=${word/#~\//~/} option= ;;
-      --senders | --capacity | --output | --title | --max-bytes) option= ;;
+      --baseline | --senders | --capacity | --output | --title | --max-bytes) option= ;;
       *)
         case $word in
           --dir=*) dir=${word#*=} ;;
-          -- | --dir | --senders | --capacity | --output | --title | --max-bytes) option=$word ;;
+          -- | --dir | --baseline | --senders | --capacity | --output | --title | --max-bytes) option=$word ;;
         esac
         ;;
     esac
@@ -90,7 +90,10 @@ _redo_log_complete() {
   COMPREPLY=()
   case $option:$typed in
     # A capture directory contains no directory except a hidden one.
-    --dir:* | :--dir=*) [[ $typed == */ && -d ${typed#--dir=}.capture ]] || compopt -o dirnames ;;
+    --dir:* | :--dir=* | --baseline:* | :--baseline=*)
+      typed=${typed#--dir=}
+      [[ $typed == */ && -d ${typed#--baseline=}.capture ]] || compopt -o dirnames
+      ;;
     --output:* | :--output=*) compopt -o default ;;
     --senders:* | --capacity:* | --title:* | --max-bytes:*) ;;
     :-*) mapfile -t COMPREPLY < <(compgen -W "$options" -- "$typed") ;;

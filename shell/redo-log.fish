@@ -11,12 +11,12 @@ function __redo_log_names
         if test "$option" = --dir
             set directory (string replace -r '^~/' ~/ -- $word)
             set option
-        else if contains -- "$option" --senders --capacity --output --title --max-bytes
+        else if contains -- "$option" --baseline --senders --capacity --output --title --max-bytes
             set option
         else if test "$option" != --
             if string match -q -- '--dir=*' $word
                 set directory (string replace -- --dir= '' $word)
-            else if contains -- $word -- --dir --senders --capacity --output --title --max-bytes
+            else if contains -- $word -- --dir --baseline --senders --capacity --output --title --max-bytes
                 set option $word
             end
         end

@@ -8,6 +8,7 @@ TOP = os.path.dirname(os.path.dirname(os.path.abspath(__file__)))
 PROGRAM = os.path.join(TOP, "crates/redo_log/out/redo_log")
 HTML_PROGRAM = os.path.join(TOP, "crates/redo_log_html/out/redo_log_html")
 JSON_PROGRAM = os.path.join(TOP, "crates/redo_log_json/out/redo_log_json")
+NEW_PROGRAM = os.path.join(TOP, "crates/redo_log_new/out/redo_log_new")
 # The program that makes single calls of the libraries.
 DRIVER = os.path.join(TOP, "crates/redo_log_driver/out/redo_log_driver")
 # The default capture directory of redo-log-capture.

@@ -116,7 +116,7 @@ def json_object(target, needs=(), lines=(), diagnostics=(), directory=None):
     """An object of redo-log-json, as bytes."""
     numbers = dict.fromkeys(["status", "start_ms", "end_ms", "cpu_ms", "peak_kb"])
     lists = {"commands": [], "needs": [name.decode() for name in needs], "lines": list(lines), "diagnostics": list(diagnostics)}
-    one = {"target": target.decode(), "parent": None, **numbers, "directory": directory, **lists}
+    one = {"target": target.decode(), "parent": None, **numbers, "directory": directory, **lists, "baseline": None}
     return json.dumps(one, separators=(",", ":")).encode() + b"\n"
 
 
@@ -130,8 +130,8 @@ def keys_of_diagnostics(directory, names, numbers):
     """Each key occurs twice. Names of `sip` are keys."""
     texts = [name.decode() if b"together: error: " in name else f"together: error: {name.decode()}" for name in names]
     place = {"severity": "error", "file": None, "row": None, "column": None}
-    found = [{"line": line, **place, "message": text.partition("error: ")[2], "flag": None, "key": text, "nth": line // len(texts)}
-             for line, text in enumerate(texts * 2)]
+    found = [{"line": line, **place, "message": text.partition("error: ")[2], "flag": None, "key": text, "nth": line // len(texts),
+              "new": None} for line, text in enumerate(texts * 2)]
     write(directory, "names", b"1 all\n")
     write(directory, "log.1", "".join(text + "\n" for text in texts * 2).encode())
     return [], (0, json_object(b"all", lines=texts * 2, diagnostics=found), b"")

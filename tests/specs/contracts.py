@@ -48,7 +48,7 @@ def libraries_of(program):
 
 def libraries():
     """Returns the libraries of the programs, and those that no program uses yet, each after its own dependencies."""
-    used = [library for program in ("redo_log", "redo_log_html", "redo_log_json") for library in libraries_of(program)]
+    used = [library for program in ("redo_log", "redo_log_html", "redo_log_json", "redo_log_new") for library in libraries_of(program)]
     return list(dict.fromkeys([*used, *libraries_of("redo_compare"), "redo_compare"]))
 
 

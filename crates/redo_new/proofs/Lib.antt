@@ -1,0 +1,6 @@
+mod FormLemmas
+mod LawLemmas
+mod LineLemmas
+mod NewsRows
+mod SameLemmas
+mod SectionLemmas

@@ -1,0 +1,3 @@
+-- Definitions that only clauses of private functions cite. They help in proofs and need not be trusted.
+pub mod Sections
+pub mod Writing

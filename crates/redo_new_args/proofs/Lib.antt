@@ -1,0 +1,3 @@
+mod RejectionRows
+mod Sound
+mod WordsRows

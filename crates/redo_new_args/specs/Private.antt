@@ -1,0 +1,2 @@
+-- Definitions that only clauses of private functions cite. They help in proofs and need not be trusted.
+pub mod Matches

@@ -1,0 +1,2 @@
+pub mod Alarm
+pub mod Job
