@@ -35,7 +35,8 @@ use Rattle.redo_page.specs.Command.{is_safe}
 use Rattle.redo_page.specs.Frame.{footer_parts}
 use Rattle.redo_page.specs.Recipe.{commands_parts, recipe_parts}
 use Rattle.redo_page.specs.Summary.{summary_parts}
-use Rattle.redo_page.specs.Laws.{article_ids, article_links, log_bytes, positioned_lines, BeginWith, IsList, list_item}
+use Rattle.redo_page.specs.Laws.{article_ids, article_links, log_bytes, positioned_lines, BeginWith, IsList, line_item, line_list, list_item}
+use Rattle.redo_summary.specs.declared.rank.Rank.{Rank}
 use Rattle.redo_page.specs.NewSection.{news_parts}
 use Rattle.redo_page.specs.Page.{Request, body_parts, options_of, page_contents, page_events, page_facts, page_html, page_outline, page_parts, page_usage, page_view, request_of, run_times, top_parts, tree_contents}
 use Rattle.redo_timeline.specs.declared.span.Window.{Window}
@@ -95,6 +96,23 @@ abbrev log : List ℕ → List Entry → Log
 log target entries = record { target = target; entries = entries; state = Ended }
 
 -- The first item of a list, or its end.
+module _ {T : Type 0} (item_of : T → List Part) (after : List Part) where
+  pub first_of : (items : List T) → BeginWith (flat_map item_of items ++ MarkupPart markup.EndOrdered ∷ []) after
+      → ((item : T) × BeginWith (item_of item) after) ⊎ BeginWith (MarkupPart markup.EndOrdered ∷ []) after
+  first_of [] begins = inr begins
+  first_of (item ∷ items) begins =
+      let others = flat_map item_of items in
+      let end = MarkupPart markup.EndOrdered ∷ [] in
+      inl (
+        item,
+        (
+          (others ++ end) ++ begins.0,
+          sym (ap (λ (t : List Part). t ++ begins.0) (append_assoc (item_of item) others end)
+              ∙ append_assoc (item_of item) (others ++ end) begins.0)
+              ∙ begins.1,
+        ),
+      )
+
 module _ (logs : List Log) (nodes : List Node) (link : ℕ → Markup) (after : List Part) where
   abbrev FirstItem : Type 0
   FirstItem =
@@ -102,24 +120,14 @@ module _ (logs : List Log) (nodes : List Node) (link : ℕ → Markup) (after : 
       ⊎ BeginWith (MarkupPart markup.EndOrdered ∷ []) after
 
   pub first_item : IsList logs nodes link after → FirstItem
-  first_item (causes, positions, begins) = by positions begins
-    where
-      by : (positions : List ℕ)
-          → BeginWith (flat_map (list_item logs nodes link causes) positions ++ MarkupPart markup.EndOrdered ∷ []) after → FirstItem
-      by [] begins = inr begins
-      by (position ∷ positions) begins =
-          let item = list_item logs nodes link causes position in
-          let others = flat_map (list_item logs nodes link causes) positions in
-          let end = MarkupPart markup.EndOrdered ∷ [] in
-          inl (
-            causes,
-            position,
-            (
-              (others ++ end) ++ begins.0,
-              sym (ap (λ (t : List Part). t ++ begins.0) (append_assoc item others end) ∙ append_assoc item (others ++ end) begins.0)
-                  ∙ begins.1,
-            ),
-          )
+  first_item (causes, positions, begins) =
+      elim (first_of (list_item logs nodes link causes) after positions begins)
+      [ inl item ↦ inl (causes, item.0, item.1) | inr end ↦ inr end ]
+
+module _ (logs : List Log) (nodes : List Node) (after : List Part) where
+  pub first_line : (lines : List Rank) × BeginWith (line_list logs nodes lines) after
+      → ((rank : Rank) × BeginWith (line_item logs nodes rank) after) ⊎ BeginWith (MarkupPart markup.EndOrdered ∷ []) after
+  first_line (lines, begins) = first_of (line_item logs nodes) after lines begins
 
 -- ---- the parameters
 
