@@ -2,4 +2,5 @@
 pub mod Buffering
 pub mod Charting
 pub mod Letters
+pub mod Marking
 pub mod Writing
