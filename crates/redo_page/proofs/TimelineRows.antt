@@ -144,11 +144,12 @@ section_is :
     ≡ heading (tag markup.TimelineScroll ∷ ChartPart (facts_drawing logs nodes known window) ∷ after (pale ∷ []))
 section_is = refl
 
--- Without a window, or if too few times are known, there is no section.
+-- Without a window, or if too few times are known, there is no section. There is one if one of ten targets has a mark.
 sections_are :
     (length (timeline_if (view known) (Some window)) ≡ 12) × (timeline_if (view known) None ≡ [])
     × (length (timeline_if (view (facts (Some window) [] [] (some 1))) (Some window)) ≡ 0)
-sections_are = (refl, refl, refl)
+    × (length (timeline_if (view (facts (Some window) (some 1) (some 8) (some 1))) (Some window)) ≡ 19)
+sections_are = (refl, refl, refl, refl)
 
 timeline_is :
     (timeline_parts (view known)
