@@ -1,5 +1,5 @@
 #!/usr/bin/env -S python3 -B
-"""Cases of outlines: small captures, and the outline of each. They are in crates/redo_outline_tests/src/cases.rt.
+"""Cases of outlines: small captures, and the outline of each. They are in crates/redo_page_tests/src/outline/cases.rt.
 
     cases.py           checks that this file has these cases
     cases.py --write   writes it
@@ -18,7 +18,7 @@ HERE = os.path.dirname(os.path.abspath(__file__))
 sys.path.insert(0, os.path.join(HERE, "../differential"))
 from model import Closed, Done, Log, Mention, Note, Text, log_of, normal_form
 
-CASES = os.path.join(HERE, "../../crates/redo_outline_tests/src/cases.rt")
+CASES = os.path.join(HERE, "../../crates/redo_page_tests/src/outline/cases.rt")
 FLAGS = ["recursive", "unchanged", "details", "debug_locks", "debug_pids"]
 
 

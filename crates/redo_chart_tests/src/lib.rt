@@ -1,5 +1,0 @@
-//! Tests of the chart of a timeline.
-#![tactic(auto)]
-
-#[cfg(test)]
-mod timeline;

@@ -1,7 +1,0 @@
-//! Tests of outlines. They are in a separate crate so that no crate below is proved a second time.
-#![tactic(auto)]
-
-#[cfg(test)]
-mod cases;
-#[cfg(test)]
-mod outline;
