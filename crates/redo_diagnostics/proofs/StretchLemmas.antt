@@ -1,10 +1,10 @@
 -- Lines of which none has a word.
-use Rattle.std.proofs.Common.{◌≡◌, ℕ, ◌+◌, ◌<◌, ◌≤◌, false, List, [], ◌∷◌, ◌++◌, Option, None, Some, length, drop, get_or, sym, ◌∙◌, ap, subst, arith, zero-le}
-use Rattle.std.specs.Prelude.{codes, is_some, option_and_then, option_map, slice_index}
+use Rattle.std.proofs.Common.{◌≡◌, ℕ, ◌+◌, false, List, [], ◌∷◌, ◌++◌, Option, None, Some, length, get_or, sym, ◌∙◌, ap, subst, arith, zero-le}
+use Rattle.std.specs.Prelude.{is_some, option_and_then, option_map, slice_index}
 use Rattle.std.specs.List.{AllByRecursion, flat_map}
 use Rattle.std.proofs.lemmas.Bool.{false_from_ne_true}
 use Rattle.std.proofs.lemmas.List.{append_assoc, get_or-append-add, get_or-drop, get_or_append_left, length-append}
-use Rattle.memchr.specs.Find.{FindsNeedle, IsFirstByte, Nowhere, OccursAt, is_byte}
+use Rattle.memchr.specs.Find.{FindsNeedle, IsFirstByte, OccursAt, is_byte}
 use Rattle.redo_line.proofs.LineLemmas.{are_lines}
 use Rattle.redo_line.proofs.PartLemmas.{HasNo, free_parts, parted_free}
 use Rattle.redo_line.specs.Lines.{ended, line_feed, rest, with_line_feed}

@@ -31,7 +31,8 @@ impl KeyCounts {
         }
     }
 
-    /// Counts a key, and returns how often it occurred before. The only error is that an allocation failed; then nothing changes.
+    /// Counts a key, and returns how often it occurred before. The key is hashed once. The only error is that an allocation failed; then
+    /// nothing changes.
     pub fn add(&mut self, alloc: Global, key: &[u8]) -> Result<u64, AllocError>
         ensures before { (keys : List (List ℕ)) → AreCounts self.old keys → IfOk result (λ before.
             before ≡ stored (times_of key.now keys)) }
@@ -39,8 +40,10 @@ impl KeyCounts {
         ensures unchanged { IfErr result (λ error. self.new ≡ self.old) }
     {
         let key = Text::copy_of(alloc, key)?;
-        let before = self.counts.get(&key).copied().unwrap_or(0);
-        self.counts.insert(key, before.saturating_add(1))?;
+        let entry = self.counts.entry(key)?;
+        let count = entry.or_insert(0);
+        let before = *count;
+        *count = before.saturating_add(1);
         Ok(before)
     }
 }

@@ -1,7 +1,8 @@
-use Rattle.std.proofs.Common.{◌≡◌, ℕ, List, Some, cond, ◌∙◌, ap}
+use Rattle.std.proofs.Common.{◌≡◌, ℕ, List, Some, cond, ◌∙◌, ap, rules}
 use Rattle.std.specs.Map.{lookup}
 use Rattle.std.specs.Option.{unwrap_or}
 use Rattle.std.specs.Str.{bytes_eq}
+use Rattle.indexmap.specs.Entry.{map_with_value}
 use Rattle.redo_diagnostics.specs.Counts.{count_in}
 use Rattle.redo_diagnostics.proofs.CountLemmas.{counted}
 use Rattle.redo_diagnostics.proofs.counts.KeyCounts.add.Goals as goal
@@ -9,20 +10,24 @@ use Rattle.redo_diagnostics.proofs.counts.KeyCounts.add.Goals as goal
 pub returns-clause-before : goal.returns-clause-before
 returns-clause-before c = λ keys are.
     let view : c.self.inside.counts.entries ≡ c.args.self.now = cc (c.self.view_is) in
-    c.unwrap_or-before.ensures ∙ ap (λ found. unwrap_or found 0) (c.copied.ensures ∙ c.get.ensures.value)
+    c.or_insert-count.ensures.value ∙ ap (λ found. unwrap_or found 0) c.in_ok-entry.ensures.value
     ∙ ap (λ (entries : List (List ℕ × ℕ)). count_in c.in_ok-key.key entries) view
     ∙ ap (λ (key : List ℕ). count_in key c.args.self.now) c.in_ok-key.ensures ∙ are c.args.key.now
 
 pub returns-clause-counted : goal.returns-clause-counted
 returns-clause-counted c = λ keys are.
     let view : c.self.inside.counts.entries ≡ c.args.self.now = cc (c.self.view_is) in
-    counted c.args.self.now c.insert.new.self.entries keys c.args.key.now c.unwrap_or-before.result c.saturating_add.result are
-    (c.unwrap_or-before.ensures ∙ ap (λ found. unwrap_or found 0) (c.copied.ensures ∙ c.get.ensures.value)
+    counted c.args.self.now _ keys c.args.key.now c.or_insert-count.result.now c.saturating_add.result are
+    (c.or_insert-count.ensures.value ∙ ap (λ found. unwrap_or found 0) c.in_ok-entry.ensures.value
     ∙ ap (λ (entries : List (List ℕ × ℕ)). count_in c.in_ok-key.key entries) view
     ∙ ap (λ (key : List ℕ). count_in key c.args.self.now) c.in_ok-key.ensures)
     c.saturating_add.ensures
-    (λ other. c.in_ok-insert.ensures.updates.0 other
+    (λ other.
+    let updated : lookup (bytes_eq other) (map_with_value c.in_ok-entry.entry c.saturating_add.result).entries
+    ≡ cond (bytes_eq c.args.key.now other) (Some c.saturating_add.result) (lookup (bytes_eq other) c.args.self.now) =
+    (c.in_ok-entry.ensures.update.0 c.saturating_add.result).0 other
     ∙ ap (λ (key : List ℕ). cond (bytes_eq key other) (Some c.saturating_add.result)
     (lookup (bytes_eq other) c.self.inside.counts.entries)) c.in_ok-key.ensures
     ∙ ap (λ (entries : List (List ℕ × ℕ)). cond (bytes_eq c.args.key.now other) (Some c.saturating_add.result)
-    (lookup (bytes_eq other) entries)) view)
+    (lookup (bytes_eq other) entries)) view in
+    search (rules, updated, c.in_ok-entry.ensures))
