@@ -1,5 +1,5 @@
 -- Escapes of a text in parts.
-use Rattle.std.proofs.Common.{◌≡◌, ℕ, ◌+◌, ◌-◌, ◌<◌, ◌≤◌, ◌%◌, ◌==◌, ◌||◌, true, List, [], ◌∷◌, ◌++◌, length, take, drop, get_or, refl, sym, ap, ap₂, ◌∙◌, arith, subst, append_assoc, length-drop, take-append-drop}
+use Rattle.std.proofs.Common.{◌≡◌, ℕ, ◌+◌, ◌-◌, ◌<◌, ◌≤◌, ◌%◌, ◌==◌, ◌||◌, Bool, true, List, [], ◌∷◌, ◌++◌, length, take, drop, get_or, refl, sym, ap, ap₂, ◌∙◌, arith, subst, append_assoc, length-drop, take-append-drop}
 use Rattle.std.specs.List.{list_all}
 use Rattle.std.specs.Str.Lossy.{replacement_bytes, utf8_lossy}
 use Rattle.std.proofs.lemmas.Bool.{and_from, and_parts, eqb-false, ltb-false, not-true, or_parts}
@@ -30,33 +30,44 @@ escape_plain (x ∷ xs) plain =
     let both = and_parts (is_plain x) (list_all is_plain xs) plain in
     ap₂ (λ (a b : List ℕ). a ++ b) (plain_byte x both.0) (escape_plain xs both.1)
 
+-- Bytes that pass a test, and bytes after them that do.
+pub pass_more : (test : ℕ → Bool) (bytes : List ℕ) (len more : ℕ) → list_all test (take len bytes) ≡ true
+    → list_all test (take more (drop len bytes)) ≡ true → list_all test (take (len + more) bytes) ≡ true
+pass_more test bytes len more first next =
+    ap (list_all test) (take-add len more bytes) ∙ list_all-append test (take len bytes) (take more (drop len bytes))
+    ∙ and_from (list_all test (take len bytes)) (list_all test (take more (drop len bytes))) first next
+
+-- Bytes that pass a test up to the end, from some byte on before which all do.
+pub pass_to_end : (test : ℕ → Bool) (bytes : List ℕ) (start len : ℕ) → start ≤ len → len ≤ length bytes
+    → list_all test (take len bytes) ≡ true → list_all test (take (length bytes - start) (drop start bytes)) ≡ true
+    → list_all test bytes ≡ true
+pass_to_end test bytes start len low within first last =
+    let all : start + (length bytes - start) ≡ length bytes = omega (arith, low, within) in
+    let both = list_all-append test (take start bytes) (drop start (take len bytes)) in
+    let front : take start bytes ++ drop start (take len bytes) ≡ take len bytes =
+    ap (λ (l : List ℕ). l ++ drop start (take len bytes)) (sym (take-take start len bytes low)) ∙ take-append-drop start (take len bytes) in
+    ap (list_all test) (sym (take_all (length bytes) bytes (omega arith)))
+    ∙ subst (λ (n : ℕ). list_all test (take n bytes) ≡ true) all (pass_more test bytes start (length bytes - start)
+    (and_parts (list_all test (take start bytes)) (list_all test (drop start (take len bytes)))
+    (sym both ∙ ap (list_all test) front ∙ first)).0 last)
+
 -- Plain bytes, and plain bytes after them.
 pub plain_more : (bytes : List ℕ) (len more : ℕ) → ArePlain bytes len → ArePlain (drop len bytes) more → ArePlain bytes (len + more)
 plain_more bytes len more first next =
     let size = length-drop len bytes in
     record {
       within = omega (arith, first.within, next.within, size);
-      plain = ap (list_all is_plain) (take-add len more bytes) ∙ list_all-append is_plain (take len bytes) (take more (drop len bytes))
-          ∙ and_from (list_all is_plain (take len bytes)) (list_all is_plain (take more (drop len bytes))) first.plain next.plain;
+      plain = pass_more is_plain bytes len more first.plain next.plain;
     }
 
 -- Plain bytes up to the end, from some byte on before which all are plain.
 pub plain_to_end : (bytes : List ℕ) (start len : ℕ) → start ≤ len → ArePlain bytes len
     → list_all is_plain (take (length bytes - start) (drop start bytes)) ≡ true → ArePlain bytes (length bytes)
-plain_to_end bytes start len low first last =
-    let within = first.within in
-    let size = length-drop start bytes in
-    let all : start + (length bytes - start) ≡ length bytes = omega (arith, low, within) in
-    let both = list_all-append is_plain (take start bytes) (drop start (take len bytes)) in
-    let front : take start bytes ++ drop start (take len bytes) ≡ take len bytes =
-    ap (λ (l : List ℕ). l ++ drop start (take len bytes)) (sym (take-take start len bytes low)) ∙ take-append-drop start (take len bytes) in
-    subst (ArePlain bytes) all (plain_more bytes start (length bytes - start)
-    (record {
-      within = omega (arith, low, within);
-      plain = (and_parts (list_all is_plain (take start bytes)) (list_all is_plain (drop start (take len bytes)))
-          (sym both ∙ ap (list_all is_plain) front ∙ first.plain)).0;
-    })
-    (record { within = omega (arith, size); plain = last }))
+plain_to_end bytes start len low first last = record {
+  within = omega arith;
+  plain = ap (list_all is_plain) (take_all (length bytes) bytes (omega arith))
+      ∙ pass_to_end is_plain bytes start len low first.within first.plain last;
+}
 
 pub all_plain : (text : List ℕ) (len : ℕ) → ArePlain text len → len ≡ length text → escape text ≡ text
 all_plain text len plain all =

@@ -33,4 +33,5 @@ mod ReadingLemmas
 mod TextLemmas
 mod TextRows
 mod Utf8Lemmas
+mod VerbatimLemmas
 mod WritingLemmas

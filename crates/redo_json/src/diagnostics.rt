@@ -1,5 +1,5 @@
 //! The member of an object with the diagnostics of a log.
-ghost use Rattle.std.specs.Prelude.{◌≡◌, ◌∷◌, ◌++◌, [], Some, true, codes, option_copied};
+ghost use Rattle.std.specs.Prelude.{◌≡◌, ◌∷◌, ◌++◌, [], None, Some, true, IfSome, codes, option_copied};
 ghost use Rattle.json.specs.Json.{string};
 ghost use Rattle.json.specs.Print.{print};
 ghost use Rattle.json.specs.Tree.{json_tokens};
@@ -8,11 +8,14 @@ ghost use Rattle.redo_outline.specs.Facts.{entries_at, texts_of};
 ghost use Rattle.redo_view.specs.Form.{FormWrites};
 ghost use Rattle.redo_json.specs.Diagnostics.{diagnostics_field, diagnostics_of, first_flag, flagged, other_flags, severity_name};
 ghost use Rattle.redo_json.specs.Fields.{boolean_value, field, number_value, optional_bytes_fields};
-ghost use Rattle.redo_json.specs.Private.Parts.{comma_field, comma_fields, comma_if, diagnostic_text, diagnostics_text, place_text};
+ghost use Rattle.redo_json.specs.Private.Diagnosing.{IsVerbatimDiagnostic};
+ghost use Rattle.redo_json.specs.Private.Parts.{comma_field, comma_fields, comma_if, diagnostic_back, diagnostic_front, diagnostic_text, diagnostics_text, part_text, place_text, severity_text, string_start};
+ghost use Rattle.redo_json.specs.Private.Writing.{IsVerbatim};
 
 use crate::field::write_bytes;
 use crate::log_lines::LogLines;
 use crate::part::{Part, write_parts};
+use crate::plain::is_verbatim;
 use redo_device::{Broken, Sink, push_all};
 use redo_diagnostics::{Diagnostic, KeyCounts, Place, Severity, read_diagnostic};
 use redo_line::HashKeys;
@@ -81,6 +84,164 @@ fn next_flag(flags: Option<&[bool]>) -> (Option<bool>, Option<&[bool]>)
 
 // Writes the object of a diagnostic, after a comma unless it is the first one.
 fn write_diagnostic<W: Sink>(
+    is_first: bool,
+    position: usize,
+    diagnostic: &Diagnostic,
+    nth: u64,
+    new: Option<bool>,
+    out: &mut W,
+) -> Result<(), Broken>
+    ensures { Writes (W.written out.old) (W.written out.new)
+        (diagnostic_text is_first (record { line = position; value = diagnostic.now; nth = nth }, new)) result }
+{
+    if !is_verbatim_diagnostic(diagnostic) {
+        return write_any_diagnostic(is_first, position, diagnostic, nth, new, out);
+    }
+    write_diagnostic_front(is_first, position, diagnostic, out)?;
+    write_diagnostic_back(diagnostic, nth, new, out)
+}
+
+// Returns true only if a string of JSON has all bytes of a diagnostic as they are.
+fn is_verbatim_diagnostic(diagnostic: &Diagnostic) -> bool
+    ensures { result ≡ true → IsVerbatimDiagnostic diagnostic.now }
+{
+    is_verbatim(diagnostic.key())
+        && is_verbatim(diagnostic.message())
+        && is_verbatim_flag(diagnostic.flag())
+        && is_verbatim_place(diagnostic.place())
+}
+
+fn is_verbatim_flag(flag: Option<&[u8]>) -> bool
+    ensures { result ≡ true → IfSome (option_copied flag.entry) (λ bytes. IsVerbatim bytes) }
+{
+    match flag {
+        None => true,
+        Some(flag) => is_verbatim(flag),
+    }
+}
+
+fn is_verbatim_place(place: Option<&Place>) -> bool
+    ensures { result ≡ true → IfSome (option_copied place.entry) (λ one. IsVerbatim one.file) }
+{
+    match place {
+        None => true,
+        Some(place) => is_verbatim(place.file()),
+    }
+}
+
+// Writes the object of a diagnostic up to the first byte of its message, after a comma unless it is the first one.
+fn write_diagnostic_front<W: Sink>(
+    is_first: bool,
+    position: usize,
+    diagnostic: &Diagnostic,
+    out: &mut W,
+) -> Result<(), Broken>
+    requires { IsVerbatimDiagnostic diagnostic.now }
+    ensures { Writes (W.written out.old) (W.written out.new) (diagnostic_front is_first position diagnostic.now) result }
+{
+    match diagnostic.place() {
+        None => write_parts(
+            &[
+                Part::Json(object_start(is_first)),
+                Part::Number(position as u64),
+                Part::Json(front_without_place(diagnostic.severity())),
+            ],
+            out,
+        ),
+        Some(place) => write_parts(
+            &[
+                Part::Json(object_start(is_first)),
+                Part::Number(position as u64),
+                Part::Json(front_of_file(diagnostic.severity())),
+                Part::Json(place.file()),
+                Part::Json(b"\",\"row\":"),
+                Part::Number(place.row() as u64),
+                Part::Json(b",\"column\":"),
+                column_part(place.column()),
+                Part::Json(b",\"message\":\""),
+            ],
+            out,
+        ),
+    }
+}
+
+fn column_part(column: Option<u32>) -> Part<'static>
+    ensures { part_text result ≡ print (json_tokens (number_value column)) }
+{
+    match column {
+        None => Part::Json(b"null"),
+        Some(column) => Part::Number(column as u64),
+    }
+}
+
+// Returns the members with the severity and no place, and the start of the member with the message.
+fn front_without_place(severity: Severity) -> &'static [u8]
+    ensures { result.now ≡ severity_text severity ++ (place_text None ++ string_start (codes "message")) }
+{
+    match severity {
+        Severity::Warning => {
+            b",\"severity\":\"warning\",\"file\":null,\"row\":null,\"column\":null,\"message\":\""
+        }
+        Severity::Error => {
+            b",\"severity\":\"error\",\"file\":null,\"row\":null,\"column\":null,\"message\":\""
+        }
+        Severity::FatalError => {
+            b",\"severity\":\"fatal error\",\"file\":null,\"row\":null,\"column\":null,\"message\":\""
+        }
+    }
+}
+
+// Returns the member with the severity, and the start of the member with the file.
+fn front_of_file(severity: Severity) -> &'static [u8]
+    ensures { result.now ≡ severity_text severity ++ string_start (codes "file") }
+{
+    match severity {
+        Severity::Warning => b",\"severity\":\"warning\",\"file\":\"",
+        Severity::Error => b",\"severity\":\"error\",\"file\":\"",
+        Severity::FatalError => b",\"severity\":\"fatal error\",\"file\":\"",
+    }
+}
+
+// Writes the object of a diagnostic from the first byte of its message on.
+fn write_diagnostic_back<W: Sink>(
+    diagnostic: &Diagnostic,
+    nth: u64,
+    new: Option<bool>,
+    out: &mut W,
+) -> Result<(), Broken>
+    requires { IsVerbatimDiagnostic diagnostic.now }
+    ensures { Writes (W.written out.old) (W.written out.new) (diagnostic_back diagnostic.now nth new) result }
+{
+    match diagnostic.flag() {
+        None => write_parts(
+            &[
+                Part::Json(diagnostic.message()),
+                Part::Json(b"\",\"flag\":null,\"key\":\""),
+                Part::Json(diagnostic.key()),
+                Part::Json(b"\",\"nth\":"),
+                Part::Number(nth),
+                Part::Json(object_end(new)),
+            ],
+            out,
+        ),
+        Some(flag) => write_parts(
+            &[
+                Part::Json(diagnostic.message()),
+                Part::Json(b"\",\"flag\":\""),
+                Part::Json(flag),
+                Part::Json(b"\",\"key\":\""),
+                Part::Json(diagnostic.key()),
+                Part::Json(b"\",\"nth\":"),
+                Part::Number(nth),
+                Part::Json(object_end(new)),
+            ],
+            out,
+        ),
+    }
+}
+
+// Writes the object of a diagnostic, whatever bytes it has, after a comma unless it is the first one.
+fn write_any_diagnostic<W: Sink>(
     is_first: bool,
     position: usize,
     diagnostic: &Diagnostic,

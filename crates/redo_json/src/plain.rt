@@ -2,10 +2,13 @@
 ghost use Rattle.std.specs.Prelude.{◌≡◌, ◌≤◌, true, length, take};
 ghost use Rattle.std.specs.List.{list_all};
 ghost use Rattle.json.specs.Run.{is_plain};
-ghost use Rattle.redo_json.specs.Private.Writing.{ArePlain, special_bit_if};
+ghost use Rattle.redo_json.specs.Private.Writing.{ArePlain, IsVerbatim, is_verbatim_byte, special_bit_if};
 
 // The number of bytes that are tested at once.
 const STRIDE: usize = 32;
+
+// The same for short strings.
+const SHORT_STRIDE: usize = 16;
 
 /// Returns a number of bytes at the start that are written as they are: all of them up to the first that isn't.
 pub fn plain_len(bytes: &[u8]) -> usize
@@ -80,4 +83,60 @@ fn is_plain_byte(byte: u8) -> bool
     ensures { result ≡ is_plain byte }
 {
     !(byte == b'"' || byte == b'\\' || byte < 32)
+}
+
+/// Returns true only if bytes are UTF-8, and a string of JSON has them as they are. They are ASCII then.
+pub fn is_verbatim(bytes: &[u8]) -> bool
+    ensures { result ≡ true → IsVerbatim bytes.now }
+{
+    if bytes.len() < SHORT_STRIDE {
+        return are_verbatim_bytes(bytes);
+    }
+    let mut len = 0;
+    while bytes.len() - len >= SHORT_STRIDE {
+        if !are_verbatim(&bytes[len..len + SHORT_STRIDE]) {
+            return false;
+        }
+        len += SHORT_STRIDE;
+    }
+    are_verbatim(&bytes[bytes.len() - SHORT_STRIDE..])
+}
+
+// Returns whether all bytes are ASCII that a string of JSON has as they are, byte by byte.
+fn are_verbatim_bytes(bytes: &[u8]) -> bool
+    ensures { result ≡ true → list_all is_verbatim_byte bytes.now ≡ true }
+{
+    for byte in bytes {
+        if !is_ascii_plain(*byte) {
+            return false;
+        }
+    }
+    true
+}
+
+// Returns whether all bytes are ASCII that a string of JSON has as they are. The loop has no branch.
+#[inline(always)]
+fn are_verbatim(bytes: &[u8]) -> bool
+    ensures { result ≡ list_all is_verbatim_byte bytes.now }
+{
+    let mut special = 0;
+    for byte in bytes {
+        special = special | verbatim_bit(*byte);
+    }
+    special == 0
+}
+
+// Returns 0 for an ASCII byte that a string of JSON has as it is, and 1 for any other.
+#[inline(always)]
+fn verbatim_bit(byte: u8) -> u8
+    ensures { result ≡ special_bit_if (is_verbatim_byte byte) }
+{
+    if is_ascii_plain(byte) { 0 } else { 1 }
+}
+
+#[inline(always)]
+fn is_ascii_plain(byte: u8) -> bool
+    ensures { result ≡ is_verbatim_byte byte }
+{
+    is_plain_byte(byte) && byte < 128
 }

@@ -1,11 +1,12 @@
 -- What the writer of diagnostics ensures.
-use Rattle.std.specs.Prelude.{ℕ, ◌≤◌, Bool, List, Option, length}
+use Rattle.std.specs.Prelude.{ℕ, ◌≤◌, Bool, List, Option, IfSome, length}
 use Rattle.redo_device.specs.Sink.{Output}
 use Rattle.redo_diagnostics.specs.Counts.{AreCounts}
+use Rattle.redo_diagnostics.specs.Diagnostic.{DiagnosticValue, PlaceValue}
 use Rattle.redo_json.specs.Diagnostics.{flagged, numbered_from, placed_from}
 use Rattle.redo_json.specs.Private.LogLines.{Remaining}
 use Rattle.redo_json.specs.Private.Parts.{diagnostics_text}
-use Rattle.redo_json.specs.Private.Writing.{WroteUpTo}
+use Rattle.redo_json.specs.Private.Writing.{IsVerbatim, WroteUpTo}
 
 -- Of a text, everything except the diagnostics of these lines was written, which have these flags. `keys` are the keys of the diagnostics
 -- before them.
@@ -15,3 +16,10 @@ pub record WroteDiagnostics (before after : Option Output) (text : List ℕ) (is
   pub counted : AreCounts counts keys
   pub few : length keys ≤ lines.done
   pub wrote : WroteUpTo before after text (diagnostics_text is_first (flagged flags (numbered_from keys (placed_from lines.done lines.left))))
+
+-- Strings have all bytes of a diagnostic as they are.
+pub record IsVerbatimDiagnostic (value : DiagnosticValue) : Type 0 where
+  pub file : IfSome value.place (λ (place : PlaceValue). IsVerbatim place.file)
+  pub message : IsVerbatim value.message
+  pub flag : IfSome value.flag IsVerbatim
+  pub key : IsVerbatim value.key

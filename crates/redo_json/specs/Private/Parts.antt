@@ -2,14 +2,15 @@
 use Rattle.std.specs.Prelude.{◌≡◌, ℕ, ◌+◌, ◌<◌, ◌≤◌, Bool, false, List, [], ◌∷◌, ◌++◌, Option, option_and_then, option_map, length, drop, get_or, codes, decimal, if◌then◌else◌}
 use Rattle.std.specs.Fmt.{signed_decimal}
 use Rattle.std.specs.List.{flat_map}
-use Rattle.json.specs.Json.{string}
+use Rattle.json.specs.Json.{number, string}
 use Rattle.json.specs.Print.{escape, print, quoted}
 use Rattle.json.specs.Tree.{json_tokens}
 use Rattle.redo_json.specs.declared.part.Part.{Part}
 use Rattle.redo_json.specs.declared.part.Part.TheVariants.{Base64, Escaped, Json, Number, Position, Signed, Text}
-use Rattle.redo_diagnostics.specs.Diagnostic.{PlaceValue}
-use Rattle.redo_json.specs.Diagnostics.{FlaggedDiagnostic, diagnostic_fields}
-use Rattle.redo_json.specs.Fields.{Field, exact_fields, exact_items, exact_name, field, list_fields, number_value, object_with, optional_bytes_fields}
+use Rattle.redo_diagnostics.specs.declared.severity.Severity.{Severity}
+use Rattle.redo_diagnostics.specs.Diagnostic.{DiagnosticValue, PlaceValue}
+use Rattle.redo_json.specs.Diagnostics.{FlaggedDiagnostic, diagnostic_fields, severity_name}
+use Rattle.redo_json.specs.Fields.{Field, boolean_value, bytes_fields, exact_fields, exact_items, exact_name, field, list_fields, number_value, object_with, optional_bytes_fields}
 use Rattle.redo_json.specs.Object.{LogValues, number_fields}
 use Rattle.redo_json.specs.Text.{base64_of, exact_of, text_of}
 
@@ -70,6 +71,26 @@ place_text place =
 -- The object of a diagnostic, with the comma before it.
 abbrev pub diagnostic_text : Bool → FlaggedDiagnostic → List ℕ
 diagnostic_text is_first one = comma_if is_first ++ print (json_tokens (object_with (diagnostic_fields one.0 one.1)))
+
+-- The member with a severity.
+abbrev pub severity_text : Severity → List ℕ
+severity_text severity = comma_field (field (codes "severity") (string (severity_name severity)))
+
+-- The object of a diagnostic up to the first byte of its message, with the comma before it.
+abbrev pub diagnostic_front : Bool → ℕ → DiagnosticValue → List ℕ
+diagnostic_front is_first line value =
+    comma_if is_first
+    ++ (codes "{\"line\":"
+    ++ (decimal line ++ (severity_text value.severity ++ (place_text value.place ++ string_start (codes "message")))))
+
+-- The object of a diagnostic from the first byte of its message on, if strings have all bytes of the diagnostic as they are.
+abbrev pub diagnostic_back : DiagnosticValue → ℕ → Option Bool → List ℕ
+diagnostic_back value nth new =
+    value.message
+    ++ (34
+    ∷ (comma_fields (optional_bytes_fields (codes "flag") value.flag)
+    ++ (comma_fields (bytes_fields (codes "key") value.key)
+    ++ (comma_field (field (codes "nth") (number (decimal nth))) ++ (comma_field (field (codes "new") (boolean_value new)) ++ 125 ∷ [])))))
 
 abbrev pub diagnostics_text : Bool → List FlaggedDiagnostic → List ℕ
 diagnostics_text is_first [] = []

@@ -1,6 +1,7 @@
 -- The postconditions of writers in parts.
-use Rattle.std.specs.Prelude.{◌≡◌, ℕ, ◌≤◌, ◌<◌, Bool, true, List, ◌++◌, length, take, Option, if◌then◌else◌}
+use Rattle.std.specs.Prelude.{◌≡◌, ℕ, ◌≤◌, ◌<◌, Bool, ◌&&◌, true, List, ◌++◌, length, nat_lt, take, Option, if◌then◌else◌}
 use Rattle.std.specs.List.{list_all}
+use Rattle.std.specs.Str.{is_utf8}
 use Rattle.std.specs.Str.Lossy.{replacement_bytes, utf8_lossy}
 use Rattle.json.specs.Print.{escape, escape_byte}
 use Rattle.json.specs.Run.{is_plain}
@@ -20,6 +21,15 @@ pub record ArePlain (bytes : List ℕ) (len : ℕ) : Type 0 where
 -- 0 if bytes are plain, and 1 otherwise.
 abbrev pub special_bit_if : Bool → ℕ
 special_bit_if plain = if plain then 0 else 1
+
+-- Whether a byte is ASCII that is written as it is.
+abbrev pub is_verbatim_byte : ℕ → Bool
+is_verbatim_byte byte = is_plain byte && nat_lt byte 128
+
+-- A string has these bytes as they are.
+pub record IsVerbatim (bytes : List ℕ) : Type 0 where
+  pub utf8 : is_utf8 bytes ≡ true
+  pub escaped : escape bytes ≡ bytes
 
 -- A text is `plain`, which is written as it is, then a byte, and then `behind`.
 pub record HasEscape (text plain : List ℕ) (byte : ℕ) (behind : List ℕ) : Type 0 where

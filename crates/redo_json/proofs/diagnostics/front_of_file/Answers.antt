@@ -1,0 +1,12 @@
+use Rattle.std.proofs.Common.{◌++◌, ℕ, List, ap₂}
+use Rattle.redo_json.proofs.DiagnosticLemmas.{error_text, fatal_text, file_start, warning_text}
+use Rattle.redo_json.proofs.diagnostics.front_of_file.Goals as goal
+
+pub returns-in-Warning : goal.returns-in-Warning
+returns-in-Warning c = ap₂ (λ (a b : List ℕ). a ++ b) (warning_text c.args.severity c.in-Warning.is) file_start
+
+pub returns-in-Error : goal.returns-in-Error
+returns-in-Error c = ap₂ (λ (a b : List ℕ). a ++ b) (error_text c.args.severity c.in-Error.is) file_start
+
+pub returns-in-FatalError : goal.returns-in-FatalError
+returns-in-FatalError c = ap₂ (λ (a b : List ℕ). a ++ b) (fatal_text c.args.severity c.in-FatalError.is) file_start
