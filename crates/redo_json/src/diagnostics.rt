@@ -14,7 +14,7 @@ ghost use Rattle.redo_json.specs.Private.Writing.{IsVerbatim};
 
 use crate::field::write_bytes;
 use crate::log_lines::LogLines;
-use crate::part::{Part, write_parts};
+use crate::part::{Part, write_joined, write_parts};
 use crate::plain::is_verbatim;
 use redo_device::{Broken, Sink, push_all};
 use redo_diagnostics::{Diagnostic, KeyCounts, Place, Severity, read_diagnostic};
@@ -140,7 +140,7 @@ fn write_diagnostic_front<W: Sink>(
     ensures { Writes (W.written out.old) (W.written out.new) (diagnostic_front is_first position diagnostic.now) result }
 {
     match diagnostic.place() {
-        None => write_parts(
+        None => write_joined(
             &[
                 Part::Json(object_start(is_first)),
                 Part::Number(position as u64),
@@ -148,7 +148,7 @@ fn write_diagnostic_front<W: Sink>(
             ],
             out,
         ),
-        Some(place) => write_parts(
+        Some(place) => write_joined(
             &[
                 Part::Json(object_start(is_first)),
                 Part::Number(position as u64),
@@ -213,7 +213,7 @@ fn write_diagnostic_back<W: Sink>(
     ensures { Writes (W.written out.old) (W.written out.new) (diagnostic_back diagnostic.now nth new) result }
 {
     match diagnostic.flag() {
-        None => write_parts(
+        None => write_joined(
             &[
                 Part::Json(diagnostic.message()),
                 Part::Json(b"\",\"flag\":null,\"key\":\""),
@@ -224,7 +224,7 @@ fn write_diagnostic_back<W: Sink>(
             ],
             out,
         ),
-        Some(flag) => write_parts(
+        Some(flag) => write_joined(
             &[
                 Part::Json(diagnostic.message()),
                 Part::Json(b"\",\"flag\":\""),

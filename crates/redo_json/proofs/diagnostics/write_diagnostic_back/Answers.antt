@@ -12,7 +12,7 @@ returns-in-None g c =
     sym (known_is _ _ c.flag.ensures.some c.flag.ensures.none) ∙ ap (λ (flag : Option (Bor (List ℕ))). option_copied flag) c.in-None.is in
     writes_as _ _ _ _ _
     (back_without value c.args.nth c.args.new _ c.object_end.ensures c.requires.key _ _ c.message.ensures c.key.ensures none)
-    c.write_parts.ensures
+    c.write_joined.ensures
 
 pub returns-in-Some : goal.returns-in-Some
 returns-in-Some g c =
@@ -21,4 +21,5 @@ returns-in-Some g c =
     sym (known_is _ _ c.flag.ensures.some c.flag.ensures.none) ∙ ap (λ (flag : Option (Bor (List ℕ))). option_copied flag) c.in-Some.is in
     writes_as _ _ _ _ _
     (back_with value c.args.nth c.args.new _ c.object_end-in-Some.ensures c.requires.key _ _ c.message-in-Some.ensures c.key-in-Some.ensures
-    c.in-Some.flag.now some (subst (λ (flag : Option (List ℕ)). IfSome flag IsVerbatim) some c.requires.flag)) c.write_parts-in-Some.ensures
+    c.in-Some.flag.now some (subst (λ (flag : Option (List ℕ)). IfSome flag IsVerbatim) some c.requires.flag))
+    c.write_joined-in-Some.ensures

@@ -22,7 +22,7 @@ returns-in-None g c =
     (front_without c.args.is_first c.args.position value _ c.object_start.ensures _ none
     (c.front_without_place.ensures
     ∙ ap (λ (s : Severity). severity_text s ++ (place_text None ++ string_start (codes "message"))) c.severity.ensures))
-    c.write_parts.ensures
+    c.write_joined.ensures
 
 pub returns-in-Some : goal.returns-in-Some
 returns-in-Some g c =
@@ -38,4 +38,4 @@ returns-in-Some g c =
     (c.front_of_file.ensures ∙ ap (λ (s : Severity). severity_text s ++ string_start (codes "file")) c.severity-in-Some.ensures)
     c.file.ensures c.row.ensures
     (c.column_part.ensures ∙ ap (λ (column : Option ℕ). print (json_tokens (number_value column))) c.column.ensures))
-    c.write_parts-in-Some.ensures
+    c.write_joined-in-Some.ensures
