@@ -1,5 +1,5 @@
 -- Rows of what articles say about recipes, as HTML.
-use Rattle.std.proofs.Common.{◌≡◌, ℕ, Bool, true, false, List, [], ◌∷◌, ◌++◌, Option, None, Some, length, pos, replicate, refl}
+use Rattle.std.proofs.Common.{◌≡◌, ℕ, true, false, List, [], ◌∷◌, ◌++◌, Option, None, Some, length, pos, replicate, refl}
 use Rattle.std.specs.Char.{encode_utf8}
 use Rattle.std.specs.Fmt.{digits}
 use Rattle.std.specs.List.{flat_map}
@@ -14,7 +14,6 @@ use Rattle.redo_html.specs.Shown.{is_unprintable, number_text, unprintable_text,
 use Rattle.redo_html.specs.Symbols.{first_code_point, first_symbol, is_sequence, code_point_len, sequence_len, sequence_numbers, symbol_len, symbols_after}
 use Rattle.redo_logs.specs.declared.log_state.LogState.TheVariants.{Ended}
 use Rattle.redo_logs.specs.Logs.{Log}
-use Rattle.redo_outline.specs.declared.node.Node.{Node}
 use Rattle.redo_page.specs.Article.{article_of, article_parts, nothing_parts, output_parts, path_parts}
 use Rattle.redo_page.specs.Excerpt.{cut_to, in_tree_parts}
 use Rattle.redo_page.specs.Recipe.{collapsed_parts, command_block, command_parts, commands_parts, recipe_at, recipe_parts}
