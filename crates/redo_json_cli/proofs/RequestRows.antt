@@ -1,5 +1,5 @@
 -- Rows of what the JSON of a job is asked: each option reaches its own part of the request.
-use Rattle.std.proofs.Common.{◌≡◌, ℕ, pos, Bool, true, false, List, [], ◌∷◌, ◌++◌, Option, None, Some, length, map, option_map, replicate, refl}
+use Rattle.std.proofs.Common.{◌≡◌, ℕ, pos, Bool, true, false, List, [], ◌∷◌, ◌++◌, Option, None, Some, length, map, option_map, replicate, take, refl}
 use Rattle.std.specs.Prelude.{codes}
 use Rattle.std.specs.List.{AllByRecursion}
 use Rattle.redo_compare.specs.Baseline.{BaselineValue}
@@ -8,6 +8,7 @@ use Rattle.redo_line.specs.declared.entry.Entry.TheVariants.{Mention, Closing}
 use Rattle.redo_line.specs.declared.entry.How.TheVariants.{Unchanged}
 use Rattle.redo_outline.specs.declared.node.Node.{Node}
 use Rattle.redo_view.specs.Expansion.{show_log, show_log_within}
+use Rattle.json.specs.Print.{print_from}
 use Rattle.redo_json.specs.Build.{Request, build_json}
 use Rattle.redo_json_args.specs.Job.{JsonParts}
 use Rattle.redo_json_cli.specs.Request.{job_baseline, job_json, request_for, shown_targets}
@@ -69,6 +70,13 @@ these_targets = (refl, (refl, (refl, (refl, tt))))
 
 these_texts : AllByRecursion (λ (r : Row). job_json r.job times recipes None logs (codes "a" ∷ []) ≡ build_json r.request logs r.shown) rows
 these_texts = (refl, (refl, (refl, (refl, tt))))
+
+-- Without requested targets, the JSON of all listed ones has text, and that of the requested ones has none.
+these_begin :
+    (take 1 (job_json (job false true) times recipes None logs []) ≡ codes "{")
+    × (job_json (job false false) times recipes None logs [] ≡ [])
+unfolding show_log show_log_within print_from
+these_begin = (refl, refl)
 
 -- ---- a baseline
 
