@@ -71,7 +71,7 @@ these_targets = (refl, (refl, (refl, (refl, tt))))
 these_texts : AllByRecursion (λ (r : Row). job_json r.job times recipes None logs (codes "a" ∷ []) ≡ build_json r.request logs r.shown) rows
 these_texts = (refl, (refl, (refl, (refl, tt))))
 
--- Without requested targets, the JSON of all listed ones has text, and that of the requested ones has none.
+-- Without requested targets, a job with `every` has text, and one without it has none.
 these_begin :
     (take 1 (job_json (job false true) times recipes None logs []) ≡ codes "{")
     × (job_json (job false false) times recipes None logs [] ≡ [])
