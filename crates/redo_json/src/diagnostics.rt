@@ -101,7 +101,7 @@ fn write_diagnostic<W: Sink>(
     write_diagnostic_back(diagnostic, nth, new, out)
 }
 
-// Returns true only if a string of JSON has all bytes of a diagnostic as they are.
+// Returns true only if all strings of a diagnostic are written as they are.
 fn is_verbatim_diagnostic(diagnostic: &Diagnostic) -> bool
     ensures { result ≡ true → IsVerbatimDiagnostic diagnostic.now }
 {

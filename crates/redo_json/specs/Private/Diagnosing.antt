@@ -17,7 +17,7 @@ pub record WroteDiagnostics (before after : Option Output) (text : List ℕ) (is
   pub few : length keys ≤ lines.done
   pub wrote : WroteUpTo before after text (diagnostics_text is_first (flagged flags (numbered_from keys (placed_from lines.done lines.left))))
 
--- Strings have all bytes of a diagnostic as they are.
+-- All strings of a diagnostic are written as they are.
 pub record IsVerbatimDiagnostic (value : DiagnosticValue) : Type 0 where
   pub file : IfSome value.place (λ (place : PlaceValue). IsVerbatim place.file)
   pub message : IsVerbatim value.message

@@ -83,7 +83,7 @@ diagnostic_front is_first line value =
     ++ (codes "{\"line\":"
     ++ (decimal line ++ (severity_text value.severity ++ (place_text value.place ++ string_start (codes "message")))))
 
--- The object of a diagnostic from the first byte of its message on, if strings have all bytes of the diagnostic as they are.
+-- The object of a diagnostic from the first byte of its message on, if all its strings are written as they are.
 abbrev pub diagnostic_back : DiagnosticValue → ℕ → Option Bool → List ℕ
 diagnostic_back value nth new =
     value.message
