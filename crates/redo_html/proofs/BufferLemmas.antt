@@ -1,22 +1,19 @@
 -- Texts that are written through a buffer.
 use Rattle.std.proofs.Common.{◌≡◌, ℕ, ◌<◌, ◌≤◌, Bool, false, true, List, [], ◌++◌, Option, Result, Ok, Err, OnOk, length, drop, refl, sym, ◌∙◌, ap, ap₂, subst}
-use Rattle.std.specs.Prelude.{◌==◌}
 use Rattle.std.specs.List.{flat_map}
 use Rattle.std.specs.Result.{IsErr}
-use Rattle.std.proofs.lemmas.Bool.{and_parts, eqb-true}
 use Rattle.std.proofs.lemmas.List.{append_assoc, append-nil}
 use Rattle.redo_device.specs.declared.feed.Broken.{Broken}
 use Rattle.redo_device.specs.Sink.{Output, append_output, Writes}
 use Rattle.redo_device.proofs.WritesLemmas.{at_first}
 use Rattle.redo_html.specs.declared.look.Look.{Look}
-use Rattle.redo_html.specs.declared.style.Hue.{Hue}
-use Rattle.redo_html.specs.declared.style.Hue.TheVariants.{Plain, Red, Green, Yellow, Blue, Magenta, Cyan}
 use Rattle.redo_html.specs.declared.style.Style.{Style}
 use Rattle.redo_html.specs.declared.text_kind.TextKind.TheVariants.{Log}
-use Rattle.redo_html.specs.Passage.{after_code_point, html_from, hue_number, inline_html, highlights_between, is_same_style, passage_html, same_bool, with_wanted}
-use Rattle.redo_html.specs.Style.{digit_hue}
+use Rattle.redo_html.specs.Passage.{inline_html, is_same_style, passage_html}
+use Rattle.redo_html.specs.Private.Highlighting.{after_code_point, html_from, highlights_between, with_wanted}
 use Rattle.redo_html.specs.Private.Buffering.{Puts, PutSome, PutSomeOrFailed, PutPassage}
 use Rattle.redo_html.specs.Private.Writing.{WroteUpTo, WroteSomeOrFailed, WrotePassage, SkipsSequences, style_in}
+use Rattle.redo_html.proofs.StyleLemmas.{same_style}
 use Rattle.redo_html.proofs.WritingLemmas.{begin_parts, wrote_more, wrote_on, wrote_rest, writes_as}
 
 -- A text with more after it.
@@ -199,30 +196,6 @@ sequences_put before old look bytes style len some skips = record {
 pub same_style_html : (look : Look) → look.unprintable ≡ false → is_same_style look.wanted look.current ≡ true
     → flat_map (inline_html Log) (highlights_between look false) ≡ []
 same_style_html look visible same = rw (visible, same) refl
-
-hue_back : (hue : Hue) → digit_hue (hue_number hue) ≡ hue
-hue_back Plain = refl
-hue_back Red = refl
-hue_back Green = refl
-hue_back Yellow = refl
-hue_back Blue = refl
-hue_back Magenta = refl
-hue_back Cyan = refl
-
-same_bold : (one other : Bool) → same_bool one other ≡ true → one ≡ other
-same_bold true true same = refl
-same_bold true false same = sym same
-same_bold false true same = same
-same_bold false false same = refl
-
-abbrev style_with : Bool → Hue → Style
-style_with bold hue = record { bold = bold; hue = hue }
-
-same_style : (one other : Style) → is_same_style one other ≡ true → one ≡ other
-same_style one other same =
-    let parts = and_parts (same_bool one.bold other.bold) (hue_number one.hue == hue_number other.hue) same in
-    ap₂ style_with (same_bold one.bold other.bold parts.0)
-    (sym (hue_back one.hue) ∙ ap digit_hue (eqb-true (hue_number one.hue) (hue_number other.hue) parts.1) ∙ hue_back other.hue)
 
 abbrev look_with : Style → Style → Bool → Look
 look_with wanted current unprintable = record { wanted = wanted; current = current; unprintable = unprintable }

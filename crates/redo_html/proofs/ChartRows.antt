@@ -18,7 +18,7 @@ use Rattle.redo_html.specs.Html.{start_name, svg_elements, tags_of}
 use Rattle.redo_html.specs.Laws.{has_bytes, markup_tag, reworded}
 use Rattle.redo_html.specs.Parts.{Part, part_html, part_of, part_text, part_tokens}
 use Rattle.redo_html.specs.Parts.Part.{MarkupPart, ChartPart, MeterPart}
-use Rattle.redo_html.specs.Passage.{html_from}
+use Rattle.redo_html.specs.Passage.{passage_html}
 use Rattle.redo_html.specs.Shown.{is_unprintable, number_text, unprintable_text, notation}
 use Rattle.redo_html.specs.Symbols.{first_code_point, first_symbol, is_sequence, code_point_len, sequence_len, sequence_numbers, symbol_len, symbols_after}
 
@@ -94,7 +94,7 @@ shape_rows =
     ∷ []
 
 shapes_are : AllByRecursion (λ r. nodes_html (shape_nodes r.kind (shape_of r.item)) ≡ r.html) shape_rows
-unfolding symbols_after first_symbol symbol_len is_sequence sequence_len sequence_numbers first_code_point code_point_len is_unprintable notation unprintable_text number_text encode_utf8 digits html_from
+unfolding symbols_after first_symbol symbol_len is_sequence sequence_len sequence_numbers first_code_point code_point_len is_unprintable notation unprintable_text number_text encode_utf8 digits passage_html
 shapes_are = (refl, (refl, (refl, (refl, (refl, (refl, (refl, (refl, (refl, (refl, (refl, (refl, (refl, tt)))))))))))))
 
 record GroupRow : Type 0 where
@@ -162,7 +162,7 @@ rows =
     ∷ []
 
 written_are : AllByRecursion (λ r. part_html r.part ≡ r.html) rows
-unfolding symbols_after first_symbol symbol_len is_sequence sequence_len sequence_numbers first_code_point code_point_len is_unprintable notation unprintable_text number_text encode_utf8 digits html_from
+unfolding symbols_after first_symbol symbol_len is_sequence sequence_len sequence_numbers first_code_point code_point_len is_unprintable notation unprintable_text number_text encode_utf8 digits passage_html
 written_are = (refl, (refl, (refl, (refl, (refl, (refl, (refl, tt)))))))
 
 -- A reader sees the ticks, the tooltips and the labels.

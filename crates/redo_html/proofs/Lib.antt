@@ -23,6 +23,7 @@ mod LineWriting
 mod HighlightReading
 mod PageRows
 mod PartReading
+mod PassageGroups
 mod PassageLemmas
 mod PassageWriting
 mod NotationLemmas

@@ -12,12 +12,14 @@ use Rattle.redo_html.specs.declared.text_kind.TextKind.TheVariants.{Log}
 use Rattle.redo_html.specs.declared.look.Look.{Look}
 use Rattle.redo_html.specs.declared.style.Style.{Style}
 use Rattle.redo_html.specs.Lines.{lines_html, style_after_lines, style_after_symbol}
-use Rattle.redo_html.specs.Passage.{html_from, passage_html, start_look, with_wanted}
+use Rattle.redo_html.specs.Passage.{passage_html}
+use Rattle.redo_html.specs.Private.Highlighting.{html_from, start_look, with_wanted}
 use Rattle.redo_html.specs.Private.Buffering.{PutSome, PutSomeLines, PutSomeOrFailed, PutLines, PutPassage, html_left}
 use Rattle.redo_html.specs.Private.Writing.{BeginsPassage, SkipsSequences, WroteUpTo, style_in}
 use Rattle.redo_html.proofs.BufferLemmas.{extended}
 use Rattle.redo_html.proofs.LineParts.{HasLine, feed_at_end, feed_of_line, free_behind, has_line, some_line}
 use Rattle.redo_html.proofs.LineWriting.{lines_wrote, lines_failed}
+use Rattle.redo_html.proofs.PassageGroups.{passage_is}
 use Rattle.redo_html.proofs.PassageLemmas.{html-nil}
 use Rattle.redo_html.proofs.SymbolLemmas.{symbols-nil}
 use Rattle.redo_html.proofs.WritingLemmas.{begin_parts, failed_part, same_error, wrote_on}
@@ -25,7 +27,9 @@ use Rattle.redo_html.proofs.WritingLemmas.{begin_parts, failed_part, same_error,
 -- Before a line, no highlight is open.
 pub start_left : (style : Style) (lines : List (List ℕ)) → html_left (start_look style) lines ≡ lines_html style lines
 start_left style [] = sym (html-nil Log (start_look style))
-start_left style (line ∷ lines) = refl
+start_left style (line ∷ lines) =
+    let left = lines_html (style_in Log style (with_line_feed line)) lines in
+    ap (λ (t : List ℕ). t ++ left) (sym (passage_is Log style (with_line_feed line)))
 
 module _ (before middle after : Option Output) (text old : List ℕ) (look : Look) (left line : List ℕ) (lines : List (List ℕ))
     (has : HasLine left line lines) (so_far : WroteUpTo before middle text (old ++ html_left look (line ∷ lines))) where

@@ -17,7 +17,8 @@ use Rattle.redo_line.specs.Lines.{with_line_feed}
 use Rattle.redo_html.specs.declared.text_kind.TextKind.TheVariants.{Log}
 use Rattle.redo_html.specs.Lines.{line_parts, style_after, style_after_lines, style_after_symbol}
 use Rattle.redo_html.specs.Parts.{part_text}
-use Rattle.redo_html.specs.Passage.{escaped, inline_html, highlights_between, after_code_point, with_wanted, start_look, inlines_from, html_from, passage_html}
+use Rattle.redo_html.specs.Passage.{escaped, inline_html, passage_html}
+use Rattle.redo_html.specs.Private.Highlighting.{highlights_between, after_code_point, with_wanted, start_look, inlines_from, html_from}
 use Rattle.redo_html.specs.Passage.Inline.{Text}
 use Rattle.redo_html.specs.Shown.{Run, is_unprintable, unprintable_text, run_text, shown_text, code_points_text, with_code_point, with_symbol, runs_of}
 use Rattle.redo_html.specs.Shown.Run.{CodePoints, Restyle}
@@ -25,6 +26,7 @@ use Rattle.redo_html.specs.Style.{plain_style, restyled}
 use Rattle.redo_html.specs.Symbols.{Symbol, code_point_of, size_of, first_code_point, code_point_len, is_parameter, final_byte, begins_sequence, is_link_byte, end_len, link_len, sequence_len, numbers_from, sequence_numbers, has_colours, is_sequence, first_symbol, symbol_len, symbols_after, symbols}
 use Rattle.redo_html.specs.Symbols.Symbol.{CodePoint, Sequence}
 use Rattle.redo_html.specs.Private.Writing.{style_in}
+use Rattle.redo_html.proofs.PassageGroups.{passage_is}
 use Rattle.redo_html.proofs.PassageLemmas.{html_of}
 use Rattle.redo_html.proofs.SymbolLemmas.{no_link_start, symbols-nil, symbols-step, symbol_bounds, plain_symbol, plain_visible, plain_encoded, visible_run}
 
@@ -318,15 +320,23 @@ html_split kind look (CodePoints code_point count ∷ runs) more plain =
     ∙ ap (λ (t : List ℕ). highlights ++ t) (sym (append_assoc text first last)) ∙ sym (append_assoc highlights (text ++ first) last)
     ∙ ap (λ (t : List ℕ). t ++ last) (sym (code_points_html kind look code_point count (runs ++ CodePoints 10 1 ∷ [])))
 
-pub passage-feed : (kind : TextKind) (style : Style) (bytes more : List ℕ) → style_in kind style bytes ≡ plain_style
-    → passage_html kind style (bytes ++ 10 ∷ more) ≡ passage_html kind style (bytes ++ 10 ∷ []) ++ passage_html kind plain_style more
+html-feed : (kind : TextKind) (style : Style) (bytes more : List ℕ) → style_in kind style bytes ≡ plain_style
+    → html_from kind (start_look style) (bytes ++ 10 ∷ more)
+    ≡ html_from kind (start_look style) (bytes ++ 10 ∷ []) ++ html_from kind (start_look plain_style) more
 unfolding html_from
-passage-feed kind style bytes more plain =
+html-feed kind style bytes more plain =
     let runs = runs_of (symbols kind bytes) in
     ap (html_of kind (start_look style)) (runs-feed kind bytes more)
     ∙ html_split kind (start_look style) runs (runs_of (symbols kind more)) (runs_style style (symbols kind bytes) ∙ plain)
     ∙ ap (λ (rs : List Run). html_of kind (start_look style) rs ++ html_of kind (start_look plain_style) (runs_of (symbols kind more)))
     (sym (runs-feed kind bytes [] ∙ ap (λ (ss : List Symbol). runs ++ CodePoints 10 1 ∷ runs_of ss) (symbols-nil kind)))
+
+pub passage-feed : (kind : TextKind) (style : Style) (bytes more : List ℕ) → style_in kind style bytes ≡ plain_style
+    → passage_html kind style (bytes ++ 10 ∷ more) ≡ passage_html kind style (bytes ++ 10 ∷ []) ++ passage_html kind plain_style more
+passage-feed kind style bytes more plain =
+    passage_is kind style (bytes ++ 10 ∷ more) ∙ html-feed kind style bytes more plain
+    ∙ ap (λ (t : List ℕ). t ++ html_from kind (start_look plain_style) more) (sym (passage_is kind style (bytes ++ 10 ∷ [])))
+    ∙ ap (λ (t : List ℕ). passage_html kind style (bytes ++ 10 ∷ []) ++ t) (sym (passage_is kind plain_style more))
 
 -- ---- the shown text
 

@@ -10,7 +10,7 @@ use Rattle.redo_html.specs.declared.text_kind.TextKind.TheVariants.{Log}
 use Rattle.redo_html.specs.declared.style.Style.{Style}
 use Rattle.redo_html.specs.Laws.{IsLink, is_plain}
 use Rattle.redo_html.specs.Lines.{style_after, style_after_symbol}
-use Rattle.redo_html.specs.Passage.{html_from, inline_html, inlines_from, passage_html, start_look}
+use Rattle.redo_html.specs.Passage.{inline_html, passage_html, passage_inlines}
 use Rattle.redo_html.specs.Shown.{is_unprintable, unprintable_text, run_text, runs_of, shown_text}
 use Rattle.redo_html.specs.Symbols.{Symbol, is_link_byte, link_text_len, link_text, end_len, link_end_len, sequence_len, sequence_numbers, is_sequence, first_symbol, symbol_len, symbols}
 use Rattle.redo_html.specs.Symbols.Symbol.{CodePoint, Sequence}
@@ -113,9 +113,9 @@ link_symbols link more is = ⊎_elim bell escape is.ends
 -- ---- the text that it shows
 
 pub link_written : (style : Style) (link more : List ℕ) → IsLink link → passage_html Log style (link ++ more) ≡ passage_html Log style more
-unfolding html_from
+unfolding passage_html
 link_written style link more is =
-    ap (λ (ss : List Symbol). flat_map (inline_html Log) (inlines_from (start_look style) (runs_of ss))) (link_symbols link more is)
+    ap (λ (ss : List Symbol). flat_map (inline_html Log) (passage_inlines style (runs_of ss))) (link_symbols link more is)
 
 pub link_style : (style : Style) (link more : List ℕ) → IsLink link → style_after style (link ++ more) ≡ style_after style more
 link_style style link more is = ap (fold style_after_symbol style) (link_symbols link more is)

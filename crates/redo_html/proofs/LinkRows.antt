@@ -7,7 +7,7 @@ use Rattle.std.specs.Fmt.{digits}
 use Rattle.std.specs.List.{AllByRecursion}
 use Rattle.redo_html.specs.declared.text_kind.TextKind.{TextKind}
 use Rattle.redo_html.specs.declared.text_kind.TextKind.TheVariants.{Log, Monochrome, Title}
-use Rattle.redo_html.specs.Passage.{html_from, passage_html}
+use Rattle.redo_html.specs.Passage.{passage_html}
 use Rattle.redo_html.specs.Shown.{is_unprintable, notation, number_text, unprintable_text, shown_text}
 use Rattle.redo_html.specs.Style.{plain_style}
 use Rattle.redo_html.specs.Symbols.{first_code_point, code_point_len, sequence_len, sequence_numbers, is_sequence, first_symbol, symbol_len, symbols_after}
@@ -126,7 +126,7 @@ shown_are = (
 )
 
 written_are : AllByRecursion (λ r. passage_html r.kind plain_style r.bytes ≡ r.html) rows
-unfolding symbols_after first_symbol symbol_len is_sequence sequence_len sequence_numbers first_code_point code_point_len is_unprintable notation unprintable_text number_text encode_utf8 digits html_from
+unfolding symbols_after first_symbol symbol_len is_sequence sequence_len sequence_numbers first_code_point code_point_len is_unprintable notation unprintable_text number_text encode_utf8 digits passage_html
 written_are = (
   refl,
   (

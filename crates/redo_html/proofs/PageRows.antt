@@ -6,7 +6,7 @@ use Rattle.std.specs.Fmt.{digits}
 use Rattle.std.specs.List.{AllByRecursion, flat_map, list_all}
 use Rattle.redo_html.specs.declared.markup.Markup.TheVariants.{TargetLink, EndLink, Article, OpenDetails, Policy, Pre, EndPre}
 use Rattle.redo_html.specs.declared.style.Hue.TheVariants.{Blue}
-use Rattle.redo_html.specs.Passage.{html_from}
+use Rattle.redo_html.specs.Passage.{passage_html}
 use Rattle.redo_html.specs.Parts.{Part, part_html, part_of}
 use Rattle.redo_html.specs.declared.piece.Piece.TheVariants as piece
 use Rattle.redo_html.specs.Parts.Part.{MarkupPart, LogPart, TextPart, NumberPart, TitlePart, StylePart}
@@ -37,7 +37,7 @@ rows =
     ∷ []
 
 written_are : AllByRecursion (λ r. flat_map part_html r.parts ≡ r.html) rows
-unfolding symbols_after first_symbol symbol_len is_sequence sequence_len sequence_numbers first_code_point code_point_len is_unprintable notation unprintable_text number_text encode_utf8 digits html_from
+unfolding symbols_after first_symbol symbol_len is_sequence sequence_len sequence_numbers first_code_point code_point_len is_unprintable notation unprintable_text number_text encode_utf8 digits passage_html
 written_are = (refl, (refl, (refl, (refl, (refl, (refl, (refl, tt)))))))
 
 style_is_an_element : take 7 (part_html StylePart) ≡ codes "<style>"

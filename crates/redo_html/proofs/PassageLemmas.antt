@@ -2,13 +2,13 @@
 use Rattle.std.proofs.Common.{◌≡◌, ℕ, zero, suc, ◌<◌, Bool, true, false, List, [], ◌∷◌, ◌++◌, length, drop, slice_index, refl, sym, ◌∙◌, ap, arith}
 use Rattle.std.specs.Prelude.{◌==◌, ◌||◌, ◌&&◌, not, codes, encode_utf8, if◌then◌else◌}
 use Rattle.std.specs.List.{flat_map, list_all}
-use Rattle.std.proofs.lemmas.Bool.{and_left, and_parts, cond-true, cond-false, eq-eqb}
+use Rattle.std.proofs.lemmas.Bool.{and_left, and_parts, cond-true, cond-false}
 use Rattle.std.proofs.lemmas.List.{append_assoc, append-nil}
 use Rattle.std.proofs.lemmas.List.Concat.{flat_map-append}
 use Rattle.redo_html.specs.declared.text_kind.TextKind.{TextKind}
 use Rattle.redo_html.specs.declared.look.Look.{Look}
-use Rattle.redo_html.specs.declared.style.Style.{Style}
-use Rattle.redo_html.specs.Passage.{Inline, escaped, escaped_byte, highlight_text, highlight_html, inline_html, has_element, style_start, style_end, hue_number, same_bool, is_same_style, highlight_if, highlights_between, after_code_point, with_wanted, inlines_from, html_from}
+use Rattle.redo_html.specs.Passage.{Inline, escaped, escaped_byte, highlight_text, highlight_html, inline_html, has_element, style_start, style_end, is_same_style}
+use Rattle.redo_html.specs.Private.Highlighting.{highlight_if, highlights_between, after_code_point, with_wanted, inlines_from, html_from}
 use Rattle.redo_html.specs.Passage.Inline.{UnprintableStart, UnprintableEnd, StyleStart, StyleEnd, Text}
 use Rattle.redo_html.specs.Laws.{is_plain}
 use Rattle.redo_html.specs.Shown.{Run, is_unprintable, unprintable_text, code_points_text, run_text, runs_of, shown_text}
@@ -17,6 +17,7 @@ use Rattle.redo_html.specs.Style.{restyled}
 use Rattle.redo_html.specs.Symbols.{Symbol, first_symbol, symbol_len, symbols}
 use Rattle.redo_html.specs.Symbols.Symbol.{CodePoint, Sequence}
 use Rattle.redo_html.specs.Private.Writing.{IsRepeated, optional_highlight}
+use Rattle.redo_html.proofs.StyleLemmas.{same_as_itself}
 use Rattle.redo_html.proofs.TextReading.{safe_escaped, unprintable_safe}
 use Rattle.redo_html.proofs.SymbolLemmas.{symbols-nil, symbols-step, plain_symbol, plain_visible, plain_encoded, reference_encoded, reference_symbol, visible_run, unprintable_run}
 
@@ -68,13 +69,6 @@ highlights_parts kind look unprintable =
     ∙ ap (λ (t : List ℕ). flat_map (inline_html kind) (highlight_if a UnprintableEnd ++ styles) ++ t)
     (sym (one_highlight kind d UnprintableStart refl))
     ∙ sym (flat_map-append (inline_html kind) (highlight_if a UnprintableEnd ++ styles) (highlight_if d UnprintableStart))
-
-same_bool_itself : (bold : Bool) → same_bool bold bold ≡ true
-same_bool_itself true = refl
-same_bool_itself false = refl
-
-same_as_itself : (style : Style) → is_same_style style style ≡ true
-same_as_itself style = rw (same_bool_itself style.bold, eq-eqb (hue_number style.hue) (hue_number style.hue) refl) refl
 
 -- Between two visible code points without a sequence there are no highlights.
 pub no_highlights : (kind : TextKind) (look : Look)

@@ -5,7 +5,7 @@ use Rattle.redo_device.specs.declared.feed.Broken.{Broken}
 use Rattle.redo_device.specs.Sink.{Output, append_output, Writes}
 use Rattle.redo_html.specs.declared.text_kind.TextKind.{TextKind}
 use Rattle.redo_html.specs.declared.look.Look.{Look}
-use Rattle.redo_html.specs.Passage.{after_code_point, html_from}
+use Rattle.redo_html.specs.Private.Highlighting.{after_code_point, html_from}
 use Rattle.redo_html.specs.Private.Writing.{WroteUpTo, WroteSome, WroteSomeOrFailed, style_in}
 use Rattle.redo_html.proofs.WritingLemmas.{begin_parts, wrote_more, failed_part, some_failed}
 

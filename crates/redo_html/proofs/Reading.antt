@@ -1,8 +1,8 @@
 -- How passages and pages are read.
 use Rattle.std.proofs.Common.{◌≡◌, ℕ, Bool, true, false, List, [], ◌∷◌, ◌++◌, map, refl, sym, ◌∙◌, ap, subst}
-use Rattle.std.specs.Prelude.{◌==◌, ◌||◌, ◌&&◌, not, codes, if◌then◌else◌}
+use Rattle.std.specs.Prelude.{◌||◌, ◌&&◌, not, codes, if◌then◌else◌}
 use Rattle.std.specs.List.{flat_map, list_all}
-use Rattle.std.proofs.lemmas.Bool.{and_parts, and_from, cond-true, eqb-true}
+use Rattle.std.proofs.lemmas.Bool.{and_from, cond-true}
 use Rattle.std.proofs.lemmas.List.{append_assoc, append-nil}
 use Rattle.std.proofs.lemmas.List.Concat.{flat_map-append}
 use Rattle.std.proofs.lemmas.List.Folds.{list_all-append}
@@ -12,7 +12,8 @@ use Rattle.redo_html.specs.declared.look.Look.{Look}
 use Rattle.redo_html.specs.declared.style.Hue.{Hue}
 use Rattle.redo_html.specs.declared.style.Hue.TheVariants.{Plain, Red, Green, Yellow, Blue, Magenta, Cyan}
 use Rattle.redo_html.specs.declared.style.Style.{Style}
-use Rattle.redo_html.specs.Passage.{Inline, hue_class, style_name, highlight_text, has_highlights, highlight_html, highlight_tokens, inline_html, inline_tokens, is_plain_hue, has_element, style_start, style_end, hue_number, same_bool, is_same_style, highlight_if, highlights_between, after_code_point, with_wanted, start_look, inlines_from, html_from, passage_html, passage_tokens}
+use Rattle.redo_html.specs.Passage.{Inline, hue_class, style_name, highlight_text, has_highlights, highlight_html, highlight_tokens, inline_html, inline_tokens, is_plain_hue, has_element, style_start, style_end, is_same_style, passage_html, passage_inlines, passage_tokens}
+use Rattle.redo_html.specs.Private.Highlighting.{highlight_if, highlights_between, after_code_point, with_wanted, start_look, inlines_from}
 use Rattle.redo_html.specs.Passage.Inline.{UnprintableStart, UnprintableEnd, StyleStart, StyleEnd, Text}
 use Rattle.redo_html.specs.Html.{Context, Token, Normal, characters_of, text_of, tag_of, tags_of, nests_in}
 use Rattle.redo_html.specs.Html.Token.{Character, Tag}
@@ -21,6 +22,8 @@ use Rattle.redo_html.specs.Shown.{Run, is_unprintable, code_points_text, run_tex
 use Rattle.redo_html.specs.Shown.Run.{CodePoints, Restyle}
 use Rattle.redo_html.specs.Style.{restyled}
 use Rattle.redo_html.specs.Symbols.{symbols}
+use Rattle.redo_html.proofs.PassageGroups.{tokens_are}
+use Rattle.redo_html.proofs.StyleLemmas.{same_style}
 use Rattle.redo_html.proofs.TextReading.{HasReferences, ReadsIn, each_reads, escaped_reads, code_points_clean}
 
 -- ---- highlights and code points
@@ -71,17 +74,17 @@ title_inline_reads context has (Text code_point count) behind =
 
 pub passage_reads : (kind : TextKind) (style : Style) (bytes : List ℕ)
     → ReadsAs (passage_html kind style bytes) (passage_tokens kind style bytes)
-unfolding html_from
+unfolding passage_html
 passage_reads kind style bytes = each_reads Normal (inline_html kind) (inline_tokens kind) (inline_reads kind)
-    (inlines_from (start_look style) (runs_of (symbols kind bytes)))
+    (passage_inlines style (runs_of (symbols kind bytes)))
 
 -- Text without highlights is read in each context whose text may have references.
 pub title_passage_reads : (context : Context) → HasReferences context → (style : Style) (bytes : List ℕ)
     → ReadsIn context (passage_html Title style bytes) (passage_tokens Title style bytes)
-unfolding html_from
+unfolding passage_html
 title_passage_reads context has style bytes =
     each_reads context (inline_html Title) (inline_tokens Title) (title_inline_reads context has)
-    (inlines_from (start_look style) (runs_of (symbols Title bytes)))
+    (passage_inlines style (runs_of (symbols Title bytes)))
 
 -- ---- the text
 
@@ -157,7 +160,8 @@ runs_text kind look (CodePoints code_point count ∷ runs) =
     ∙ ap (λ (t : List ℕ). text ++ t) (runs_text kind (after_code_point look unprintable) runs)
 
 pub passage_text : (kind : TextKind) (style : Style) (bytes : List ℕ) → text_of (passage_tokens kind style bytes) ≡ shown_text kind bytes
-passage_text kind style bytes = runs_text kind (start_look style) (runs_of (symbols kind bytes))
+passage_text kind style bytes =
+    ap text_of (tokens_are kind style bytes) ∙ runs_text kind (start_look style) (runs_of (symbols kind bytes))
 
 -- ---- the tags
 
@@ -177,7 +181,7 @@ no_tags (StyleEnd style ∷ inlines) = no_tags inlines
 no_tags (Text code_point count ∷ inlines) = text_tags Title code_point count inlines ∙ no_tags inlines
 
 pub title_tags : (style : Style) (bytes : List ℕ) → tags_of (passage_tokens Title style bytes) ≡ []
-title_tags style bytes = no_tags (inlines_from (start_look style) (runs_of (symbols Title bytes)))
+title_tags style bytes = no_tags (passage_inlines style (runs_of (symbols Title bytes)))
 
 abbrev AreHighlights : List (List ℕ) → Type 0
 AreHighlights tags = list_all is_highlight tags ≡ true
@@ -315,32 +319,11 @@ style_starts true false Blue around tags = refl
 style_starts true false Magenta around tags = refl
 style_starts true false Cyan around tags = refl
 
-same_bools : (a b : Bool) → same_bool a b ≡ true → a ≡ b
-same_bools true true is = refl
-same_bools true false is = absurd (cc)
-same_bools false true is = absurd (cc)
-same_bools false false is = refl
-
-plain_by_number : (hue : Hue) → is_plain_hue hue ≡ (hue_number hue == 0)
-plain_by_number Plain = refl
-plain_by_number Red = refl
-plain_by_number Green = refl
-plain_by_number Yellow = refl
-plain_by_number Blue = refl
-plain_by_number Magenta = refl
-plain_by_number Cyan = refl
-
 -- The elements of two styles that are the same have the same name.
 same_opened : (one other : Style) (around : List (List ℕ)) → is_same_style one other ≡ true
     → push_if (has_element other) (style_name other.bold) around ≡ push_if (has_element one) (style_name one.bold) around
 same_opened one other around is =
-    let parts = and_parts (same_bool one.bold other.bold) (hue_number one.hue == hue_number other.hue) is in
-    let bold : other.bold ≡ one.bold = sym (same_bools one.bold other.bold parts.0) in
-    let hue : is_plain_hue other.hue ≡ is_plain_hue one.hue =
-    plain_by_number other.hue ∙ ap (λ (n : ℕ). n == 0) (sym (eqb-true (hue_number one.hue) (hue_number other.hue) parts.1))
-    ∙ sym (plain_by_number one.hue) in
-    ap (λ (b : Bool). push_if (b || not (is_plain_hue other.hue)) (style_name b) around) bold
-    ∙ ap (λ (p : Bool). push_if (one.bold || not p) (style_name one.bold) around) hue
+    ap (λ (s : Style). push_if (has_element s) (style_name s.bold) around) (sym (same_style one other is))
 
 between_nests : (look : Look) (unprintable same was : Bool) (around tags : List (List ℕ)) → is_same_style look.wanted look.current ≡ same
     → look.unprintable ≡ was
@@ -445,15 +428,19 @@ runs_nest kind has look (CodePoints code_point count ∷ runs) around tags =
 
 pub passage_nests : (kind : TextKind) (style : Style) (bytes : List ℕ) (around tags : List (List ℕ))
     → nests_in around (tags_of (passage_tokens kind style bytes) ++ tags) ≡ nests_in around tags
-passage_nests Log style bytes around tags = runs_nest Log refl (start_look style) (runs_of (symbols Log bytes)) around tags
+passage_nests Log style bytes around tags =
+    ap (λ (t : List Token). nests_in around (tags_of t ++ tags)) (tokens_are Log style bytes)
+    ∙ runs_nest Log refl (start_look style) (runs_of (symbols Log bytes)) around tags
 passage_nests Monochrome style bytes around tags =
-    runs_nest Monochrome refl (start_look style) (runs_of (symbols Monochrome bytes)) around tags
+    ap (λ (t : List Token). nests_in around (tags_of t ++ tags)) (tokens_are Monochrome style bytes)
+    ∙ runs_nest Monochrome refl (start_look style) (runs_of (symbols Monochrome bytes)) around tags
 passage_nests Title style bytes around tags = ap (λ (t : List (List ℕ)). nests_in around (t ++ tags)) (title_tags style bytes)
 
 pub passage_is_read : (kind : TextKind) (style : Style) (bytes : List ℕ) → IsReadAsShown kind style bytes
 passage_is_read kind style bytes = record {
   reads = passage_reads kind style bytes;
   text = passage_text kind style bytes;
-  highlights = runs_highlights kind (start_look style) (runs_of (symbols kind bytes));
+  highlights = subst (λ (t : List Token). AreHighlights (tags_of t)) (sym (tokens_are kind style bytes))
+      (runs_highlights kind (start_look style) (runs_of (symbols kind bytes)));
   nests = passage_nests kind style bytes;
 }

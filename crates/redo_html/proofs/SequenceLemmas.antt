@@ -9,7 +9,7 @@ use Rattle.redo_html.specs.declared.text_kind.TextKind.{TextKind}
 use Rattle.redo_html.specs.declared.text_kind.TextKind.TheVariants.{Log, Monochrome, Title}
 use Rattle.redo_html.specs.declared.style.Hue.{Hue}
 use Rattle.redo_html.specs.declared.style.Style.{Style}
-use Rattle.redo_html.specs.Passage.{html_from, with_wanted}
+use Rattle.redo_html.specs.Private.Highlighting.{html_from, with_wanted}
 use Rattle.redo_html.specs.Style.{digit_hue, restyled}
 use Rattle.redo_html.specs.Symbols.{is_parameter, parameter_count, final_byte, sequence_len, numbers_from, sequence_numbers, has_colours, first_symbol, symbol_len}
 use Rattle.redo_html.specs.Symbols.Symbol.{Sequence}

@@ -1,15 +1,15 @@
 -- Lemmas about the style at the end of a text.
-use Rattle.std.proofs.Common.{◌≡◌, ℕ, zero, suc, ◌<◌, ◌≤◌, Bool, false, List, ◌++◌, length, drop, replicate, refl, sym, ◌∙◌, ap}
-use Rattle.std.specs.Prelude.{fold, not}
-use Rattle.std.proofs.lemmas.Bool.{or_parts}
+use Rattle.std.proofs.Common.{◌≡◌, ℕ, zero, suc, ◌<◌, ◌≤◌, Bool, true, false, List, ◌++◌, length, drop, replicate, refl, sym, ◌∙◌, ap, ap₂}
+use Rattle.std.specs.Prelude.{◌==◌, fold, not}
+use Rattle.std.proofs.lemmas.Bool.{and_parts, eq-eqb, eqb-true, or_parts}
 use Rattle.std.proofs.lemmas.List.{drop_all}
 use Rattle.redo_html.specs.declared.text_kind.TextKind.{TextKind}
 use Rattle.redo_html.specs.declared.style.Hue.{Hue}
 use Rattle.redo_html.specs.declared.style.Hue.TheVariants.{Plain, Red, Green, Yellow, Blue, Magenta, Cyan}
 use Rattle.redo_html.specs.declared.style.Style.{Style}
 use Rattle.redo_html.specs.Lines.{style_after_symbol}
-use Rattle.redo_html.specs.Passage.{is_plain_hue, has_element}
-use Rattle.redo_html.specs.Style.{plain_style, restyled}
+use Rattle.redo_html.specs.Passage.{hue_number, is_plain_hue, has_element, is_same_style, same_bool}
+use Rattle.redo_html.specs.Style.{digit_hue, plain_style, restyled}
 use Rattle.redo_html.specs.Symbols.{Symbol, first_symbol, symbol_len, symbols}
 use Rattle.redo_html.specs.Symbols.Symbol.{CodePoint, Sequence}
 use Rattle.redo_html.specs.Private.Writing.{IsRepeated, style_in}
@@ -62,3 +62,44 @@ plain_without_element style none =
     plain Blue is = absurd (cc)
     plain Magenta is = absurd (cc)
     plain Cyan is = absurd (cc)
+
+-- ---- equal styles
+
+hue_back : (hue : Hue) → digit_hue (hue_number hue) ≡ hue
+hue_back Plain = refl
+hue_back Red = refl
+hue_back Green = refl
+hue_back Yellow = refl
+hue_back Blue = refl
+hue_back Magenta = refl
+hue_back Cyan = refl
+
+same_bold : (one other : Bool) → same_bool one other ≡ true → one ≡ other
+same_bold true true same = refl
+same_bold true false same = sym same
+same_bold false true same = same
+same_bold false false same = refl
+
+abbrev style_with : Bool → Hue → Style
+style_with bold hue = record { bold = bold; hue = hue }
+
+pub same_style : (one other : Style) → is_same_style one other ≡ true → one ≡ other
+same_style one other same =
+    let parts = and_parts (same_bool one.bold other.bold) (hue_number one.hue == hue_number other.hue) same in
+    ap₂ style_with (same_bold one.bold other.bold parts.0)
+    (sym (hue_back one.hue) ∙ ap digit_hue (eqb-true (hue_number one.hue) (hue_number other.hue) parts.1) ∙ hue_back other.hue)
+
+same_bool_itself : (bold : Bool) → same_bool bold bold ≡ true
+same_bool_itself true = refl
+same_bool_itself false = refl
+
+pub same_as_itself : (style : Style) → is_same_style style style ≡ true
+same_as_itself style = rw (same_bool_itself style.bold, eq-eqb (hue_number style.hue) (hue_number style.hue) refl) refl
+
+pub other_style : (one other : Style) → is_same_style one other ≡ false → is_same_style other one ≡ false
+other_style one other differ = by (is_same_style other one) refl
+  where
+    by : (same : Bool) → is_same_style other one ≡ same → is_same_style other one ≡ false
+    by true is =
+        let e : true ≡ false = sym (same_as_itself one) ∙ ap (is_same_style one) (sym (same_style other one is)) ∙ differ in absurd (cc)
+    by false is = is

@@ -23,7 +23,8 @@ use Rattle.redo_html.specs.Html.{Normal, is_digit}
 use Rattle.redo_html.specs.Laws.{is_byte, has_bytes, node_has_bytes}
 use Rattle.redo_html.specs.Parts.{Part, part_html}
 use Rattle.redo_html.specs.Parts.Part.{MarkupPart, LogPart, TextPart, NumberPart, TitlePart, StylePart, ChartPart, MeterPart}
-use Rattle.redo_html.specs.Passage.{Inline, escaped, hue_class, style_name, has_highlights, highlight_html, inline_html, has_element, style_start, style_end, is_same_style, highlight_if, highlights_between, after_code_point, with_wanted, start_look, inlines_from, html_from, passage_html}
+use Rattle.redo_html.specs.Passage.{Inline, escaped, hue_class, style_name, has_highlights, highlight_html, inline_html, has_element, style_start, style_end, is_same_style, passage_html, passage_inlines}
+use Rattle.redo_html.specs.Private.Highlighting.{highlight_if, highlights_between, after_code_point, with_wanted, start_look, inlines_from}
 use Rattle.redo_html.specs.Passage.Inline.{UnprintableStart, UnprintableEnd, StyleStart, StyleEnd, Text}
 use Rattle.redo_html.specs.Shown.{is_between, is_unprintable, lower_hex, upper_hex, notation, number_text, unprintable_text, Run, with_code_point, runs_of, code_points_text, run_text, shown_text}
 use Rattle.redo_html.specs.Shown.Run.{CodePoints, Restyle}
@@ -33,6 +34,7 @@ use Rattle.redo_html.specs.Symbols.{Symbol, code_point_of, first_code_point, is_
 use Rattle.redo_html.specs.Symbols.Symbol.{CodePoint, Sequence}
 use Rattle.redo_html.specs.Tags.{markup_html}
 use Rattle.redo_html.proofs.ChartReading.{drawing_contexts, is_well_formed, meter_contexts, nodes_well_formed}
+use Rattle.redo_html.proofs.PassageGroups.{parts_are}
 use Rattle.redo_html.proofs.SymbolLemmas.{unprintable_byte}
 use Rattle.redo_html.proofs.TagReading.{element_name_low, is_attribute, is_element, is_low, tag_low}
 use Rattle.redo_html.proofs.TextReading.{all_append, all_weaker, number_digits, unprintable_safe, safe_escaped, encoded_escaped}
@@ -276,10 +278,12 @@ inlines_showable look (CodePoints code_point count ∷ runs) all =
 
 pub passage_utf8 : (kind : TextKind) (style : Style) (bytes : List ℕ) → list_all is_byte bytes ≡ true
     → IsUtf8 (passage_html kind style bytes)
-unfolding html_from
+unfolding passage_html
 passage_utf8 kind style bytes are =
-    each_utf8 (inline_html kind) IsShowableInline (inline_utf8 kind) (inlines_from (start_look style) (runs_of (symbols kind bytes)))
-    (inlines_showable (start_look style) (runs_of (symbols kind bytes)) (text_showable kind bytes are))
+    let runs = runs_of (symbols kind bytes) in
+    each_utf8 (inline_html kind) IsShowableInline (inline_utf8 kind) (passage_inlines style runs)
+    (subst (AllByRecursion IsShowableInline) (sym (parts_are style runs))
+    (inlines_showable (start_look style) runs (text_showable kind bytes are)))
 
 -- ---- tags
 

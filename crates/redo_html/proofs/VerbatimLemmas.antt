@@ -16,13 +16,15 @@ use Rattle.redo_html.specs.declared.look.Look.{Look}
 use Rattle.redo_html.specs.declared.style.Style.{Style}
 use Rattle.redo_html.specs.Laws.{is_plain}
 use Rattle.redo_html.specs.Lines.{style_after_symbol}
-use Rattle.redo_html.specs.Passage.{escaped, after_code_point, start_look, html_from, passage_html}
+use Rattle.redo_html.specs.Passage.{escaped, passage_html}
+use Rattle.redo_html.specs.Private.Highlighting.{after_code_point, start_look, html_from}
 use Rattle.redo_html.specs.Shown.{Run, is_unprintable, unprintable_text, with_code_point, runs_of}
 use Rattle.redo_html.specs.Shown.Run.{CodePoints}
 use Rattle.redo_html.specs.Style.{plain_style}
 use Rattle.redo_html.specs.Symbols.{Symbol, code_point_of, size_of, first_code_point, code_point_len, first_symbol, symbol_len, symbols}
 use Rattle.redo_html.specs.Symbols.Symbol.{CodePoint}
 use Rattle.redo_html.specs.Private.Writing.{IsVerbatim, is_verbatim, style_in}
+use Rattle.redo_html.proofs.PassageGroups.{passage_is}
 use Rattle.redo_html.proofs.PassageLemmas.{highlights, html_of, html-nil, code_points_step, no_highlights}
 use Rattle.redo_html.proofs.SymbolLemmas.{symbols-step, no_sequence, plain_symbol, plain_visible, plain_encoded, plain_others, visible_run}
 use Rattle.redo_html.proofs.TextReading.{encoded_escaped}
@@ -280,7 +282,8 @@ plain_written kind bytes plain =
     let n = length bytes in
     let front = take_all n bytes (le_refl n) in
     let look = start_look plain_style in
-    sym (verbatim_html kind look bytes n (plain_code_points n bytes (le_refl n) (ap (list_all is_plain) front ∙ plain)))
+    passage_is kind plain_style bytes
+    ∙ sym (verbatim_html kind look bytes n (plain_code_points n bytes (le_refl n) (ap (list_all is_plain) front ∙ plain)))
     ∙ ap (λ (t : List ℕ). t ++ html_from kind look (drop n bytes)) front
     ∙ ap (λ (d : List ℕ). bytes ++ html_from kind look d) (drop_all n bytes (le_refl n))
     ∙ ap (λ (t : List ℕ). bytes ++ t) (nothing kind) ∙ append-nil bytes

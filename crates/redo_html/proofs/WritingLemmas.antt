@@ -9,7 +9,8 @@ use Rattle.redo_device.proofs.WritesLemmas.{at_first, in_middle, at_last, one_mo
 use Rattle.redo_html.specs.declared.text_kind.TextKind.{TextKind}
 use Rattle.redo_html.specs.declared.look.Look.{Look}
 use Rattle.redo_html.specs.declared.style.Style.{Style}
-use Rattle.redo_html.specs.Passage.{html_from, passage_html}
+use Rattle.redo_html.specs.Passage.{passage_html}
+use Rattle.redo_html.specs.Private.Highlighting.{html_from}
 use Rattle.redo_html.specs.Private.Writing.{WroteUpTo, WroteSomeOrFailed, WrotePassage}
 
 -- One more part of the remaining text was written.

@@ -5,7 +5,7 @@ use Rattle.std.specs.List.{flat_map}
 use Rattle.std.specs.Char.{encode_utf8}
 use Rattle.std.specs.Fmt.{digits}
 use Rattle.redo_html.specs.declared.text_kind.TextKind.TheVariants.{Monochrome}
-use Rattle.redo_html.specs.Passage.{escaped_byte, html_from, passage_html, passage_tokens}
+use Rattle.redo_html.specs.Passage.{escaped_byte, passage_html, passage_tokens}
 use Rattle.redo_html.specs.Html.{Context, Svg}
 use Rattle.redo_html.specs.Html.Token.{Character, Lost, Tag}
 use Rattle.redo_html.specs.Laws.{ReadsAs}
@@ -81,5 +81,5 @@ forgets_amp_in_tooltip is = let same : Character 60 ∷ Lost ∷ [] ≡ Characte
 -- A highlight in a label would end the chart.
 highlights_a_label : ReadsIn (Svg (codes "text") (codes "svg" ∷ [])) (passage_html Monochrome plain_style (1 ∷ []))
     (passage_tokens Monochrome plain_style (1 ∷ [])) → ⊥
-unfolding symbols_after first_symbol symbol_len is_sequence sequence_len sequence_numbers first_code_point code_point_len is_unprintable notation unprintable_text number_text encode_utf8 digits html_from
+unfolding symbols_after first_symbol symbol_len is_sequence sequence_len sequence_numbers first_code_point code_point_len is_unprintable notation unprintable_text number_text encode_utf8 digits passage_html
 highlights_a_label is = let same : Lost ∷ [] ≡ Tag (codes "i") ∷ Character 94 ∷ Character 65 ∷ Tag (codes "/i") ∷ Lost ∷ [] = is [] in cc

@@ -4,7 +4,6 @@ use Rattle.std.specs.Prelude.{ℕ, Bool, true, false, ◌==◌, ◌||◌, ◌&&�
 use Rattle.std.specs.List.{flat_map}
 use Rattle.redo_html.specs.declared.text_kind.TextKind.{TextKind}
 use Rattle.redo_html.specs.declared.text_kind.TextKind.TheVariants.{Log, Monochrome, Title}
-use Rattle.redo_html.specs.declared.look.Look.{Look}
 use Rattle.redo_html.specs.declared.style.Hue.{Hue}
 use Rattle.redo_html.specs.declared.style.Hue.TheVariants.{Plain, Red, Green, Yellow, Blue, Magenta, Cyan}
 use Rattle.redo_html.specs.declared.style.Style.{Style}
@@ -12,7 +11,7 @@ use Rattle.redo_html.specs.Html.{Token}
 use Rattle.redo_html.specs.Html.Token.{Character, Tag}
 use Rattle.redo_html.specs.Shown.{Run, runs_of, code_points_text, is_unprintable}
 use Rattle.redo_html.specs.Shown.Run.{CodePoints, Restyle}
-use Rattle.redo_html.specs.Style.{plain_style, restyled}
+use Rattle.redo_html.specs.Style.{restyled}
 use Rattle.redo_html.specs.Symbols.{symbols}
 
 -- Text, with references for the three bytes that would begin or end something else.
@@ -114,40 +113,40 @@ same_bool false other = not other
 abbrev pub is_same_style : Style → Style → Bool
 is_same_style one other = same_bool one.bold other.bold && hue_number one.hue == hue_number other.hue
 
--- The highlights between two code points. `look.wanted` is the style of the next code point. Open are the highlight of the style
--- `look.current`, and within it, if `look.unprintable` is set, the highlight for unprintable code points. `unprintable` states whether the
--- next code point is unprintable.
-abbrev pub highlight_if : Bool → Inline → List Inline
-highlight_if condition highlight = if condition then highlight ∷ [] else []
+-- The members of a list in groups: neighbours with the same key are in one group, which has the key too.
+module _ {Key Member : Type 0} (same : Key → Key → Bool) where
+  -- A group that begins with this member, or the first group with it in front.
+  abbrev pub with_member : Key → Member → List (Key × List Member) → List (Key × List Member)
+  with_member key member [] = (key, member ∷ []) ∷ []
+  with_member key member ((next, members) ∷ groups) = if same key next then (next, member ∷ members) ∷ groups else (key, member ∷ []) ∷ (next, members) ∷ groups
 
-abbrev pub highlights_between : Look → Bool → List Inline
-highlights_between look unprintable =
-    let same = is_same_style look.wanted look.current in
-    highlight_if (look.unprintable && not (same && unprintable)) UnprintableEnd ++ (if same then [] else style_end look.current ++ style_start look.wanted) ++ highlight_if (unprintable && not (same && look.unprintable)) UnprintableStart
+  abbrev pub group_by : List (Key × Member) → List (Key × List Member)
+  group_by [] = []
+  group_by ((key, member) ∷ members) = with_member key member (group_by members)
 
-abbrev pub after_code_point : Look → Bool → Look
-after_code_point look unprintable = record { wanted = look.wanted; current = look.wanted; unprintable = unprintable }
+-- The code points of a passage that begins with this style, each with the style that the sequences before it set, and with whether it is
+-- unprintable.
+abbrev pub styled_texts : Style → List Run → List (Style × (Bool × Inline))
+styled_texts style [] = []
+styled_texts style (CodePoints code_point count ∷ runs) = (style, (is_unprintable code_point, Text code_point count)) ∷ styled_texts style runs
+styled_texts style (Restyle numbers ∷ runs) = styled_texts (restyled style numbers) runs
 
-abbrev pub with_wanted : Look → Style → Look
-with_wanted look style = record { wanted = style; current = look.current; unprintable = look.unprintable }
+-- One highlight is around unprintable code points in a row.
+abbrev pub printability_group : Bool × List Inline → List Inline
+printability_group (true, texts) = UnprintableStart ∷ (texts ++ UnprintableEnd ∷ [])
+printability_group (false, texts) = texts
 
--- The look at the start of a passage that begins with this style: no highlight is open.
-abbrev pub start_look : Style → Look
-start_look style = record { wanted = style; current = plain_style; unprintable = false }
+-- One highlight is around code points in a row with the same style, and around their highlights for unprintable ones.
+abbrev pub style_group : Style × List (Bool × Inline) → List Inline
+style_group (style, texts) = style_start style ++ flat_map printability_group (group_by same_bool texts) ++ style_end style
 
--- The parts of the rest of a passage. At its end, all highlights end.
-abbrev pub inlines_from : Look → List Run → List Inline
-inlines_from look [] = highlight_if look.unprintable UnprintableEnd ++ style_end look.current
-inlines_from look (CodePoints code_point count ∷ runs) = highlights_between look (is_unprintable code_point) ++ Text code_point count ∷ inlines_from (after_code_point look (is_unprintable code_point)) runs
-inlines_from look (Restyle numbers ∷ runs) = inlines_from (with_wanted look (restyled look.wanted numbers)) runs
-
--- The HTML of the rest of a passage.
-unfoldable pub html_from : TextKind → Look → List ℕ → List ℕ
-html_from kind look bytes = flat_map (inline_html kind) (inlines_from look (runs_of (symbols kind bytes)))
+-- All parts of a passage that begins with this style.
+abbrev pub passage_inlines : Style → List Run → List Inline
+passage_inlines style runs = flat_map style_group (group_by is_same_style (styled_texts style runs))
 
 -- A passage that begins with this style, as it is written and as it is read.
-abbrev pub passage_html : TextKind → Style → List ℕ → List ℕ
-passage_html kind style bytes = html_from kind (start_look style) bytes
+unfoldable pub passage_html : TextKind → Style → List ℕ → List ℕ
+passage_html kind style bytes = flat_map (inline_html kind) (passage_inlines style (runs_of (symbols kind bytes)))
 
 abbrev pub passage_tokens : TextKind → Style → List ℕ → List Token
-passage_tokens kind style bytes = flat_map (inline_tokens kind) (inlines_from (start_look style) (runs_of (symbols kind bytes)))
+passage_tokens kind style bytes = flat_map (inline_tokens kind) (passage_inlines style (runs_of (symbols kind bytes)))

@@ -23,10 +23,11 @@
 //! logs, the sequences by which compilers set colours and write links are consumed, and all other escape characters are unprintable. No
 //! byte of a link may be an escape character, so each byte is tested for one link at most, even if links don't end.
 //!
-//! **Highlights** (`Passage`, `Style`). Unprintable code points, bold text and six hues have elements. A `Look` has the style of the next
-//! code point and what is open. All elements that are begun in a passage end in it. The highlights between two code points are written
-//! before the second code point, so a sequence that changes nothing writes nothing. The definition of a passage says which text is bold,
-//! and in which hue. Background colours and concealed text are ignored, because they can hide what a log says.
+//! **Highlights** (`Passage`, `Style`). Unprintable code points, bold text and six hues have elements. The definition of a passage gives
+//! each code point its style. Then it groups code points by style, and in each group by whether they are unprintable. An element is
+//! around each group, so all elements that are begun in a passage end in it. The code goes through a passage once, with a `Look`: the
+//! style of the next code point, and what is open. It writes the highlights between two code points before the second one, so a sequence
+//! that changes nothing writes nothing. Background colours and concealed text are ignored, because they can hide what a log says.
 //!
 //! **Lines** (`Lines`). Each line of a log is a passage, and begins with the style after the line before it.
 //! [`write_log_lines`] takes the style at the start of some lines and sets it to the one at their end, so several calls may write

@@ -1,6 +1,6 @@
 //! Which highlights are open in a passage.
 ghost use Rattle.std.specs.Prelude.{◌≡◌};
-ghost use Rattle.redo_html.specs.Passage.{start_look, after_code_point};
+ghost use Rattle.redo_html.specs.Private.Highlighting.{start_look, after_code_point};
 
 use crate::style::Style;
 

@@ -3,7 +3,8 @@ ghost use Rattle.std.specs.Prelude.{◌≡◌, ◌≤◌, ◌<◌, ◌==◌, ◌
 ghost use Rattle.std.specs.List.{flat_map, list_all};
 ghost use Rattle.redo_device.specs.Sink.{Writes};
 ghost use Rattle.redo_html.specs.declared.text_kind.TextKind.TheVariants as text_kind;
-ghost use Rattle.redo_html.specs.Passage.{escaped, escaped_byte, has_element, is_same_style, highlight_text, has_highlights, inline_html, highlights_between, passage_html, html_from};
+ghost use Rattle.redo_html.specs.Passage.{escaped, escaped_byte, has_element, is_same_style, highlight_text, has_highlights, inline_html, passage_html};
+ghost use Rattle.redo_html.specs.Private.Highlighting.{highlights_between, html_from};
 ghost use Rattle.redo_html.specs.Passage.Inline.{StyleStart, StyleEnd};
 ghost use Rattle.redo_html.specs.Laws.{is_plain};
 ghost use Rattle.redo_html.specs.Style.{plain_style};

@@ -2,7 +2,8 @@
 ghost use Rattle.std.specs.Prelude.{◌≡◌, ◌≤◌, ◌<◌, ◌+◌, ◌==◌, ◌||◌, ℕ, List, ◌∷◌, ◌++◌, [], true, false, length, take, drop, slice_index, OnOk};
 ghost use Rattle.std.specs.List.{flat_map};
 ghost use Rattle.redo_html.specs.declared.text_kind.TextKind.TheVariants.{Log};
-ghost use Rattle.redo_html.specs.Passage.{after_code_point, has_element, highlight_text, highlights_between, html_from, inline_html};
+ghost use Rattle.redo_html.specs.Passage.{has_element, highlight_text, inline_html};
+ghost use Rattle.redo_html.specs.Private.Highlighting.{after_code_point, highlights_between, html_from};
 ghost use Rattle.redo_html.specs.Passage.Inline.{StyleStart, StyleEnd};
 ghost use Rattle.redo_line.specs.Lines.{ended, rest, with_line_feed};
 ghost use Rattle.redo_html.specs.Private.Buffering.{held, Puts, PutLines, PutSomeOfLine, PutSomeOrFailed};

@@ -7,7 +7,7 @@ use Rattle.std.specs.List.{AllByRecursion, filter, flat_map, range_with_len}
 use Rattle.redo_html.specs.Cut.{begins_at}
 use Rattle.redo_html.specs.declared.markup.Markup.{Markup}
 use Rattle.redo_html.specs.declared.markup.Markup.TheVariants as markup
-use Rattle.redo_html.specs.Passage.{html_from}
+use Rattle.redo_html.specs.Passage.{passage_html}
 use Rattle.redo_html.specs.Parts.{Part, part_html}
 use Rattle.redo_html.specs.Parts.Part.{MarkupPart, LogPart, TextPart, NumberPart}
 use Rattle.redo_html.specs.Shown.{is_unprintable, number_text, unprintable_text, notation}
@@ -139,7 +139,7 @@ long_error_line :
     bytes_eq (flat_map part_html (excerpt_line_parts (replicate 1000 46 ++ codes " error")))
     (codes "<em>" ++ (replicate 1000 46 ++ codes " ...\n</em>"))
     ≡ true
-unfolding excerpt_line_parts excerpt_line_end cut_to begins_at begins_with symbols_after first_symbol symbol_len is_sequence sequence_len sequence_numbers first_code_point code_point_len is_unprintable notation unprintable_text number_text encode_utf8 digits html_from
+unfolding excerpt_line_parts excerpt_line_end cut_to begins_at begins_with symbols_after first_symbol symbol_len is_sequence sequence_len sequence_numbers first_code_point code_point_len is_unprintable notation unprintable_text number_text encode_utf8 digits passage_html
 long_error_line = refl
 
 -- The positions at which lines are kept, up to 35, if line 20 of 106 reports an error, and from 40 on.
@@ -201,7 +201,7 @@ excerpt_is :
     ++ (a_text 24 ++ (codes "</pre><p class=\"cut\">1 more line: <a href=\"#t7\">in its log</a></p><pre>\n"
     ++ (a_text 60 ++ codes "</pre>"))))))))
     ≡ true
-unfolding excerpt_parts excerpt_line_parts excerpt_line_end cut_to left_out_parts in_tree_parts begins_with symbols_after first_symbol symbol_len is_sequence sequence_len sequence_numbers first_code_point code_point_len is_unprintable notation unprintable_text number_text encode_utf8 digits html_from
+unfolding excerpt_parts excerpt_line_parts excerpt_line_end cut_to left_out_parts in_tree_parts begins_with symbols_after first_symbol symbol_len is_sequence sequence_len sequence_numbers first_code_point code_point_len is_unprintable notation unprintable_text number_text encode_utf8 digits passage_html
 excerpt_is = refl
 
 -- Each line that reports an error is emphasized, not only the first one.
@@ -209,7 +209,7 @@ errors_in_excerpt :
     bytes_eq (flat_map part_html (excerpt_parts 7 (codes "error" ∷ codes "x" ∷ codes "a: FAIL" ∷ (27 ∷ codes "[31mcannot") ∷ codes "y" ∷ [])))
     (codes "<pre>\n<em>error\n</em>x\n<em>a: FAIL\n</em><em><span class=\"r\">cannot</span>\n</em>y\n</pre>")
     ≡ true
-unfolding excerpt_parts excerpt_line_parts excerpt_line_end cut_to begins_at begins_with symbols_after first_symbol symbol_len is_sequence sequence_len sequence_numbers first_code_point code_point_len is_unprintable notation unprintable_text number_text encode_utf8 digits html_from
+unfolding excerpt_parts excerpt_line_parts excerpt_line_end cut_to begins_at begins_with symbols_after first_symbol symbol_len is_sequence sequence_len sequence_numbers first_code_point code_point_len is_unprintable notation unprintable_text number_text encode_utf8 digits passage_html
 errors_in_excerpt = refl
 
 no_error : error_position (a_lines 3) ≡ 3

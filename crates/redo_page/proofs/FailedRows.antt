@@ -11,7 +11,7 @@ use Rattle.redo_logs.specs.declared.log_state.LogState.TheVariants.{Ended}
 use Rattle.redo_logs.specs.Logs.{Log}
 use Rattle.redo_html.specs.Cut.{begins_at}
 use Rattle.redo_html.specs.declared.markup.Markup.TheVariants as markup
-use Rattle.redo_html.specs.Passage.{html_from}
+use Rattle.redo_html.specs.Passage.{passage_html}
 use Rattle.redo_html.specs.Parts.{Part, part_html}
 use Rattle.redo_html.specs.Parts.Part.{MarkupPart, TextPart, NumberPart}
 use Rattle.redo_html.specs.Shown.{is_unprintable, number_text, unprintable_text, notation}
@@ -118,7 +118,7 @@ one_failure :
     (codes "<section id=\"failed\" aria-labelledby=\"h-failed\"><h2 id=\"h-failed\">What failed</h2><article id=\"f1\"><h3><bdi>b</bdi> <strong class=\"x\">exit 1</strong></h3><p class=\"meta\"><bdi>all</bdi>"
     ++ then (codes "<a href=\"#t1\">its place in the tree</a></p><pre>\ncc b.c\n<em>b.c:1: error: x\n</em></pre></article><details class=\"more\"><summary>1 failed because of these</summary><ol class=\"list\"><li><a href=\"#t0\"><bdi>all</bdi></a> <strong class=\"x\">exit 3</strong></li></ol></details></section>"))
     ≡ true
-unfolding failed_parts cause_of_node cause_parts cut_to begins_with article_parts article_of recipe_parts commands_parts path_parts output_parts whole_parts in_tree_parts symbols_after first_symbol symbol_len is_sequence sequence_len sequence_numbers first_code_point code_point_len is_unprintable notation unprintable_text number_text encode_utf8 digits html_from
+unfolding failed_parts cause_of_node cause_parts cut_to begins_with article_parts article_of recipe_parts commands_parts path_parts output_parts whole_parts in_tree_parts symbols_after first_symbol symbol_len is_sequence sequence_len sequence_numbers first_code_point code_point_len is_unprintable notation unprintable_text number_text encode_utf8 digits passage_html
 one_failure = refl
 
 -- Below the article, there is a list of those above, and then one of unfinished targets.
@@ -127,7 +127,7 @@ one_unclosed :
     (codes "<section id=\"failed\" aria-labelledby=\"h-failed\"><h2 id=\"h-failed\">What failed</h2><article id=\"f1\"><h3><bdi>b</bdi> <strong class=\"x\">exit 1</strong></h3><p class=\"meta\"><bdi>all</bdi>"
     ++ then (codes "<a href=\"#t1\">its place in the tree</a></p><pre>\ncc b.c\n<em>b.c:1: error: x\n</em></pre></article><details class=\"more\"><summary>1 failed because of these</summary><ol class=\"list\"><li><a href=\"#t0\"><bdi>all</bdi></a> <strong class=\"x\">exit 3</strong></li></ol></details><details class=\"more\"><summary>1 unfinished</summary><ol class=\"list\"><li><a href=\"#t2\"><bdi>d</bdi></a> <strong class=\"o\">unfinished</strong></li></ol></details></section>"))
     ≡ true
-unfolding failed_parts cause_of_node cause_parts cut_to begins_with article_parts article_of recipe_parts commands_parts path_parts output_parts whole_parts in_tree_parts symbols_after first_symbol symbol_len is_sequence sequence_len sequence_numbers first_code_point code_point_len is_unprintable notation unprintable_text number_text encode_utf8 digits html_from
+unfolding failed_parts cause_of_node cause_parts cut_to begins_with article_parts article_of recipe_parts commands_parts path_parts output_parts whole_parts in_tree_parts symbols_after first_symbol symbol_len is_sequence sequence_len sequence_numbers first_code_point code_point_len is_unprintable notation unprintable_text number_text encode_utf8 digits passage_html
 one_unclosed = refl
 
 -- ---- lists
@@ -137,21 +137,21 @@ two_failures :
     bytes_eq (html (take 32 (drop 4 (failed logs (node 0 None None 0 2 true ∷ b ∷ c ∷ [])))))
     (codes "<ol class=\"list\"><li><a href=\"#f1\"><bdi>b</bdi></a> <strong class=\"x\">exit 1</strong> <code>b.c:1: error: x</code></li><li><a href=\"#f2\"><bdi>c</bdi></a> <strong class=\"x\">exit 2</strong></li></ol>")
     ≡ true
-unfolding failed_parts cause_of_node cause_parts cut_to begins_with symbols_after first_symbol symbol_len is_sequence sequence_len sequence_numbers first_code_point code_point_len is_unprintable notation unprintable_text number_text encode_utf8 digits html_from
+unfolding failed_parts cause_of_node cause_parts cut_to begins_with symbols_after first_symbol symbol_len is_sequence sequence_len sequence_numbers first_code_point code_point_len is_unprintable notation unprintable_text number_text encode_utf8 digits passage_html
 two_failures = refl
 
 more_with_causes :
     bytes_eq (html (in_list OTHERS (record (view logs (b ∷ [])) { roots = replicate 11 0 })))
     (codes "<details class=\"more\"><summary>1 more that failed</summary><ol class=\"list\" start=\"11\"><li><a href=\"#t0\"><bdi>b</bdi></a> <strong class=\"x\">exit 1</strong> <code>b.c:1: error: x</code></li></ol></details>")
     ≡ true
-unfolding cause_of_node cause_parts cut_to begins_with symbols_after first_symbol symbol_len is_sequence sequence_len sequence_numbers first_code_point code_point_len is_unprintable notation unprintable_text number_text encode_utf8 digits html_from
+unfolding cause_of_node cause_parts cut_to begins_with symbols_after first_symbol symbol_len is_sequence sequence_len sequence_numbers first_code_point code_point_len is_unprintable notation unprintable_text number_text encode_utf8 digits passage_html
 more_with_causes = refl
 
 more_without_causes :
     bytes_eq (html (in_list DEPENDENTS (record (view logs (b ∷ [])) { dependents = 0 ∷ [] })))
     (codes "<details class=\"more\"><summary>1 failed because of these</summary><ol class=\"list\"><li><a href=\"#t0\"><bdi>b</bdi></a> <strong class=\"x\">exit 1</strong></li></ol></details>")
     ≡ true
-unfolding cause_of_node cause_parts cut_to begins_with symbols_after first_symbol symbol_len is_sequence sequence_len sequence_numbers first_code_point code_point_len is_unprintable notation unprintable_text number_text encode_utf8 digits html_from
+unfolding cause_of_node cause_parts cut_to begins_with symbols_after first_symbol symbol_len is_sequence sequence_len sequence_numbers first_code_point code_point_len is_unprintable notation unprintable_text number_text encode_utf8 digits passage_html
 more_without_causes = refl
 
 -- Each row has the link, the name and the status of its own target.
@@ -159,7 +159,7 @@ more_than_one :
     bytes_eq (html (in_list UNCLOSED (record (view logs (node 0 None None 0 2 true ∷ b ∷ c ∷ [])) { unclosed = 1 ∷ 2 ∷ [] })))
     (codes "<details class=\"more\"><summary>2 unfinished</summary><ol class=\"list\"><li><a href=\"#t1\"><bdi>b</bdi></a> <strong class=\"x\">exit 1</strong></li><li><a href=\"#t2\"><bdi>c</bdi></a> <strong class=\"x\">exit 2</strong></li></ol></details>")
     ≡ true
-unfolding cause_of_node cause_parts cut_to begins_with symbols_after first_symbol symbol_len is_sequence sequence_len sequence_numbers first_code_point code_point_len is_unprintable notation unprintable_text number_text encode_utf8 digits html_from
+unfolding cause_of_node cause_parts cut_to begins_with symbols_after first_symbol symbol_len is_sequence sequence_len sequence_numbers first_code_point code_point_len is_unprintable notation unprintable_text number_text encode_utf8 digits passage_html
 more_than_one = refl
 
 -- The starts of articles and of lists, and the links to articles.
@@ -221,7 +221,7 @@ twelve_failures :
     ++ (flat_map article (range_with_len 0 10)
     ++ codes "<details class=\"more\"><summary>2 more that failed</summary><ol class=\"list\" start=\"11\"><li><a href=\"#t10\"><bdi>b</bdi></a> <strong class=\"x\">exit 1</strong> <code>b.c:1: error: x</code></li><li><a href=\"#t11\"><bdi>c</bdi></a> <strong class=\"x\">exit 2</strong></li></ol></details></section>"))))
     ≡ true
-unfolding failed_parts cause_of_node cause_parts cut_to begins_with article_parts article_of recipe_parts commands_parts path_parts output_parts nothing_parts in_tree_parts symbols_after first_symbol symbol_len is_sequence sequence_len sequence_numbers first_code_point code_point_len is_unprintable notation unprintable_text number_text encode_utf8 digits html_from
+unfolding failed_parts cause_of_node cause_parts cut_to begins_with article_parts article_of recipe_parts commands_parts path_parts output_parts nothing_parts in_tree_parts symbols_after first_symbol symbol_len is_sequence sequence_len sequence_numbers first_code_point code_point_len is_unprintable notation unprintable_text number_text encode_utf8 digits passage_html
 twelve_failures = refl
 
 abbrev items_of : Part → List Part
@@ -264,7 +264,7 @@ one_unlisted :
     list_all (λ list. bytes_eq (html (drop 2206 (in_list list (many 201))))
     (codes "</ol><p class=\"quiet\">and 1 more, in the tree</p></details>")) lists
     ≡ true
-unfolding cause_of_node cause_parts symbols_after first_symbol symbol_len is_sequence sequence_len sequence_numbers first_code_point code_point_len is_unprintable notation unprintable_text number_text encode_utf8 digits html_from
+unfolding cause_of_node cause_parts symbols_after first_symbol symbol_len is_sequence sequence_len sequence_numbers first_code_point code_point_len is_unprintable notation unprintable_text number_text encode_utf8 digits passage_html
 one_unlisted = refl
 
 -- ---- which targets are named
@@ -298,7 +298,7 @@ whole_output :
     bytes_eq (html (output_parts logs 5 (node 3 None (Some (pos 1)) 2 0 false)))
     (codes "<pre>\n<span class=\"r\">one\n</span><span class=\"r\">two\n</span></pre>")
     ≡ true
-unfolding output_parts whole_parts begins_with symbols_after first_symbol symbol_len is_sequence sequence_len sequence_numbers first_code_point code_point_len is_unprintable notation unprintable_text number_text encode_utf8 digits html_from
+unfolding output_parts whole_parts begins_with symbols_after first_symbol symbol_len is_sequence sequence_len sequence_numbers first_code_point code_point_len is_unprintable notation unprintable_text number_text encode_utf8 digits passage_html
 whole_output = refl
 
 -- Lines that report errors are emphasized, with their line feeds. A style goes on in them, and after them.
@@ -311,7 +311,7 @@ output_with_errors :
     bytes_eq (html (whole_parts errors))
     (codes "<pre>\n<span class=\"r\">one\n</span><em><span class=\"r\">an error\n</span></em><span class=\"r\">two\n</span><em>cannot\n</em><em><b>FAIL\n</b></em><b>three\n</b><b>terror\n</b><em>error\n</em></pre>")
     ≡ true
-unfolding whole_parts begins_with symbols_after first_symbol symbol_len is_sequence sequence_len sequence_numbers first_code_point code_point_len is_unprintable notation unprintable_text number_text encode_utf8 digits html_from
+unfolding whole_parts begins_with symbols_after first_symbol symbol_len is_sequence sequence_len sequence_numbers first_code_point code_point_len is_unprintable notation unprintable_text number_text encode_utf8 digits passage_html
 output_with_errors = refl
 
 -- An output of more than 300 lines is shown in part: each line begins without a colour.
@@ -319,7 +319,7 @@ long_output :
     bytes_eq (html (output_parts logs 5 (node 3 None (Some (pos 1)) 301 0 false)))
     (codes "<pre>\n<span class=\"r\">one</span>\ntwo\n</pre>")
     ≡ true
-unfolding output_parts whole_parts excerpt_parts excerpt_line_parts excerpt_line_end cut_to begins_with symbols_after first_symbol symbol_len is_sequence sequence_len sequence_numbers first_code_point code_point_len is_unprintable notation unprintable_text number_text encode_utf8 digits html_from
+unfolding output_parts whole_parts excerpt_parts excerpt_line_parts excerpt_line_end cut_to begins_with symbols_after first_symbol symbol_len is_sequence sequence_len sequence_numbers first_code_point code_point_len is_unprintable notation unprintable_text number_text encode_utf8 digits passage_html
 long_output = refl
 
 -- Line 20 of 106 reports an error: lines are left out before the lines around it, and after them.
@@ -335,14 +335,14 @@ no_output :
     bytes_eq (html (output_parts logs 5 c))
     (codes "<p class=\"quiet\">It printed nothing that was captured.</p>")
     ≡ true
-unfolding output_parts nothing_parts symbols_after first_symbol symbol_len is_sequence sequence_len sequence_numbers first_code_point code_point_len is_unprintable notation unprintable_text number_text encode_utf8 digits html_from
+unfolding output_parts nothing_parts symbols_after first_symbol symbol_len is_sequence sequence_len sequence_numbers first_code_point code_point_len is_unprintable notation unprintable_text number_text encode_utf8 digits passage_html
 no_output = refl
 
 no_failure_below_it :
     bytes_eq (html (output_parts logs 5 (node 0 None (Some (pos 2)) 0 3 false)))
     (codes "<p class=\"quiet\">It printed nothing that was captured. No target below it failed: make or redo reported the cause on the terminal.</p>")
     ≡ true
-unfolding output_parts nothing_parts symbols_after first_symbol symbol_len is_sequence sequence_len sequence_numbers first_code_point code_point_len is_unprintable notation unprintable_text number_text encode_utf8 digits html_from
+unfolding output_parts nothing_parts symbols_after first_symbol symbol_len is_sequence sequence_len sequence_numbers first_code_point code_point_len is_unprintable notation unprintable_text number_text encode_utf8 digits passage_html
 no_failure_below_it = refl
 
 -- ---- how long targets took
@@ -362,7 +362,7 @@ article_begins :
     (codes "<article id=\"f1\"><h3><bdi>b</bdi> <strong class=\"x\">exit 1</strong></h3><p class=\"meta\">1 min 01 s " ++ 0xC2 ∷ 0xB7
     ∷ codes " <bdi>all</bdi>")
     ≡ true
-unfolding article_parts article_of recipe_parts commands_parts path_parts output_parts whole_parts in_tree_parts duration_words symbols_after first_symbol symbol_len is_sequence sequence_len sequence_numbers first_code_point code_point_len is_unprintable notation unprintable_text number_text encode_utf8 digits html_from
+unfolding article_parts article_of recipe_parts commands_parts path_parts output_parts whole_parts in_tree_parts duration_words symbols_after first_symbol symbol_len is_sequence sequence_len sequence_numbers first_code_point code_point_len is_unprintable notation unprintable_text number_text encode_utf8 digits passage_html
 article_begins = refl
 
 -- ---- paths
@@ -378,7 +378,7 @@ short_path :
     bytes_eq (html (path_parts logs chain 4 (Some 3)))
     (codes "<bdi>all</bdi>" ++ then (codes "<bdi>b</bdi>" ++ then (codes "<bdi>c</bdi>" ++ then (codes "<bdi>d</bdi>" ++ then []))))
     ≡ true
-unfolding path_parts symbols_after first_symbol symbol_len is_sequence sequence_len sequence_numbers first_code_point code_point_len is_unprintable notation unprintable_text number_text encode_utf8 digits html_from
+unfolding path_parts symbols_after first_symbol symbol_len is_sequence sequence_len sequence_numbers first_code_point code_point_len is_unprintable notation unprintable_text number_text encode_utf8 digits passage_html
 short_path = refl
 
 -- The path to the article of a target at the end of a long path begins with `…`.
@@ -389,7 +389,7 @@ long_path :
     ∷ then (codes "<bdi>b</bdi>" ++ then (codes "<bdi>c</bdi>" ++ then (codes "<bdi>d</bdi>" ++ then (codes "<bdi>all</bdi>"
     ++ then (codes "<a href=\"#t5\">its place in the tree</a></p><p class=\"quiet\">It printed nothing that was captured.</p></article>")))))))
     ≡ true
-unfolding article_parts article_of recipe_parts commands_parts path_parts output_parts nothing_parts in_tree_parts symbols_after first_symbol symbol_len is_sequence sequence_len sequence_numbers first_code_point code_point_len is_unprintable notation unprintable_text number_text encode_utf8 digits html_from
+unfolding article_parts article_of recipe_parts commands_parts path_parts output_parts nothing_parts in_tree_parts symbols_after first_symbol symbol_len is_sequence sequence_len sequence_numbers first_code_point code_point_len is_unprintable notation unprintable_text number_text encode_utf8 digits passage_html
 long_path = refl
 
 no_path : path_parts logs chain 4 None ≡ []
@@ -407,12 +407,12 @@ more_is = refl
 -- ---- causes
 
 no_cause : html (cause_parts None) ≡ []
-unfolding cause_parts symbols_after first_symbol symbol_len is_sequence sequence_len sequence_numbers first_code_point code_point_len is_unprintable notation unprintable_text number_text encode_utf8 digits html_from
+unfolding cause_parts symbols_after first_symbol symbol_len is_sequence sequence_len sequence_numbers first_code_point code_point_len is_unprintable notation unprintable_text number_text encode_utf8 digits passage_html
 no_cause = refl
 
 long_cause :
     bytes_eq (html (cause_parts (Some (replicate 161 97))))
     (codes " <code>" ++ (replicate 160 97 ++ codes "</code>"))
     ≡ true
-unfolding cause_parts cut_to begins_at symbols_after first_symbol symbol_len is_sequence sequence_len sequence_numbers first_code_point code_point_len is_unprintable notation unprintable_text number_text encode_utf8 digits html_from
+unfolding cause_parts cut_to begins_at symbols_after first_symbol symbol_len is_sequence sequence_len sequence_numbers first_code_point code_point_len is_unprintable notation unprintable_text number_text encode_utf8 digits passage_html
 long_cause = refl

@@ -9,7 +9,7 @@ use Rattle.redo_compare.specs.Source.{source_of}
 use Rattle.redo_diagnostics.specs.Diagnostic.{before_bracket, diagnostic_of, first_place, masked_after, place_of, split_flag}
 use Rattle.redo_diagnostics.specs.Plain.{plain_after}
 use Rattle.redo_html.specs.declared.markup.Markup.TheVariants as markup
-use Rattle.redo_html.specs.Passage.{html_from}
+use Rattle.redo_html.specs.Passage.{passage_html}
 use Rattle.redo_html.specs.Parts.{Part, part_html}
 use Rattle.redo_html.specs.Parts.Part.{MarkupPart, NumberPart}
 use Rattle.redo_html.specs.Shown.{is_unprintable, number_text, unprintable_text, notation}
@@ -113,7 +113,7 @@ section_is :
     bytes_eq (html (news_parts (view news)))
     (codes "<section id=\"new\" aria-labelledby=\"h-new\"><h2 id=\"h-new\">New since the baseline</h2><p class=\"quiet\">New warnings and errors: 2. Gone: 1. Targets that newly fail: 1. Fixed: 1.</p><ol class=\"list\"><li><a href=\"#t1\"><bdi>a</bdi></a> <code>a.c:9: warning: w</code></li><li><a href=\"#t3\"><bdi>d</bdi></a> <strong class=\"x\">exit 1</strong> <code>d.c:1: error: v</code></li></ol><details class=\"more\"><summary>1 newly failing</summary><ol class=\"list\"><li><a href=\"#t3\"><bdi>d</bdi></a> <strong class=\"x\">exit 1</strong></li></ol></details><details class=\"more\"><summary>1 fixed</summary><ol class=\"list\"><li><a href=\"#t2\"><bdi>b</bdi></a></li></ol></details></section>")
     ≡ true
-unfolding news_parts line_of_node cause_parts cut_to symbols_after first_symbol symbol_len is_sequence sequence_len sequence_numbers first_code_point code_point_len is_unprintable notation unprintable_text number_text encode_utf8 digits html_from
+unfolding news_parts line_of_node cause_parts cut_to symbols_after first_symbol symbol_len is_sequence sequence_len sequence_numbers first_code_point code_point_len is_unprintable notation unprintable_text number_text encode_utf8 digits passage_html
 section_is = refl
 
 -- Nothing is new. There is no list.
@@ -121,7 +121,7 @@ nothing_new_is :
     bytes_eq (html (news_parts (view (record no_news { is_compared = true; gone = 30 }))))
     (codes "<section id=\"new\" aria-labelledby=\"h-new\"><h2 id=\"h-new\">New since the baseline</h2><p class=\"quiet\">No warning or error is new, and no target newly fails. New warnings and errors: 0. Gone: 30. Targets that newly fail: 0. Fixed: 0.</p></section>")
     ≡ true
-unfolding news_parts line_of_node cause_parts cut_to symbols_after first_symbol symbol_len is_sequence sequence_len sequence_numbers first_code_point code_point_len is_unprintable notation unprintable_text number_text encode_utf8 digits html_from
+unfolding news_parts line_of_node cause_parts cut_to symbols_after first_symbol symbol_len is_sequence sequence_len sequence_numbers first_code_point code_point_len is_unprintable notation unprintable_text number_text encode_utf8 digits passage_html
 nothing_new_is = refl
 
 -- A target newly fails, and nothing else is new: there is no list of lines.
@@ -129,7 +129,7 @@ list_only_with_lines :
     bytes_eq (html (news_parts (view (record no_news { is_compared = true; failing = 2 ∷ [] }))))
     (codes "<section id=\"new\" aria-labelledby=\"h-new\"><h2 id=\"h-new\">New since the baseline</h2><p class=\"quiet\">New warnings and errors: 0. Gone: 0. Targets that newly fail: 1. Fixed: 0.</p><details class=\"more\"><summary>1 newly failing</summary><ol class=\"list\"><li><a href=\"#t2\"><bdi>b</bdi></a></li></ol></details></section>")
     ≡ true
-unfolding news_parts line_of_node cause_parts cut_to symbols_after first_symbol symbol_len is_sequence sequence_len sequence_numbers first_code_point code_point_len is_unprintable notation unprintable_text number_text encode_utf8 digits html_from
+unfolding news_parts line_of_node cause_parts cut_to symbols_after first_symbol symbol_len is_sequence sequence_len sequence_numbers first_code_point code_point_len is_unprintable notation unprintable_text number_text encode_utf8 digits passage_html
 list_only_with_lines = refl
 
 -- Without a baseline, there is no section.
@@ -182,5 +182,5 @@ ends_are :
     (bytes_eq (html (drop 2201 (in_list LINES (many 1234)))) (codes "</ol><p class=\"quiet\">and 1034 more, in the logs</p>") ≡ true)
     × (bytes_eq (html (drop 2206 (in_list FIXED_NOW (many 1234))))
     (codes "</ol><p class=\"quiet\">and 1034 more, in the tree</p></details>") ≡ true)
-unfolding line_of_node cause_parts symbols_after first_symbol symbol_len is_sequence sequence_len sequence_numbers first_code_point code_point_len is_unprintable notation unprintable_text number_text encode_utf8 digits html_from
+unfolding line_of_node cause_parts symbols_after first_symbol symbol_len is_sequence sequence_len sequence_numbers first_code_point code_point_len is_unprintable notation unprintable_text number_text encode_utf8 digits passage_html
 ends_are = (refl, refl)

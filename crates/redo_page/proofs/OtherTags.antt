@@ -13,7 +13,7 @@ use Rattle.redo_html.specs.Html.{is_one_of, tag_of, tags_of}
 use Rattle.redo_html.specs.Laws.{reworded, reworded_shape}
 use Rattle.redo_html.specs.Parts.{part_tokens}
 use Rattle.redo_html.specs.Parts.Part.{ChartPart, MeterPart}
-use Rattle.redo_html.specs.Passage.{html_from}
+use Rattle.redo_html.specs.Passage.{passage_html}
 use Rattle.redo_html.specs.Shown.{is_unprintable, number_text, unprintable_text, notation}
 use Rattle.redo_html.specs.Symbols.{first_code_point, first_symbol, is_sequence, code_point_len, sequence_len, sequence_numbers, symbol_len, symbols_after}
 use Rattle.redo_html.specs.Tags.{markup_text}
@@ -51,7 +51,7 @@ abbrev blank : List ℕ → List ℕ
 blank text = []
 
 shape_lacks : (kind : GroupKind) (shape : Shape) → Lack (shape_nodes kind (reworded_shape blank shape))
-unfolding symbols_after first_symbol symbol_len is_sequence sequence_len sequence_numbers first_code_point code_point_len is_unprintable notation unprintable_text number_text html_from
+unfolding symbols_after first_symbol symbol_len is_sequence sequence_len sequence_numbers first_code_point code_point_len is_unprintable notation unprintable_text number_text passage_html
 shape_lacks kind (LineShape x bottom) = refl
 shape_lacks kind (TickShape x at text) = refl
 shape_lacks kind (BarShape bar) = by bar.label

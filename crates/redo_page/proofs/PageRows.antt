@@ -18,7 +18,7 @@ use Rattle.redo_outline.specs.Contents.Contents.{Nothing, Shown, Opened}
 use Rattle.redo_outline.specs.declared.node.Node.{Node}
 use Rattle.redo_outline.specs.declared.node.RunTimes.{RunTimes}
 use Rattle.redo_view.specs.Expansion.{show_log, show_log_within}
-use Rattle.redo_html.specs.Passage.{html_from}
+use Rattle.redo_html.specs.Passage.{passage_html}
 use Rattle.redo_html.specs.Shown.{is_unprintable, number_text, unprintable_text, notation}
 use Rattle.redo_html.specs.Style.{plain_style}
 use Rattle.redo_html.specs.StyleSheet.{style_sheet}
@@ -561,5 +561,5 @@ page_begins :
     bytes_eq (take 42 (page_html (request [] false false) [] []))
     (codes "<!doctype html><html lang=\"en\"><head><meta")
     ≡ true
-unfolding page_parts top_parts summary_parts size_words footer_parts failed_parts news_parts is_safe style_sheet symbols_after first_symbol symbol_len is_sequence sequence_len sequence_numbers first_code_point code_point_len is_unprintable notation unprintable_text number_text digits html_from show_log show_log_within
+unfolding page_parts top_parts summary_parts size_words footer_parts failed_parts news_parts is_safe style_sheet symbols_after first_symbol symbol_len is_sequence sequence_len sequence_numbers first_code_point code_point_len is_unprintable notation unprintable_text number_text digits passage_html show_log show_log_within
 page_begins = refl

@@ -9,7 +9,7 @@ use Rattle.redo_html.specs.Cut.{begins_at}
 use Rattle.redo_html.specs.declared.markup.Markup.TheVariants as markup
 use Rattle.redo_html.specs.Parts.{Part, part_html}
 use Rattle.redo_html.specs.Parts.Part.{MarkupPart, TextPart}
-use Rattle.redo_html.specs.Passage.{html_from}
+use Rattle.redo_html.specs.Passage.{passage_html}
 use Rattle.redo_html.specs.Shown.{is_unprintable, number_text, unprintable_text, notation}
 use Rattle.redo_html.specs.Symbols.{first_code_point, first_symbol, is_sequence, code_point_len, sequence_len, sequence_numbers, symbol_len, symbols_after}
 use Rattle.redo_logs.specs.declared.log_state.LogState.TheVariants.{Ended}
@@ -38,7 +38,7 @@ known :
     bytes_eq (html (recipe_parts (recipe (Some (codes "d/<e>")) (whole (codes "cc -c \\\n\tx.c && echo \"a\"") ∷ []))))
     (codes "<p class=\"meta\">Directory: <bdi>d/&lt;e&gt;</bdi></p><pre>\ncc -c \\\n\tx.c &amp;&amp; echo \"a\"</pre>")
     ≡ true
-unfolding recipe_parts commands_parts command_parts collapsed_parts command_block cut_to symbols_after first_symbol symbol_len is_sequence sequence_len sequence_numbers first_code_point code_point_len is_unprintable notation unprintable_text number_text encode_utf8 digits html_from
+unfolding recipe_parts commands_parts command_parts collapsed_parts command_block cut_to symbols_after first_symbol symbol_len is_sequence sequence_len sequence_numbers first_code_point code_point_len is_unprintable notation unprintable_text number_text encode_utf8 digits passage_html
 known = refl
 
 -- A command without its directory, and one of which the rest isn't known. Colours of a command are shown as bytes.
@@ -46,7 +46,7 @@ in_parts :
     bytes_eq (html (recipe_parts (recipe None (whole [] ∷ record { text = 27 ∷ codes "[31m a"; is_whole = false } ∷ []))))
     (codes "<pre>\n</pre><pre>\n<i>^[</i>[31m a</pre><p class=\"cut\">The rest of this command is left out.</p>")
     ≡ true
-unfolding recipe_parts commands_parts command_parts collapsed_parts command_block cut_to symbols_after first_symbol symbol_len is_sequence sequence_len sequence_numbers first_code_point code_point_len is_unprintable notation unprintable_text number_text encode_utf8 digits html_from
+unfolding recipe_parts commands_parts command_parts collapsed_parts command_block cut_to symbols_after first_symbol symbol_len is_sequence sequence_len sequence_numbers first_code_point code_point_len is_unprintable notation unprintable_text number_text encode_utf8 digits passage_html
 in_parts = refl
 
 -- ---- long commands
@@ -99,14 +99,14 @@ ten_commands :
     bytes_eq (html (commands_parts (whole (codes "a") ∷ times 9 (whole (codes "b")))))
     (codes "<pre>\na</pre>" ++ flat_map (λ text. text) (replicate 9 (codes "<pre>\nb</pre>")))
     ≡ true
-unfolding commands_parts command_parts collapsed_parts command_block cut_to symbols_after first_symbol symbol_len is_sequence sequence_len sequence_numbers first_code_point code_point_len is_unprintable notation unprintable_text number_text encode_utf8 digits html_from
+unfolding commands_parts command_parts collapsed_parts command_block cut_to symbols_after first_symbol symbol_len is_sequence sequence_len sequence_numbers first_code_point code_point_len is_unprintable notation unprintable_text number_text encode_utf8 digits passage_html
 ten_commands = refl
 
 twelve_commands :
     bytes_eq (html (commands_parts (times 3 (whole (codes "a")) ++ times 9 (whole (codes "b")))))
     (codes "<p class=\"cut\">2 more before these</p><pre>\na</pre>" ++ flat_map (λ text. text) (replicate 9 (codes "<pre>\nb</pre>")))
     ≡ true
-unfolding commands_parts command_parts collapsed_parts command_block cut_to symbols_after first_symbol symbol_len is_sequence sequence_len sequence_numbers first_code_point code_point_len is_unprintable notation unprintable_text number_text encode_utf8 digits html_from
+unfolding commands_parts command_parts collapsed_parts command_block cut_to symbols_after first_symbol symbol_len is_sequence sequence_len sequence_numbers first_code_point code_point_len is_unprintable notation unprintable_text number_text encode_utf8 digits passage_html
 twelve_commands = refl
 
 -- ---- articles
@@ -125,5 +125,5 @@ article_has_recipe :
     bytes_eq (html (article_parts (log (codes "all") ∷ log (codes "b") ∷ []) (record no_node { number = 1; status = Some (pos 2) } ∷ []) recipes 0))
     (codes "<article id=\"f0\"><h3><bdi>b</bdi> <strong class=\"x\">exit 2</strong></h3><p class=\"meta\"><a href=\"#t0\">its place in the tree</a></p><p class=\"meta\">Directory: <bdi>y</bdi></p><pre>\nc</pre><p class=\"quiet\">It printed nothing that was captured.</p></article>")
     ≡ true
-unfolding article_parts article_of recipe_parts commands_parts command_parts collapsed_parts command_block cut_to path_parts output_parts nothing_parts in_tree_parts symbols_after first_symbol symbol_len is_sequence sequence_len sequence_numbers first_code_point code_point_len is_unprintable notation unprintable_text number_text encode_utf8 digits html_from
+unfolding article_parts article_of recipe_parts commands_parts command_parts collapsed_parts command_block cut_to path_parts output_parts nothing_parts in_tree_parts symbols_after first_symbol symbol_len is_sequence sequence_len sequence_numbers first_code_point code_point_len is_unprintable notation unprintable_text number_text encode_utf8 digits passage_html
 article_has_recipe = refl

@@ -12,7 +12,7 @@ use Rattle.redo_logs.specs.Logs.{Log}
 use Rattle.redo_options.specs.declared.options.Options.{Options}
 use Rattle.redo_view.specs.Event.{Event}
 use Rattle.redo_view.specs.Expansion.{shown_events, show_log, show_log_within}
-use Rattle.redo_html.specs.Passage.{html_from}
+use Rattle.redo_html.specs.Passage.{passage_html}
 use Rattle.redo_html.specs.Parts.{part_html}
 use Rattle.redo_html.specs.Shown.{is_unprintable, notation, number_text, unprintable_text}
 use Rattle.redo_html.specs.Symbols.{first_code_point, code_point_len, sequence_len, sequence_numbers, is_sequence, first_symbol, symbol_len, symbols_after}
@@ -65,7 +65,7 @@ nothing : IsRow (row
     ([])
     ([]) plain
     (codes "</ul></section>"))
-unfolding symbols_after first_symbol symbol_len is_sequence sequence_len sequence_numbers first_code_point code_point_len is_unprintable notation unprintable_text number_text encode_utf8 digits html_from show_log show_log_within
+unfolding symbols_after first_symbol symbol_len is_sequence sequence_len sequence_numbers first_code_point code_point_len is_unprintable notation unprintable_text number_text encode_utf8 digits passage_html show_log show_log_within
 nothing = refl
 
 text : IsRow (row
@@ -73,7 +73,7 @@ text : IsRow (row
     ∷ [])
     (codes "all" ∷ []) plain
     (dotted (codes "<li><details open id=\"t0\"><summary><bdi>all</bdi> <small>~ 2 lines</small></summary><ul><li><pre>\na &lt;b&gt;\nc &amp; d\n</pre></li></ul></details></li></ul></section>")))
-unfolding symbols_after first_symbol symbol_len is_sequence sequence_len sequence_numbers first_code_point code_point_len is_unprintable notation unprintable_text number_text encode_utf8 digits html_from show_log show_log_within
+unfolding symbols_after first_symbol symbol_len is_sequence sequence_len sequence_numbers first_code_point code_point_len is_unprintable notation unprintable_text number_text encode_utf8 digits passage_html show_log show_log_within
 text = refl
 
 seven : IsRow (row
@@ -90,7 +90,7 @@ seven : IsRow (row
     ∷ [])
     (codes "all" ∷ []) plain
     (dotted (codes "<li><details open id=\"t0\"><summary><bdi>all</bdi> <strong class=\"x\">exit 1</strong> <small>~ 6 below</small> <small>~ <em>2 warnings below</em></small></summary><ul><li><details open id=\"t1\"><summary><bdi>a</bdi> <small>~ 2 lines</small> <small>~ <em>1 warning</em></small> <small>~ 1 below</small> <small>~ <em>1 warning below</em></small></summary><ul><li><pre>\ncc a.c\na.c: warning: x\n</pre></li><li><details open id=\"t2\"><summary><bdi>c</bdi> <strong class=\"x\">exit -1</strong> <small>~ 2 lines</small> <small>~ <em>1 warning</em></small></summary><ul><li class=\"note\"><a href=\"#f2\">What it printed is shown above</a></li><li class=\"note\">redo: warning:</li></ul></details></li></ul></details></li><li id=\"t3\"><bdi>s</bdi></li><li id=\"t4\"><bdi>t</bdi></li><li id=\"t5\"><bdi>u</bdi></li><li><details open id=\"t6\"><summary><bdi>b</bdi> <strong class=\"x\">exit 2</strong> <small>~ 1 line</small></summary><ul><li class=\"note\"><a href=\"#f6\">What it printed is shown above</a></li><li class=\"note\">needs <a href=\"#t2\"><bdi>c</bdi></a> <strong class=\"x\">exit -1</strong></li><li class=\"note\">needs <bdi>x</bdi> <strong class=\"x\">exit 3</strong></li></ul></details></li></ul></details></li></ul></section>")))
-unfolding symbols_after first_symbol symbol_len is_sequence sequence_len sequence_numbers first_code_point code_point_len is_unprintable notation unprintable_text number_text encode_utf8 digits html_from show_log show_log_within
+unfolding symbols_after first_symbol symbol_len is_sequence sequence_len sequence_numbers first_code_point code_point_len is_unprintable notation unprintable_text number_text encode_utf8 digits passage_html show_log show_log_within
 seven = refl
 
 group : IsRow (row
@@ -112,7 +112,7 @@ group : IsRow (row
     ∷ [])
     (codes "all" ∷ []) plain
     (dotted (codes "<li><details open id=\"t0\"><summary><bdi>all</bdi> <small>~ 1 line</small> <small>~ 12 below</small></summary><ul><li><details class=\"s\"><summary>5 targets that printed nothing</summary><ul><li id=\"t1\"><bdi>a</bdi></li><li><details id=\"t2\"><summary><bdi>b</bdi> <small>~ 5 below</small></summary><ul><li id=\"t3\"><bdi>h</bdi></li><li id=\"t4\"><bdi>i</bdi></li><li id=\"t5\"><bdi>j</bdi></li><li id=\"t6\"><bdi>k</bdi></li><li id=\"t7\"><bdi>l</bdi></li></ul></details></li><li id=\"t8\"><bdi>c</bdi></li><li id=\"t9\"><bdi>d</bdi></li><li id=\"t10\"><bdi>e</bdi></li></ul></details></li><li><details id=\"t11\"><summary><bdi>f</bdi> <small>~ 1 line</small></summary><ul><li><pre>\ny\n</pre></li></ul></details></li><li><pre>\nx\n</pre></li><li id=\"t12\"><bdi>g</bdi></li></ul></details></li></ul></section>")))
-unfolding symbols_after first_symbol symbol_len is_sequence sequence_len sequence_numbers first_code_point code_point_len is_unprintable notation unprintable_text number_text encode_utf8 digits html_from show_log show_log_within
+unfolding symbols_after first_symbol symbol_len is_sequence sequence_len sequence_numbers first_code_point code_point_len is_unprintable notation unprintable_text number_text encode_utf8 digits passage_html show_log show_log_within
 group = refl
 
 four : IsRow (row
@@ -125,7 +125,7 @@ four : IsRow (row
     ∷ [])
     (codes "all" ∷ []) plain
     (dotted (codes "<li><details open id=\"t0\"><summary><bdi>all</bdi> <small>~ 1 line</small> <small>~ 4 below</small></summary><ul><li id=\"t1\"><bdi>a</bdi></li><li id=\"t2\"><bdi>b</bdi></li><li id=\"t3\"><bdi>c</bdi></li><li id=\"t4\"><bdi>d</bdi></li><li><pre>\nx\n</pre></li></ul></details></li></ul></section>")))
-unfolding symbols_after first_symbol symbol_len is_sequence sequence_len sequence_numbers first_code_point code_point_len is_unprintable notation unprintable_text number_text encode_utf8 digits html_from show_log show_log_within
+unfolding symbols_after first_symbol symbol_len is_sequence sequence_len sequence_numbers first_code_point code_point_len is_unprintable notation unprintable_text number_text encode_utf8 digits passage_html show_log show_log_within
 four = refl
 
 only_child : IsRow (row
@@ -137,7 +137,7 @@ only_child : IsRow (row
     ∷ [])
     (codes "x" ∷ codes "w" ∷ []) plain
     (dotted (codes "<li><details open id=\"t0\"><summary><bdi>x</bdi> <small>~ 3 below</small></summary><ul><li><details open id=\"t1\"><summary><bdi>y</bdi> <small>~ 2 below</small></summary><ul><li><details open id=\"t2\"><summary><bdi>z</bdi> <small>~ 1 line</small> <small>~ 1 below</small></summary><ul><li><pre>\nz\n</pre></li><li><details id=\"t3\"><summary><bdi>v</bdi> <small>~ 1 line</small></summary><ul><li><pre>\nv\n</pre></li></ul></details></li></ul></details></li></ul></details></li></ul></details></li><li><details open id=\"t4\"><summary><bdi>w</bdi> <strong class=\"o\">unfinished</strong> <small>~ 1 line</small></summary><ul><li><pre>\nw\n</pre></li></ul></details></li></ul></section>")))
-unfolding symbols_after first_symbol symbol_len is_sequence sequence_len sequence_numbers first_code_point code_point_len is_unprintable notation unprintable_text number_text encode_utf8 digits html_from show_log show_log_within
+unfolding symbols_after first_symbol symbol_len is_sequence sequence_len sequence_numbers first_code_point code_point_len is_unprintable notation unprintable_text number_text encode_utf8 digits passage_html show_log show_log_within
 only_child = refl
 
 locked : IsRow (row
@@ -148,7 +148,7 @@ locked : IsRow (row
     ∷ [])
     (codes "x" ∷ []) locks
     (dotted (codes "<li><details open id=\"t0\"><summary><bdi>x</bdi> <small>~ 2 lines</small> <small>~ 1 below</small></summary><ul><li id=\"t1\"><bdi>y</bdi> <small>~ waiting</small></li><li><a href=\"#t1\"><bdi>y</bdi></a> <small>~ locked</small></li><li><bdi>q</bdi> <small>~ unlocked</small></li><li><a href=\"#t1\"><bdi>y</bdi></a> <small>~ unchanged</small></li><li class=\"note\">(a &lt; b)</li><li><pre>\n1\n</pre></li><li class=\"note\">redo: 2</li><li><pre>\n3\n</pre></li></ul></details></li></ul></section>")))
-unfolding symbols_after first_symbol symbol_len is_sequence sequence_len sequence_numbers first_code_point code_point_len is_unprintable notation unprintable_text number_text encode_utf8 digits html_from show_log show_log_within
+unfolding symbols_after first_symbol symbol_len is_sequence sequence_len sequence_numbers first_code_point code_point_len is_unprintable notation unprintable_text number_text encode_utf8 digits passage_html show_log show_log_within
 locked = refl
 
 six : IsRow (row
@@ -163,7 +163,7 @@ six : IsRow (row
     ∷ [])
     (codes "all" ∷ []) plain
     (dotted (codes "<li><details open id=\"t0\"><summary><bdi>all</bdi> <small>~ 6 below</small></summary><ul><li id=\"t1\"><bdi>a</bdi></li><li id=\"t2\"><bdi>b</bdi></li><li id=\"t3\"><bdi>c</bdi></li><li id=\"t4\"><bdi>d</bdi></li><li id=\"t5\"><bdi>e</bdi></li><li id=\"t6\"><bdi>f</bdi></li></ul></details></li></ul></section>")))
-unfolding symbols_after first_symbol symbol_len is_sequence sequence_len sequence_numbers first_code_point code_point_len is_unprintable notation unprintable_text number_text encode_utf8 digits html_from show_log show_log_within
+unfolding symbols_after first_symbol symbol_len is_sequence sequence_len sequence_numbers first_code_point code_point_len is_unprintable notation unprintable_text number_text encode_utf8 digits passage_html show_log show_log_within
 six = refl
 
 unseen : IsRow (row
@@ -174,7 +174,7 @@ unseen : IsRow (row
     ∷ [])
     (codes "x" ∷ []) plain
     (dotted (codes "<li><details open id=\"t0\"><summary><bdi>x</bdi> <small>~ 1 line</small> <small>~ 2 below</small></summary><ul><li id=\"t1\"><bdi>a</bdi></li><li><details id=\"t2\"><summary><bdi>b</bdi> <small>~ 4 lines</small></summary><ul><li><pre>\n1\n2\n3\n4\n</pre></li></ul></details></li><li><pre>\nx\n</pre></li></ul></details></li></ul></section>")))
-unfolding symbols_after first_symbol symbol_len is_sequence sequence_len sequence_numbers first_code_point code_point_len is_unprintable notation unprintable_text number_text encode_utf8 digits html_from show_log show_log_within
+unfolding symbols_after first_symbol symbol_len is_sequence sequence_len sequence_numbers first_code_point code_point_len is_unprintable notation unprintable_text number_text encode_utf8 digits passage_html show_log show_log_within
 unseen = refl
 
 nested_children : IsRow (row
@@ -184,7 +184,7 @@ nested_children : IsRow (row
     ∷ [])
     (codes "x" ∷ []) plain
     (dotted (codes "<li><details open id=\"t0\"><summary><bdi>x</bdi> <small>~ 1 line</small> <small>~ 2 below</small></summary><ul><li><details id=\"t1\"><summary><bdi>a</bdi> <small>~ 1 below</small></summary><ul><li><details id=\"t2\"><summary><bdi>b</bdi> <small>~ 1 line</small></summary><ul><li><pre>\ny\n</pre></li></ul></details></li></ul></details></li><li><pre>\nx\n</pre></li></ul></details></li></ul></section>")))
-unfolding symbols_after first_symbol symbol_len is_sequence sequence_len sequence_numbers first_code_point code_point_len is_unprintable notation unprintable_text number_text encode_utf8 digits html_from show_log show_log_within
+unfolding symbols_after first_symbol symbol_len is_sequence sequence_len sequence_numbers first_code_point code_point_len is_unprintable notation unprintable_text number_text encode_utf8 digits passage_html show_log show_log_within
 nested_children = refl
 
 groups : IsRow (row
@@ -204,7 +204,7 @@ groups : IsRow (row
     ∷ [])
     (codes "all" ∷ []) plain
     (dotted (codes "<li><details open id=\"t0\"><summary><bdi>all</bdi> <strong class=\"o\">unfinished</strong> <small>~ 10 below</small></summary><ul><li><details class=\"s\"><summary>5 targets that printed nothing</summary><ul><li id=\"t1\"><bdi>a</bdi></li><li id=\"t2\"><bdi>b</bdi></li><li id=\"t3\"><bdi>c</bdi></li><li id=\"t4\"><bdi>d</bdi></li><li id=\"t5\"><bdi>e</bdi></li></ul></details></li><li class=\"note\">redo: -</li><li><details class=\"s\"><summary>5 targets that printed nothing</summary><ul><li id=\"t6\"><bdi>f</bdi></li><li id=\"t7\"><bdi>g</bdi></li><li id=\"t8\"><bdi>h</bdi></li><li id=\"t9\"><bdi>i</bdi></li><li id=\"t10\"><bdi>j</bdi></li></ul></details></li></ul></details></li></ul></section>")))
-unfolding symbols_after first_symbol symbol_len is_sequence sequence_len sequence_numbers first_code_point code_point_len is_unprintable notation unprintable_text number_text encode_utf8 digits html_from show_log show_log_within
+unfolding symbols_after first_symbol symbol_len is_sequence sequence_len sequence_numbers first_code_point code_point_len is_unprintable notation unprintable_text number_text encode_utf8 digits passage_html show_log show_log_within
 groups = refl
 
 -- ---- limits
@@ -275,14 +275,14 @@ depths_are :
     × (one_log (shown ∷ []) 60 ≡ dotted (codes "<li id=\"t0\"><bdi>a</bdi> <strong class=\"o\">unfinished</strong> <small>~ 1 line</small> <small>~ level 60</small></li><li><pre>\nx\n</pre></li><li class=\"note\">redo: y</li><li class=\"note\">end of <bdi>a</bdi></li>"))
     × (one_log (failed ∷ []) 60 ≡ dotted (codes
     "<li id=\"t0\"><bdi>a</bdi> <strong class=\"x\">exit 2</strong> <small>~ 1 line</small> <small>~ level 60</small></li><li class=\"note\"><a href=\"#f0\">What it printed is shown above</a></li><li class=\"note\">redo: y</li><li class=\"note\">end of <bdi>a</bdi></li>"))
-unfolding symbols_after first_symbol symbol_len is_sequence sequence_len sequence_numbers first_code_point code_point_len is_unprintable notation unprintable_text number_text encode_utf8 digits html_from
+unfolding symbols_after first_symbol symbol_len is_sequence sequence_len sequence_numbers first_code_point code_point_len is_unprintable notation unprintable_text number_text encode_utf8 digits passage_html
 depths_are = (refl, refl, refl)
 
 -- The output of the log at depth 60 is too long to be in its article.
 long_is :
     one_log (node (Some (pos 2)) 301 602 false ∷ []) 60
     ≡ dotted (codes "<li id=\"t0\"><bdi>a</bdi> <strong class=\"x\">exit 2</strong> <small>~ 301 lines</small> <small>~ level 60</small></li><li><pre>\nx\n</pre></li><li class=\"note\">redo: y</li><li class=\"note\">end of <bdi>a</bdi></li>")
-unfolding symbols_after first_symbol symbol_len is_sequence sequence_len sequence_numbers first_code_point code_point_len is_unprintable notation unprintable_text number_text encode_utf8 digits html_from
+unfolding symbols_after first_symbol symbol_len is_sequence sequence_len sequence_numbers first_code_point code_point_len is_unprintable notation unprintable_text number_text encode_utf8 digits passage_html
 long_is = refl
 
 -- A log in the deepest log that is nested is not nested.
@@ -296,7 +296,7 @@ levels_are :
     (Opened (Mentioned 1 9 Made (codes "a") (OpensHere 0)) 0
     (Opened (Mentioned 1 9 Made (codes "b") (OpensHere 1)) 1 (Shown (EntryShown 2 (Text (codes "x"))) Nothing) Nothing) Nothing))
     ≡ dotted (codes "<li><details id=\"t0\"><summary><bdi>a</bdi> <strong class=\"o\">unfinished</strong> <small>~ 1 line</small></summary><ul><li id=\"t1\"><bdi>b</bdi> <strong class=\"o\">unfinished</strong> <small>~ 1 line</small> <small>~ level 60</small></li><li><pre>\nx\n</pre></li><li class=\"note\">end of <bdi>b</bdi></li></ul></details></li>")
-unfolding symbols_after first_symbol symbol_len is_sequence sequence_len sequence_numbers first_code_point code_point_len is_unprintable notation unprintable_text number_text encode_utf8 digits html_from
+unfolding symbols_after first_symbol symbol_len is_sequence sequence_len sequence_numbers first_code_point code_point_len is_unprintable notation unprintable_text number_text encode_utf8 digits passage_html
 levels_are = refl
 
 -- A requested target whose log isn't opened.
@@ -304,7 +304,7 @@ requested_are :
     flat_map part_html (contents_parts (record { logs = []; options = plain; nodes = []; articles = [] }) top_level 0 pending.Nothing
     (Shown (Requested (codes "a") NotOpened) Nothing))
     ≡ codes "<li><bdi>a</bdi></li>"
-unfolding symbols_after first_symbol symbol_len is_sequence sequence_len sequence_numbers first_code_point code_point_len is_unprintable notation unprintable_text number_text encode_utf8 digits html_from
+unfolding symbols_after first_symbol symbol_len is_sequence sequence_len sequence_numbers first_code_point code_point_len is_unprintable notation unprintable_text number_text encode_utf8 digits passage_html
 requested_are = refl
 
 -- ---- blocks
@@ -335,5 +335,5 @@ lines_are :
     × (after_line (pending.Text (block 3 5)) (codes "xy") ≡ pending.Text (block 4 8))
     × (line_html (pending.Text (block 3 65534)) (codes "xy") ≡ codes "</pre><pre>\nxy\n")
     × (after_line (pending.Text (block 500 5)) (codes "xy") ≡ pending.Text (record { lines = 1; bytes = 3; style = plain_style }))
-unfolding symbols_after first_symbol symbol_len is_sequence sequence_len sequence_numbers first_code_point code_point_len is_unprintable notation unprintable_text number_text encode_utf8 digits html_from
+unfolding symbols_after first_symbol symbol_len is_sequence sequence_len sequence_numbers first_code_point code_point_len is_unprintable notation unprintable_text number_text encode_utf8 digits passage_html
 lines_are = (refl, refl, refl, refl, refl, refl, refl, refl, refl, refl)

@@ -8,7 +8,8 @@ use Rattle.redo_html.specs.declared.style.Style.{Style}
 use Rattle.redo_html.specs.declared.text_kind.TextKind.TheVariants.{Log}
 use Rattle.redo_line.specs.Lines.{ended, rest, with_line_feed}
 use Rattle.redo_html.specs.Lines.{lines_html, style_after_lines}
-use Rattle.redo_html.specs.Passage.{html_from, passage_html}
+use Rattle.redo_html.specs.Passage.{passage_html}
+use Rattle.redo_html.specs.Private.Highlighting.{html_from}
 use Rattle.redo_html.specs.Private.Writing.{WroteUpTo, style_in}
 
 -- The bytes that are in a buffer.

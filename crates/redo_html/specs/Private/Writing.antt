@@ -10,7 +10,8 @@ use Rattle.redo_html.specs.declared.text_kind.TextKind.TheVariants.{Log}
 use Rattle.redo_html.specs.declared.style.Style.{Style}
 use Rattle.redo_html.specs.Laws.{is_plain}
 use Rattle.redo_html.specs.Lines.{style_after_symbol, style_after, style_after_lines, lines_html}
-use Rattle.redo_html.specs.Passage.{has_highlights, html_from, passage_html, with_wanted}
+use Rattle.redo_html.specs.Passage.{has_highlights, passage_html}
+use Rattle.redo_html.specs.Private.Highlighting.{html_from, with_wanted}
 use Rattle.redo_line.specs.Lines.{ended, rest}
 use Rattle.redo_html.specs.declared.style.Setting.{Setting}
 use Rattle.redo_html.specs.Shown.{is_unprintable}

@@ -1,6 +1,7 @@
 use Rattle.std.specs.Prelude.{codes}
 use Rattle.std.specs.List.{flat_map}
-use Rattle.redo_html.specs.Passage.{inline_html, highlights_between}
+use Rattle.redo_html.specs.Passage.{inline_html}
+use Rattle.redo_html.specs.Private.Highlighting.{highlights_between}
 use Rattle.redo_html.specs.Private.Writing.{optional_highlight}
 use Rattle.redo_html.proofs.PassageLemmas.{highlights_written}
 use Rattle.redo_html.proofs.WritingLemmas.{first_failed, second_failed, third_failed, fourth_done}

@@ -1,6 +1,7 @@
 use Rattle.std.proofs.Common.{[], ◌∷◌, ◌++◌, refl}
 use Rattle.std.specs.Prelude.{codes}
-use Rattle.redo_html.specs.Passage.{html_from, has_element, highlight_text}
+use Rattle.redo_html.specs.Passage.{has_element, highlight_text}
+use Rattle.redo_html.specs.Private.Highlighting.{html_from}
 use Rattle.redo_html.specs.Passage.Inline.{StyleEnd}
 use Rattle.redo_html.specs.Private.Writing.{optional_highlight}
 use Rattle.redo_html.proofs.PassageLemmas.{end_written}

@@ -2,8 +2,10 @@ use Rattle.std.proofs.Common.{◌≤◌, ℕ, List, [], Ok, Err, length, drop, a
 use Rattle.std.proofs.lemmas.List.{take_rest, length-drop, drop-drop, drop_all}
 use Rattle.redo_device.specs.Sink.{Writes}
 use Rattle.redo_html.specs.declared.look.Look.{Look}
-use Rattle.redo_html.specs.Passage.{passage_html, html_from}
+use Rattle.redo_html.specs.Passage.{passage_html}
+use Rattle.redo_html.specs.Private.Highlighting.{html_from}
 use Rattle.redo_html.specs.Private.Writing.{WroteUpTo, WroteSome, style_in}
+use Rattle.redo_html.proofs.PassageGroups.{passage_is}
 use Rattle.redo_html.proofs.WritingLemmas.{begin_parts, wrote_on, wrote_rest, passage_failed}
 use Rattle.redo_html.proofs.StyleLemmas.{ended_style}
 use Rattle.redo_html.proofs.passage.write_passage.Goals as goal
@@ -11,7 +13,8 @@ use Rattle.redo_html.proofs.passage.write_passage.Goals as goal
 pub loop-done-init : goal.loop-done-init
 loop-done-init g c = record {
   within = omega arith;
-  wrote = begin_parts _ _ _ (ap (λ look. html_from c.args.kind look c.args.bytes.now) c.at_start-look.ensures);
+  wrote = begin_parts _ _ _ (ap (λ look. html_from c.args.kind look c.args.bytes.now) c.at_start-look.ensures
+      ∙ sym (passage_is c.args.kind c.args.style c.args.bytes.now));
   style_left = ap (λ look. style_in c.args.kind look.wanted c.args.bytes.now) c.at_start-look.ensures;
 }
 

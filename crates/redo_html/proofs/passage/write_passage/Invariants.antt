@@ -1,5 +1,6 @@
 use Rattle.std.proofs.Common.{◌≡◌, ◌-◌, ◌≤◌, length, drop}
-use Rattle.redo_html.specs.Passage.{passage_html, html_from}
+use Rattle.redo_html.specs.Passage.{passage_html}
+use Rattle.redo_html.specs.Private.Highlighting.{html_from}
 use Rattle.redo_html.specs.Private.Writing.{WroteUpTo, style_in}
 use Rattle.redo_html.proofs.passage.write_passage.Given as goal
 

@@ -1,7 +1,8 @@
 use Rattle.std.proofs.Common.{◌≡◌, ◌++◌, false, List, ℕ, drop, ap, subst, sym, ◌∙◌, arith}
 use Rattle.std.specs.Prelude.{slice_index, ◌==◌, ◌||◌, true}
 use Rattle.std.specs.List.{flat_map}
-use Rattle.redo_html.specs.Passage.{inline_html, highlights_between, escaped_byte, after_code_point, html_from}
+use Rattle.redo_html.specs.Passage.{inline_html, escaped_byte}
+use Rattle.redo_html.specs.Private.Highlighting.{highlights_between, after_code_point, html_from}
 use Rattle.redo_html.specs.Private.Writing.{style_in}
 use Rattle.redo_html.proofs.PassageLemmas.{reference_step}
 use Rattle.redo_html.proofs.PassageWriting.{highlights_failed, part_failed, both_written}

@@ -2,7 +2,7 @@ use Rattle.std.proofs.Common.{ℕ, List, Err, drop, refl, ap, sym, ◌∙◌, su
 use Rattle.std.proofs.lemmas.List.{take_rest, length-drop, drop-drop}
 use Rattle.redo_device.specs.Sink.{Writes}
 use Rattle.redo_html.specs.declared.look.Look.{Look}
-use Rattle.redo_html.specs.Passage.{html_from}
+use Rattle.redo_html.specs.Private.Highlighting.{html_from}
 use Rattle.redo_html.specs.Private.Writing.{WroteUpTo, WroteSome, style_in}
 use Rattle.redo_html.proofs.WritingLemmas.{begin_parts, some_failed, wrote_on, wrote_rest}
 use Rattle.redo_html.proofs.passage.write_rest.Goals as goal

@@ -1,5 +1,5 @@
 use Rattle.std.proofs.Common.{◌≡◌, ◌-◌, ◌≤◌, length, drop}
-use Rattle.redo_html.specs.Passage.{html_from}
+use Rattle.redo_html.specs.Private.Highlighting.{html_from}
 use Rattle.redo_html.specs.Private.Writing.{WroteUpTo, style_in}
 use Rattle.redo_html.proofs.passage.write_rest.Given as goal
 

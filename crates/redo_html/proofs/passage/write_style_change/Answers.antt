@@ -2,7 +2,8 @@ use Rattle.std.proofs.Common.{◌++◌, ◌∷◌, [], false}
 use Rattle.std.specs.List.{flat_map}
 use Rattle.redo_device.proofs.WritesLemmas.{at_first, at_last}
 use Rattle.redo_html.specs.Passage.Inline.{StyleStart, StyleEnd}
-use Rattle.redo_html.specs.Passage.{has_element, highlight_text, inline_html, highlights_between}
+use Rattle.redo_html.specs.Passage.{has_element, highlight_text, inline_html}
+use Rattle.redo_html.specs.Private.Highlighting.{highlights_between}
 use Rattle.redo_html.specs.Private.Writing.{optional_highlight}
 use Rattle.redo_html.proofs.PassageLemmas.{style_change_html}
 use Rattle.redo_html.proofs.passage.write_style_change.Goals as goal

@@ -1,6 +1,6 @@
 use Rattle.std.proofs.Common.{◌<◌, ◌≤◌, ℕ, length, drop, sym, ◌∙◌, ap, subst}
 use Rattle.redo_html.specs.declared.style.Style.{Style}
-use Rattle.redo_html.specs.Passage.{with_wanted, html_from}
+use Rattle.redo_html.specs.Private.Highlighting.{with_wanted, html_from}
 use Rattle.redo_html.specs.Style.{restyled}
 use Rattle.redo_html.specs.Symbols.{sequence_numbers}
 use Rattle.redo_html.specs.Private.Writing.{IsSequence, style_in}

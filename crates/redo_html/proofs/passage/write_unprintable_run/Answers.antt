@@ -1,6 +1,7 @@
 use Rattle.std.proofs.Common.{true}
 use Rattle.std.specs.List.{flat_map}
-use Rattle.redo_html.specs.Passage.{inline_html, highlights_between}
+use Rattle.redo_html.specs.Passage.{inline_html}
+use Rattle.redo_html.specs.Private.Highlighting.{highlights_between}
 use Rattle.redo_html.specs.Shown.{unprintable_text}
 use Rattle.redo_html.proofs.PassageLemmas.{unprintable_written}
 use Rattle.redo_html.proofs.PassageWriting.{highlights_failed, part_failed, both_written}

@@ -1,6 +1,7 @@
 use Rattle.std.proofs.Common.{false, take}
 use Rattle.std.specs.List.{flat_map}
-use Rattle.redo_html.specs.Passage.{inline_html, highlights_between}
+use Rattle.redo_html.specs.Passage.{inline_html}
+use Rattle.redo_html.specs.Private.Highlighting.{highlights_between}
 use Rattle.redo_html.proofs.PassageWriting.{highlights_failed, part_failed, both_written}
 use Rattle.redo_html.proofs.VerbatimLemmas.{verbatim_step, verbatim_style}
 use Rattle.redo_html.proofs.passage.write_verbatim.Goals as goal

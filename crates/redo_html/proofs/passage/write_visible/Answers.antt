@@ -2,7 +2,8 @@ use Rattle.std.proofs.Common.{◌<◌, ◌≤◌, ◌++◌, false, ℕ, length, 
 use Rattle.std.specs.Prelude.{encode_utf8}
 use Rattle.std.specs.List.{flat_map}
 use Rattle.std.proofs.lemmas.List.{length-take-le}
-use Rattle.redo_html.specs.Passage.{inline_html, highlights_between, escaped, after_code_point, html_from}
+use Rattle.redo_html.specs.Passage.{inline_html, escaped}
+use Rattle.redo_html.specs.Private.Highlighting.{highlights_between, after_code_point, html_from}
 use Rattle.redo_html.specs.Symbols.{symbol_len}
 use Rattle.redo_html.specs.Private.Writing.{style_in}
 use Rattle.redo_html.proofs.PassageLemmas.{visible_step}

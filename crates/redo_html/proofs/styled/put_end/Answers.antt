@@ -2,7 +2,8 @@ use Rattle.std.proofs.Common.{[], ◌++◌, ◌∷◌, Bool, refl, sym, ◌∙�
 use Rattle.std.specs.Prelude.{codes}
 use Rattle.redo_html.specs.declared.text_kind.TextKind.TheVariants.{Log}
 use Rattle.redo_html.specs.Passage.Inline.{StyleEnd}
-use Rattle.redo_html.specs.Passage.{has_element, highlight_text, html_from}
+use Rattle.redo_html.specs.Passage.{has_element, highlight_text}
+use Rattle.redo_html.specs.Private.Highlighting.{html_from}
 use Rattle.redo_html.specs.Private.Buffering.{held}
 use Rattle.redo_html.specs.Private.Writing.{optional_highlight}
 use Rattle.redo_html.proofs.BufferLemmas.{flush_failed, flushed_before, puts_as}

@@ -4,7 +4,7 @@ use Rattle.redo_html.specs.declared.look.Look.{Look}
 use Rattle.redo_html.specs.declared.style.Style.{Style}
 use Rattle.redo_html.specs.Lines.{lines_html, style_after_lines}
 use Rattle.redo_html.specs.declared.text_kind.TextKind.TheVariants.{Log}
-use Rattle.redo_html.specs.Passage.{html_from}
+use Rattle.redo_html.specs.Private.Highlighting.{html_from}
 use Rattle.redo_html.specs.Private.Buffering.{held, html_left}
 use Rattle.redo_html.specs.Private.Writing.{WroteUpTo}
 use Rattle.redo_html.proofs.LineBuffering.{all_wrote, last_left, lines_failed_as, line_complete, line_failed, line_style, line_wrote, start_left, step_bounds, step_complete, step_failed, step_style, step_wrote}

@@ -2,7 +2,8 @@ use Rattle.std.proofs.Common.{◌≡◌, ◌++◌, false, List, ℕ, drop, ap, s
 use Rattle.std.specs.Prelude.{slice_index, ◌==◌, ◌||◌, true}
 use Rattle.std.specs.List.{flat_map}
 use Rattle.redo_html.specs.declared.text_kind.TextKind.TheVariants.{Log}
-use Rattle.redo_html.specs.Passage.{inline_html, highlights_between, escaped_byte, after_code_point, html_from}
+use Rattle.redo_html.specs.Passage.{inline_html, escaped_byte}
+use Rattle.redo_html.specs.Private.Highlighting.{highlights_between, after_code_point, html_from}
 use Rattle.redo_html.specs.Private.Buffering.{held}
 use Rattle.redo_html.specs.Private.Writing.{style_in}
 use Rattle.redo_html.proofs.BufferLemmas.{change_failed, part_failed, both_put}

@@ -1,7 +1,8 @@
 use Rattle.std.proofs.Common.{◌++◌, false, List, ℕ, take, drop, ap, sym, ◌∙◌}
 use Rattle.std.specs.List.{flat_map}
 use Rattle.redo_html.specs.declared.text_kind.TextKind.TheVariants.{Log}
-use Rattle.redo_html.specs.Passage.{inline_html, highlights_between, after_code_point, html_from}
+use Rattle.redo_html.specs.Passage.{inline_html}
+use Rattle.redo_html.specs.Private.Highlighting.{highlights_between, after_code_point, html_from}
 use Rattle.redo_html.specs.Private.Buffering.{held}
 use Rattle.redo_html.proofs.BufferLemmas.{change_failed, part_failed, both_put}
 use Rattle.redo_html.proofs.VerbatimLemmas.{verbatim_step, verbatim_style}
