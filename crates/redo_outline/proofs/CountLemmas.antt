@@ -1,7 +1,7 @@
 -- The counts of nodes: of the entries of their logs, and of their children.
 use Rattle.std.proofs.Common.{◌≡◌, ℕ, zero, suc, ◌+◌, ◌<◌, ◌≤◌, Bool, true, false, List, [], ◌∷◌, ◌++◌, Option, None, Some, ℤ, length, refl, sym, ap, ap₂, subst, ◌∙◌, arith, append_assoc}
 use Rattle.std.specs.Prelude.{◌==◌, slice_get, if◌then◌else◌}
-use Rattle.std.specs.List.{AllByRecursion, count_by, filter_map, sum_by}
+use Rattle.std.specs.List.{AllByRecursion, count_by, sum_by}
 use Rattle.std.proofs.lemmas.Bool.{eq-eqb, ne_eqb}
 use Rattle.std.proofs.lemmas.List.{append-nil}
 use Rattle.std.proofs.lemmas.List.Sums.{sum_by-append, sum_by-cons}
@@ -13,7 +13,7 @@ use Rattle.redo_outline.specs.declared.node.Node.{Node}
 use Rattle.redo_outline.specs.Contents.{Contents}
 use Rattle.redo_outline.specs.Contents.Contents.{Nothing, Shown, Opened}
 use Rattle.redo_outline.specs.Facts.{entries_at, is_number, is_warning, saturated, texts_of}
-use Rattle.redo_outline.specs.Laws.{AllCountChildren, CountsEntries, CountsLog, counted, is_child_of}
+use Rattle.redo_outline.specs.Laws.{AllCountChildren, CountsLog, counted, is_child_of}
 use Rattle.redo_outline.specs.Outline.{child_count, log_count, node_of, nodes_of}
 
 -- ---- entries

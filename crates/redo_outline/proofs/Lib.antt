@@ -13,3 +13,4 @@ mod SweepLemmas
 mod TreeLemmas
 mod WarningLemmas
 pub mod Nodes
+pub mod OnlyTree

@@ -10,7 +10,7 @@ use Rattle.redo_view.specs.Event.Event.{LogEnds}
 use Rattle.redo_view.specs.Expansion.{shown_events}
 use Rattle.redo_view.specs.View.{find_unknown}
 use Rattle.redo_outline.specs.declared.node.Node.{Node}
-use Rattle.redo_outline.specs.Contents.{Contents, contents_of}
+use Rattle.redo_outline.specs.Contents.{Contents, contents_of, opened_number}
 use Rattle.redo_outline.specs.Contents.Contents.{Nothing, Shown, Opened}
 use Rattle.redo_outline.specs.Facts.{is_failure, is_number, is_warning, saturated}
 
@@ -24,6 +24,27 @@ events_of depth (Opened event number inside rest) = event ∷ (events_of (depth 
 abbrev pub AreInContents : List Log → Options → List (List ℕ) → Type 0
 AreInContents logs options requested = find_unknown logs requested ≡ None
     → events_of 0 (contents_of (shown_events logs options requested)) ≡ shown_events logs options requested
+
+-- Whether an event neither opens a log nor ends one.
+abbrev pub IsPlain : Event → Type 0
+IsPlain (LogEnds depth) = ⊥
+IsPlain event = opened_number event ≡ None
+
+-- Each event that opens a log has the contents of this log. No other event has contents, and none ends a log.
+abbrev pub OpensItsLogs : Contents → Type 0
+OpensItsLogs Nothing = Unit {0}
+OpensItsLogs (Shown event rest) = IsPlain event × OpensItsLogs rest
+OpensItsLogs (Opened event number inside rest) = (opened_number event ≡ Some number) × (OpensItsLogs inside × OpensItsLogs rest)
+
+-- These contents are the tree of these events: they have exactly these, in order. A log contains what is between its opening and its end.
+pub record IsTreeOf (events : List Event) (contents : Contents) : Type 0 where
+  pub has_events : events_of 0 contents ≡ events
+  pub opens_logs : OpensItsLogs contents
+
+-- What `contents_of` makes of the shown events is their tree, if each requested target has a log.
+abbrev pub HaveTree : List Log → Options → List (List ℕ) → Type 0
+HaveTree logs options requested = find_unknown logs requested ≡ None
+    → IsTreeOf (shown_events logs options requested) (contents_of (shown_events logs options requested))
 
 -- Whether the target of a node failed.
 abbrev pub is_failed : Node → Bool

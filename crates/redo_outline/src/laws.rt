@@ -1,9 +1,10 @@
 //! Laws about the definitions alone: their contracts are theorems, and their bodies are empty.
-ghost use Rattle.std.specs.Prelude.{ℕ, List};
+ghost use Rattle.std.specs.Prelude.{◌≡◌, ℕ, List};
 ghost use Rattle.std.specs.List.{AllByRecursion};
 ghost use Rattle.redo_logs.specs.Logs.{Log};
 ghost use Rattle.redo_options.specs.declared.options.Options.{Options};
-ghost use Rattle.redo_outline.specs.Laws.{AllCountChildren, AllSumUp, AreInContents, CountsLog};
+ghost use Rattle.redo_outline.specs.Contents.{Contents, contents_of};
+ghost use Rattle.redo_outline.specs.Laws.{AllCountChildren, AllSumUp, AreInContents, CountsLog, HaveTree, IsTreeOf};
 ghost use Rattle.redo_outline.specs.Outline.{outline_of};
 ghost use Rattle.redo_view.specs.Event.{Event};
 
@@ -14,6 +15,14 @@ pub fn events_are_in_contents()
     ensures { (logs : List Log) (options : Options) (requested : List (List ℕ)) → AreInContents logs options requested }
 {
     logs_nest();
+}
+
+/// Shown events have a tree, if each requested target has a log. Any events have at most this one.
+pub fn tree_is_unique()
+    ensures exists { (logs : List Log) (options : Options) (requested : List (List ℕ)) → HaveTree logs options requested }
+    ensures only { (events : List Event) (contents : Contents) → IsTreeOf events contents → contents ≡ contents_of events }
+{
+    events_are_in_contents();
 }
 
 /// Each node says how many logs are below it, whether a target failed there, and how many warnings are there. If a target failed there,

@@ -6,8 +6,8 @@
 //!
 //! # Terms
 //!
-//! - *Contents*: the shown events, as a tree. `specs/Contents.antt` makes this tree of events; a law says that it has each event, in
-//!   order.
+//! - *Contents*: the shown events, as a tree. `specs/Contents.antt` makes this tree of events. A law says what the tree of events is
+//!   (`IsTreeOf`), and that they have no other.
 //! - *Node*: the facts about a log that is opened. Its *position* is the number of nodes before it.
 //! - *Silent*: a target that printed nothing and didn't fail, and so each target below it.
 #![tactic(auto)]
@@ -23,6 +23,7 @@ mod sweep;
 pub use facts::target_at;
 pub use laws::{
     events_are_in_contents, nodes_count_children, nodes_count_logs, nodes_sum_up_logs_below,
+    tree_is_unique,
 };
 pub use node::{Node, RunTimes};
 pub use outline::Outline;

@@ -1,16 +1,16 @@
 -- Trimmed events, and the tree that they make.
-use Rattle.std.proofs.Common.{◌≡◌, ℕ, suc, ◌+◌, List, [], ◌∷◌, ◌++◌, Option, None, Some, refl, sym, ◌∙◌, ap}
-use Rattle.std.specs.Prelude.{⊤}
+use Rattle.std.proofs.Common.{◌≡◌, ℕ, suc, ◌+◌, List, [], ◌∷◌, ◌++◌, Some, refl, sym, ◌∙◌, ap}
 use Rattle.std.specs.List.{AllByRecursion}
 use Rattle.std.proofs.lemmas.List.{append_assoc, append-nil}
 use Rattle.std.proofs.lemmas.Option.{none-some}
 use Rattle.redo_line.specs.declared.entry.Entry.TheVariants.{Text, Mention, Done, Closing, Note}
 use Rattle.redo_view.specs.Event.{Event}
 use Rattle.redo_view.specs.Event.Event.{Requested, Mentioned, EntryShown, LogEnds}
-use Rattle.redo_outline.specs.Contents.{Contents, contents_from, contents_of, innermost, number_of_opening, opened_number, with_event, with_first}
+use Rattle.redo_outline.specs.Contents.{Contents, contents_of, opened_number}
 use Rattle.redo_outline.specs.Contents.Contents.{Nothing, Shown, Opened}
-use Rattle.redo_outline.specs.Laws.{events_of}
+use Rattle.redo_outline.specs.Laws.{IsPlain, OpensItsLogs, events_of}
 use Rattle.redo_outline.specs.Outline.{log_count}
+use Rattle.redo_outline.proofs.OnlyTree.{opens_logs, same_contents}
 use Rattle.redo_trim.specs.declared.limit.Gauge.{Gauge}
 use Rattle.redo_trim.specs.declared.limit.Limit.{Limit}
 use Rattle.redo_trim.specs.declared.limit.Showing.{Showing}
@@ -19,89 +19,12 @@ use Rattle.redo_trim.specs.Laws.{AreInTree}
 use Rattle.redo_trim.specs.Trim.{after_end, after_shown, gauge_of, gauges_after, kept, line_shown, line_size, showing_in, trim, trimmed, with_opened, with_shown_all, with_text}
 use Rattle.redo_trim.specs.Trim as trim
 
--- ---- trees of events
-
--- Whether an event neither opens a log nor ends one.
-abbrev IsPlain : Event → Type 0
-IsPlain (LogEnds depth) = ⊥
-IsPlain event = opened_number event ≡ None
-
--- Whether the events in some contents are where such events belong.
-abbrev IsProper : Contents → Type 0
-IsProper Nothing = ⊤
-IsProper (Shown event rest) = IsPlain event × IsProper rest
-IsProper (Opened event number inside rest) = (opened_number event ≡ Some number) × (IsProper inside × IsProper rest)
-
-first_proper : (event : Event) (number : Option ℕ) (contents : List Contents) → (number ≡ None → IsPlain event)
-    → ((n : ℕ) → number ≡ Some n → opened_number event ≡ Some n)
-    → AllByRecursion IsProper contents → AllByRecursion IsProper (with_first event number contents)
-first_proper event None [] plain opens are = tt
-first_proper event None (inner ∷ outer) plain opens are = ((plain refl, are.0), are.1)
-first_proper event (Some n) [] plain opens are = tt
-first_proper event (Some n) (inner ∷ []) plain opens are = ((opens n refl, (are.0, tt)), tt)
-first_proper event (Some n) (inner ∷ next ∷ outer) plain opens are = ((opens n refl, (are.0, are.1.0)), are.1.1)
-
-event_proper : (event : Event) (contents : List Contents) → AllByRecursion IsProper contents
-    → AllByRecursion IsProper (with_event event contents)
-event_proper (Requested name opening) contents are =
-    first_proper (Requested name opening) (number_of_opening opening) contents (λ is. is) (λ n is. is) are
-event_proper (Mentioned depth pid how name opening) contents are =
-    first_proper (Mentioned depth pid how name opening) (number_of_opening opening) contents (λ is. is) (λ n is. is) are
-event_proper (EntryShown depth entry) contents are = first_proper (EntryShown depth entry) None contents (λ is. is) (λ n is. is) are
-event_proper (LogEnds depth) contents are = (tt, are)
-
-all_proper : (events : List Event) → AllByRecursion IsProper (contents_from events)
-all_proper [] = (tt, tt)
-all_proper (event ∷ events) = event_proper event (contents_from events) (all_proper events)
-
-innermost_proper : (contents : List Contents) → AllByRecursion IsProper contents → IsProper (innermost contents)
-innermost_proper [] are = tt
-innermost_proper (inner ∷ outer) are = are.0
-
-proper : (events : List Event) → IsProper (contents_of events)
-proper events = innermost_proper (contents_from events) (all_proper events)
-
--- ---- the tree of a tree's events
-
-plain_first : (event : Event) (inner : Contents) (outer : List Contents) → IsPlain event
-    → with_event event (inner ∷ outer) ≡ Shown event inner ∷ outer
-plain_first (Requested name opening) inner outer plain = ap (λ n. with_first (Requested name opening) n (inner ∷ outer)) plain
-plain_first (Mentioned depth pid how name opening) inner outer plain =
-    ap (λ n. with_first (Mentioned depth pid how name opening) n (inner ∷ outer)) plain
-plain_first (EntryShown depth entry) inner outer plain = refl
-plain_first (LogEnds depth) inner outer plain = absurd plain
-
-opened_first : (event : Event) (number : ℕ) (inside rest : Contents) (outer : List Contents) → opened_number event ≡ Some number
-    → with_event event (inside ∷ rest ∷ outer) ≡ Opened event number inside rest ∷ outer
-opened_first (Requested name opening) number inside rest outer opens =
-    ap (λ n. with_first (Requested name opening) n (inside ∷ rest ∷ outer)) opens
-opened_first (Mentioned depth pid how name opening) number inside rest outer opens =
-    ap (λ n. with_first (Mentioned depth pid how name opening) n (inside ∷ rest ∷ outer)) opens
-opened_first (EntryShown depth entry) number inside rest outer opens = absurd (none-some number opens)
-opened_first (LogEnds depth) number inside rest outer opens = absurd (none-some number opens)
-
-contents_again : (contents : Contents) → IsProper contents → (depth : ℕ) (events : List Event) (outer : List Contents)
-    → contents_from events ≡ Nothing ∷ outer → contents_from (events_of depth contents ++ events) ≡ contents ∷ outer
-contents_again Nothing are depth events outer is = is
-contents_again (Shown event rest) are depth events outer is =
-    ap (with_event event) (contents_again rest are.1 depth events outer is) ∙ plain_first event rest outer are.0
-contents_again (Opened event number inside rest) are depth events outer is =
-    let after = contents_again rest are.1.1 depth events outer is in
-    ap (λ es. contents_from (event ∷ es)) (append_assoc (events_of (depth + 1) inside) (LogEnds (depth + 1) ∷ events_of depth rest) events)
-    ∙ ap (with_event event) (contents_again inside are.1.0 (depth + 1) (LogEnds (depth + 1) ∷ (events_of depth rest ++ events))
-    (rest ∷ outer) (ap (λ cs. Nothing ∷ cs) after))
-    ∙ opened_first event number inside rest outer are.0
-
-same_contents : (contents : Contents) → IsProper contents → contents_of (events_of 0 contents) ≡ contents
-same_contents contents are =
-    ap contents_of (sym (append-nil (events_of 0 contents))) ∙ ap innermost (contents_again contents are 0 [] [] refl)
-
 -- ---- trimmed contents
 
-shown_proper : (events : List Event) (rest : Contents) → AllByRecursion IsPlain events → IsProper rest
-    → IsProper (with_shown_all events rest)
-shown_proper [] rest plain are = are
-shown_proper (event ∷ events) rest plain are = (plain.0, shown_proper events rest plain.1 are)
+shown_opens : (events : List Event) (rest : Contents) → AllByRecursion IsPlain events → OpensItsLogs rest
+    → OpensItsLogs (with_shown_all events rest)
+shown_opens [] rest plain are = are
+shown_opens (event ∷ events) rest plain are = (plain.0, shown_opens events rest plain.1 are)
 
 line_plain : (showing : Showing) (depth : ℕ) (line : List ℕ) → AllByRecursion IsPlain (line_shown showing depth line)
 line_plain showing.Whole depth line = (refl, tt)
@@ -148,13 +71,13 @@ count_shown [] rest = refl
 count_shown (event ∷ events) rest = count_shown events rest
 
 module _ (limits : List Limit) where
-  trim_proper : (contents : Contents) (gauges : List Gauge) → IsProper contents → IsProper (trim limits gauges contents)
-  trim_proper Nothing gauges are = tt
-  trim_proper (Shown event rest) gauges are =
-      shown_proper (kept gauges event) (trim limits (after_shown event gauges) rest) (kept_plain gauges event are.0)
-      (trim_proper rest (after_shown event gauges) are.1)
-  trim_proper (Opened event number inside rest) gauges are =
-      (are.0, (trim_proper inside (gauge_of limits number ∷ gauges) are.1.0, trim_proper rest gauges are.1.1))
+  trim_opens : (contents : Contents) (gauges : List Gauge) → OpensItsLogs contents → OpensItsLogs (trim limits gauges contents)
+  trim_opens Nothing gauges are = tt
+  trim_opens (Shown event rest) gauges are =
+      shown_opens (kept gauges event) (trim limits (after_shown event gauges) rest) (kept_plain gauges event are.0)
+      (trim_opens rest (after_shown event gauges) are.1)
+  trim_opens (Opened event number inside rest) gauges are =
+      (are.0, (trim_opens inside (gauge_of limits number ∷ gauges) are.1.0, trim_opens rest gauges are.1.1))
 
   pub trim_count : (contents : Contents) (gauges : List Gauge) → log_count (trim limits gauges contents) ≡ log_count contents
   trim_count Nothing gauges = refl
@@ -188,7 +111,7 @@ module _ (limits : List Limit) where
   through_end (Shown event rest) gauges = through_end rest (after_shown event gauges) ∙ shown_end event gauges
   through_end (Opened event number inside rest) gauges = through_end rest gauges
 
-  trimmed_from : (contents : Contents) → IsProper contents → (depth : ℕ) (gauges : List Gauge) (events : List Event)
+  trimmed_from : (contents : Contents) → OpensItsLogs contents → (depth : ℕ) (gauges : List Gauge) (events : List Event)
       → trimmed limits gauges (events_of depth contents ++ events)
       ≡ events_of depth (trim limits gauges contents) ++ trimmed limits (through gauges contents) events
   trimmed_from Nothing are depth gauges events = refl
@@ -213,18 +136,19 @@ module _ (limits : List Limit) where
       ∙ ap (λ es. event ∷ es) (sym (append_assoc (events_of (depth + 1) (trim limits inner inside))
       (end ∷ events_of depth (trim limits gauges rest)) left))
 
-  trimmed_all : (contents : Contents) → IsProper contents → trimmed limits [] (events_of 0 contents) ≡ events_of 0 (trim limits [] contents)
+  trimmed_all : (contents : Contents) → OpensItsLogs contents
+      → trimmed limits [] (events_of 0 contents) ≡ events_of 0 (trim limits [] contents)
   trimmed_all contents are =
       ap (trimmed limits []) (sym (append-nil (events_of 0 contents))) ∙ trimmed_from contents are 0 [] []
       ∙ append-nil (events_of 0 (trim limits [] contents))
 
   module _ (events : List Event) (same : AreInTree events) where
     trimmed_is : trimmed limits [] events ≡ events_of 0 (trim limits [] (contents_of events))
-    trimmed_is = ap (trimmed limits []) (sym same) ∙ trimmed_all (contents_of events) (proper events)
+    trimmed_is = ap (trimmed limits []) (sym same) ∙ trimmed_all (contents_of events) (opens_logs events)
 
     pub tree_trimmed : contents_of (trimmed limits [] events) ≡ trim limits [] (contents_of events)
     tree_trimmed = ap contents_of trimmed_is
-        ∙ same_contents (trim limits [] (contents_of events)) (trim_proper (contents_of events) [] (proper events))
+        ∙ same_contents (trim limits [] (contents_of events)) (trim_opens (contents_of events) [] (opens_logs events))
 
     pub stays_in_tree : AreInTree (trimmed limits [] events)
     stays_in_tree = ap (events_of 0) tree_trimmed ∙ sym trimmed_is
