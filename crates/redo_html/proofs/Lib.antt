@@ -26,6 +26,7 @@ mod PartReading
 mod PassageGroups
 mod PassageLemmas
 mod PassageWriting
+mod PrintableLemmas
 mod NotationLemmas
 mod Reading
 mod RepeatLemmas

@@ -1,14 +1,16 @@
 -- Rows of texts: the kind, the bytes, and the shown or written text. An independent program in Python computed the values.
-use Rattle.std.proofs.Common.{◌≡◌, ℕ, List, [], ◌∷◌, ◌++◌, refl}
+use Rattle.std.proofs.Common.{◌≡◌, ℕ, true, false, List, [], ◌∷◌, ◌++◌, refl}
 use Rattle.std.specs.Char.{encode_utf8}
 use Rattle.std.specs.Prelude.{codes}
 use Rattle.std.specs.Fmt.{digits}
-use Rattle.std.specs.List.{AllByRecursion}
+use Rattle.std.specs.List.{AllByRecursion, filter, range_with_len}
 use Rattle.redo_html.specs.declared.text_kind.TextKind.{TextKind}
 use Rattle.redo_html.specs.declared.text_kind.TextKind.TheVariants.{Log, Monochrome, Title}
 use Rattle.redo_html.specs.Passage.{passage_html}
-use Rattle.redo_html.specs.Shown.{is_unprintable, notation, number_text, unprintable_text, shown_text}
+use Rattle.redo_html.specs.Laws.{is_printable_ascii}
+use Rattle.redo_html.specs.Shown.{is_printable, is_unprintable, is_visible, notation, number_text, unprintable_text, shown_text}
 use Rattle.redo_html.specs.Style.{plain_style}
+use Rattle.redo_html.specs.Symbols.Symbol.{Sequence}
 use Rattle.redo_html.specs.Symbols.{first_code_point, code_point_len, sequence_len, sequence_numbers, is_sequence, first_symbol, symbol_len, symbols_after}
 
 record Row : Type 0 where
@@ -193,3 +195,17 @@ written_are = (
     ),
   ),
 )
+
+-- Names that are shown unchanged: the empty one, ASCII with a tab, letters of two and three bytes, and U+200D. Others have an escape byte, a
+-- byte that is no UTF-8, U+202E or U+00AD.
+printable_are :
+    (is_printable [] ≡ true) × (is_printable (codes "a&<b> \"'\\" ++ 9 ∷ codes "~") ≡ true)
+    × (is_printable (0xC3 ∷ 0xA9 ∷ 0xE6 ∷ 0x97 ∷ 0xA5 ∷ 0xE2 ∷ 0x80 ∷ 0x8D ∷ []) ≡ true)
+    × (is_printable (codes "a" ++ 27 ∷ codes "[m") ≡ false) × (is_printable (codes "a" ++ 0xFF ∷ codes "b") ≡ false)
+    × (is_printable (0xE2 ∷ 0x80 ∷ 0xAE ∷ []) ≡ false) × (is_printable (codes "ab" ++ 0xC2 ∷ 0xAD ∷ []) ≡ false)
+    × (is_visible (Sequence []) ≡ false)
+unfolding is_unprintable symbols_after first_symbol symbol_len is_sequence sequence_len first_code_point code_point_len
+printable_are = (refl, refl, refl, refl, refl, refl, refl, refl)
+
+ascii_is : filter is_printable_ascii (range_with_len 0 256) ≡ range_with_len 32 95
+ascii_is = refl

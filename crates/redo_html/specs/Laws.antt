@@ -40,6 +40,10 @@ pub record IsReadAsShown (kind : TextKind) (style : Style) (bytes : List ℕ) : 
 abbrev pub is_plain : ℕ → Bool
 is_plain byte = (nat_le 32 byte && nat_lt byte 127 && not (byte == 38 || byte == 60 || byte == 62)) || byte == 9 || byte == 10
 
+-- Printable ASCII.
+abbrev pub is_printable_ascii : ℕ → Bool
+is_printable_ascii byte = nat_le 32 byte && nat_lt byte 127
+
 -- A link: `ESC ] 8 ;`, parameters, `;`, a URL, and BEL or `ESC \`. Parameters and URL are printable ASCII without spaces.
 pub record IsLink (link : List ℕ) : Type 0 where
   pub parameters : List ℕ

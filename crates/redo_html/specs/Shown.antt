@@ -1,8 +1,9 @@
 -- The text that a reader sees.
 use Rattle.std.specs.Prelude.{ℕ, suc, ◌+◌, ◌-◌, ◌/◌, ◌%◌, Bool, true, false, ◌==◌, ◌||◌, ◌&&◌, not, nat_le, nat_lt, List, [], ◌∷◌, ◌++◌, codes, decimal, encode_utf8, if◌then◌else◌}
 use Rattle.std.specs.Fmt.{digit_glyph}
-use Rattle.std.specs.List.{flat_map, list_any, repeat}
+use Rattle.std.specs.List.{flat_map, list_all, list_any, repeat}
 use Rattle.redo_html.specs.declared.text_kind.TextKind.{TextKind}
+use Rattle.redo_html.specs.declared.text_kind.TextKind.TheVariants.{Monochrome}
 use Rattle.redo_html.specs.Symbols.{Symbol, symbols}
 use Rattle.redo_html.specs.Symbols.Symbol.{CodePoint, Sequence}
 
@@ -95,3 +96,12 @@ run_text (Restyle numbers) = []
 -- The text that a reader sees of another one.
 abbrev pub shown_text : TextKind → List ℕ → List ℕ
 shown_text kind bytes = flat_map run_text (runs_of (symbols kind bytes))
+
+-- Whether a reader sees a symbol of a name as it is.
+abbrev pub is_visible : Symbol → Bool
+is_visible (CodePoint code_point) = not (is_unprintable code_point)
+is_visible (Sequence numbers) = false
+
+-- Whether no notation is shown in a name, instead of one of its characters.
+abbrev pub is_printable : List ℕ → Bool
+is_printable name = list_all is_visible (symbols Monochrome name)

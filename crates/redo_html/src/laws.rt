@@ -3,18 +3,18 @@ ghost use Rattle.std.specs.Prelude.{◌≡◌, ◌++◌, ◌<◌, ℕ, true, [],
 ghost use Rattle.std.specs.List.{flat_map, list_all};
 ghost use Rattle.redo_line.specs.Lines.{with_line_feed};
 ghost use Rattle.redo_html.specs.declared.text_kind.TextKind.{TextKind};
-ghost use Rattle.redo_html.specs.declared.text_kind.TextKind.TheVariants.{Log, Title};
+ghost use Rattle.redo_html.specs.declared.text_kind.TextKind.TheVariants.{Log, Monochrome, Title};
 ghost use Rattle.redo_html.specs.declared.markup.Markup.TheVariants.{Article, OutputLink, TargetItem, TargetLink};
 ghost use Rattle.redo_html.specs.declared.style.Style.{Style};
 ghost use Rattle.redo_html.specs.Style.{plain_style};
 ghost use Rattle.redo_html.specs.Passage.{passage_html, passage_tokens};
 ghost use Rattle.redo_html.specs.Chart.{Drawing};
 ghost use Rattle.redo_html.specs.Html.{nests_in, text_of, tags_of};
-ghost use Rattle.redo_html.specs.Laws.{HasOwnId, IsLink, LeadsTo, ReadsAs, IsReadAsShown, has_bytes, is_byte, is_plain, markup_tag, reworded};
+ghost use Rattle.redo_html.specs.Laws.{HasOwnId, IsLink, LeadsTo, ReadsAs, IsReadAsShown, has_bytes, is_byte, is_plain, is_printable_ascii, markup_tag, reworded};
 ghost use Rattle.redo_html.specs.Lines.{is_no_escape, line_parts, lines_html, style_after, style_after_lines};
 ghost use Rattle.redo_html.specs.Parts.{Part, part_html, part_tokens, part_text};
 ghost use Rattle.redo_html.specs.Parts.Part.{ChartPart};
-ghost use Rattle.redo_html.specs.Shown.{shown_text};
+ghost use Rattle.redo_html.specs.Shown.{is_printable, shown_text};
 ghost use Rattle.redo_html.specs.StyleSheet.{HidesNothing, LoadsNothing, style_sheet};
 
 /// All bytes, with any style at their start, are read as the text that is shown. The only tags among them are highlights, which nest.
@@ -31,6 +31,12 @@ pub fn titles_have_no_tags()
 pub fn plain_text_is_unchanged()
     ensures shown { (kind : TextKind) (bytes : List ℕ) → list_all is_plain bytes ≡ true → shown_text kind bytes ≡ bytes }
     ensures written { (kind : TextKind) (bytes : List ℕ) → list_all is_plain bytes ≡ true → passage_html kind plain_style bytes ≡ bytes }
+{}
+
+/// A name is shown unchanged if no notation is shown in it. Printable ASCII has none.
+pub fn printable_names_are_unchanged()
+    ensures shown { (name : List ℕ) → list_all is_byte name ≡ true → is_printable name ≡ true → shown_text Monochrome name ≡ name }
+    ensures ascii { (name : List ℕ) → list_all is_printable_ascii name ≡ true → is_printable name ≡ true }
 {}
 
 /// A link before any bytes shows nothing and leaves the style unchanged.

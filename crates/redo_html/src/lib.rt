@@ -78,6 +78,7 @@ mod markup;
 mod notation;
 mod passage;
 mod piece;
+mod printable;
 mod stride;
 mod style;
 mod style_sheet;
@@ -91,11 +92,12 @@ pub use laws::{
     charts_have_no_text_in_tags, html_is_utf8, lines_show_their_text, links_lead_to_their_numbers,
     links_show_nothing, only_markup_decides_nesting, parts_are_read, parts_show_their_text,
     passages_are_read_as_shown, plain_lines_are_one_text, plain_text_is_unchanged,
-    style_sheet_is_harmless, titles_have_no_tags,
+    printable_names_are_unchanged, style_sheet_is_harmless, titles_have_no_tags,
 };
 pub use lines::write_log_lines;
 pub use markup::{Markup, write_markup, write_number};
 pub use passage::{write_log_text, write_text, write_title_text};
 pub use piece::{Piece, write_pieces};
+pub use printable::is_printable;
 pub use style::{Hue, Style};
 pub use symbol::{ESCAPE, sequence_size};
