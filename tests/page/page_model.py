@@ -621,14 +621,25 @@ class Page:
             self.put(b'<p class="meta">', began + b" \xc2\xb7 " if began else b"", b"took ", duration(self.timing.took), b"</p>")
 
     def command(self):
+        """The command that shows the same as text. If the page highlights a character of it, words that aren't ASCII are in octal."""
+        command = self.command_with(quoted)
+        return self.command_with(quoted_in_ascii) if b"<i>" in name_html(command) else command
+
+    def command_with(self, quote):
         flags = b" -u" * self.build.unchanged + b" --debug-locks" * self.build.debug_locks
         # A name with a dash at its start would be an option. A shell joins `./` to the quoted name.
-        words = [(b"./" if name.startswith(b"-") else b"") + quoted(name) for name in self.requested]
-        return b"redo-log -r" + flags + b" --dir=" + quoted(self.directory) + b"".join(b" " + word for word in words)
+        words = [(b"./" if name.startswith(b"-") else b"") + quote(name) for name in self.requested]
+        return b"redo-log -r" + flags + b" --dir=" + quote(self.directory) + b"".join(b" " + word for word in words)
 
 
 def quoted(word):
     return word if re.fullmatch(rb"[a-zA-Z0-9@%+,./:=_-]+", word) else b"'" + word.replace(b"'", b"'\\''") + b"'"
+
+
+def quoted_in_ascii(word):
+    if re.fullmatch(rb"[ -~]*", word):
+        return quoted(word)
+    return b"\"$(printf '" + re.sub(rb"[^a-zA-Z0-9@+,./:=_]", lambda byte: b"\\%03o" % ord(byte[0]), word, flags=re.S) + b"')\""
 
 
 ERROR = re.compile(rb"(?<![A-Za-z0-9_])(?:(?i:error|undefined reference|no such file|fatal|not found|cannot)|FAIL|FAILED)(?![A-Za-z0-9_])")

@@ -2,9 +2,10 @@
 use Rattle.std.proofs.Common.{◌≡◌, ℕ, Bool, true, false, List, [], ◌∷◌, ◌++◌, Option, None, Some, ℤ, pos, replicate, refl}
 use Rattle.std.specs.Char.{encode_utf8}
 use Rattle.std.specs.Fmt.{digits}
-use Rattle.std.specs.List.{AllByRecursion, filter, range_with_len}
-use Rattle.std.specs.Prelude.{codes}
-use Rattle.redo_html.specs.Shown.{number_text}
+use Rattle.std.specs.List.{AllByRecursion, filter, flat_map, range_with_len}
+use Rattle.std.specs.Prelude.{◌==◌, codes, length}
+use Rattle.redo_html.specs.Shown.{is_unprintable, number_text}
+use Rattle.redo_html.specs.Symbols.{code_point_len, first_code_point, first_symbol, is_sequence, symbol_len, symbols_after}
 use Rattle.redo_html.specs.declared.markup.Markup.{Markup}
 use Rattle.redo_html.specs.declared.markup.Markup.TheVariants as markup
 use Rattle.redo_html.specs.Parts.{Part}
@@ -18,7 +19,7 @@ use Rattle.redo_summary.specs.Summary.{Facts}
 use Rattle.redo_timeline.specs.declared.span.Window.{Window}
 use Rattle.redo_units.specs.Dates as dates
 use Rattle.redo_units.specs.Durations.{duration_words}
-use Rattle.redo_page.specs.Command.{argument, command, is_safe, quoted}
+use Rattle.redo_page.specs.Command.{argument, command, format_byte, is_safe, octal, quoted}
 use Rattle.redo_page.specs.Frame.{footer_parts, head_parts, header_parts}
 use Rattle.redo_page.specs.NewSection.{no_news}
 use Rattle.redo_page.specs.Page.{build_view}
@@ -204,7 +205,7 @@ compared_links_are = refl
 
 -- A shell changes no other byte: these are the ones that Python's `shlex.quote` leaves alone.
 safe_are : filter is_safe (range_with_len 0 256) ≡ codes "%+,-./0123456789:=@ABCDEFGHIJKLMNOPQRSTUVWXYZ_abcdefghijklmnopqrstuvwxyz"
-unfolding is_safe
+unfolding is_safe symbols_after first_symbol symbol_len is_sequence first_code_point code_point_len is_unprintable
 safe_are = refl
 
 -- A word, and how a shell is given it.
@@ -219,14 +220,33 @@ abbrev quotes : List Word
 quotes = word (codes "out/a-1.o") (codes "out/a-1.o") ∷ word [] (codes "''") ∷ word (codes "a b") (codes "'a b'")
     ∷ word (codes "a'b") (codes "'a'\\''b'") ∷ word (codes "$a") (codes "'$a'") ∷ []
 
-words_are : AllByRecursion (λ row. quoted row.word ≡ row.quoted) quotes
-unfolding is_safe
+words_are : AllByRecursion (λ row. quoted false row.word ≡ row.quoted) quotes
+unfolding is_safe symbols_after first_symbol symbol_len is_sequence first_code_point code_point_len is_unprintable
 words_are = (refl, (refl, (refl, (refl, (refl, tt)))))
 
-arguments_are : (argument (codes "a") ≡ codes " a") × (argument (codes "-r") ≡ codes " ./-r") × (argument (codes "- ") ≡ codes " ./'- '")
-    × (argument (codes "a-") ≡ codes " a-")
+-- In the format of `printf`, these bytes are themselves, and the others have three octal digits.
+formats_are :
+    (filter (λ byte. length (format_byte byte) == 1) (range_with_len 0 256)
+    ≡ codes "+,./0123456789:=@ABCDEFGHIJKLMNOPQRSTUVWXYZ_abcdefghijklmnopqrstuvwxyz")
+    × (length (flat_map format_byte (range_with_len 0 256)) ≡ 814)
+    × (octal 0 ≡ codes "\\000") × (octal 7 ≡ codes "\\007") × (octal 27 ≡ codes "\\033") × (octal 64 ≡ codes "\\100") × (octal 255 ≡ codes "\\377")
 unfolding is_safe
-arguments_are = (refl, refl, refl, refl)
+formats_are = (refl, refl, refl, refl, refl, refl, refl)
+
+-- In ASCII alone, a word with other bytes is printed. An `é` is two bytes.
+ascii_words_are :
+    (quoted true (codes "a.o") ≡ codes "a.o") × (quoted true (codes "a b~") ≡ codes "'a b~'")
+    × (quoted true (codes "a1" ++ 27 ∷ codes "b") ≡ codes "\"$(printf 'a1\\033b')\"")
+    × (quoted true (0xC3 ∷ 0xA9 ∷ codes "-%'") ≡ codes "\"$(printf '\\303\\251\\055\\045\\047')\"")
+    × (quoted true (codes "a" ++ 127 ∷ []) ≡ codes "\"$(printf 'a\\177')\"") × (quoted false (97 ∷ 27 ∷ []) ≡ 39 ∷ 97 ∷ 27 ∷ 39 ∷ [])
+unfolding is_safe
+ascii_words_are = (refl, refl, refl, refl, refl, refl)
+
+arguments_are :
+    (argument false (codes "a") ≡ codes " a") × (argument false (codes "-r") ≡ codes " ./-r") × (argument false (codes "- ") ≡ codes " ./'- '")
+    × (argument false (codes "a-") ≡ codes " a-") × (argument true (45 ∷ 27 ∷ []) ≡ codes " ./\"$(printf '\\055\\033')\"")
+unfolding is_safe
+arguments_are = (refl, refl, refl, refl, refl)
 
 abbrev options : Bool → Bool → Options
 options unchanged locks = record { recursive = true; unchanged = unchanged; details = true; debug_locks = locks; debug_pids = false }
@@ -236,8 +256,18 @@ commands_are :
     × (command (codes "d e") (options true false) (codes "a" ∷ []) ≡ codes "redo-log -r -u --dir='d e' a")
     × (command (codes "d") (options false true) [] ≡ codes "redo-log -r --debug-locks --dir=d")
     × (command (codes "d") (options true true) [] ≡ codes "redo-log -r -u --debug-locks --dir=d")
-unfolding is_safe
+unfolding is_safe symbols_after first_symbol symbol_len is_sequence first_code_point code_point_len is_unprintable
 commands_are = (refl, refl, refl, refl)
+
+-- A command that is shown unchanged has an `é`. An escape byte, or a character that changes the direction of text (U+202E), would not be.
+printed_commands_are :
+    (command (codes "d e") (options false false) ((0xC3 ∷ 0xA9 ∷ []) ∷ [])
+    ≡ codes "redo-log -r --dir='d e' '" ++ 0xC3 ∷ 0xA9 ∷ codes "'")
+    × (command (codes "d e") (options false true) ((97 ∷ 27 ∷ []) ∷ (0xC3 ∷ 0xA9 ∷ []) ∷ codes "b" ∷ [])
+    ≡ codes "redo-log -r --debug-locks --dir='d e' \"$(printf 'a\\033')\" \"$(printf '\\303\\251')\" b")
+    × (command (0xE2 ∷ 0x80 ∷ 0xAE ∷ []) (options true false) [] ≡ codes "redo-log -r -u --dir=\"$(printf '\\342\\200\\256')\"")
+unfolding is_safe symbols_after first_symbol symbol_len is_sequence first_code_point code_point_len is_unprintable
+printed_commands_are = (refl, refl, refl)
 
 abbrev footer : ℕ → List ℕ → List Part
 footer count logs_in =

@@ -7,9 +7,9 @@ use Rattle.redo_html.specs.Cut.{begins_at}
 use Rattle.redo_html.specs.declared.markup.Markup.TheVariants as markup
 use Rattle.redo_html.specs.Parts.{Part}
 use Rattle.redo_html.specs.Parts.Part.{MarkupPart, LogPart, TextPart, NumberPart}
-use Rattle.redo_html.specs.Shown.{number_text}
+use Rattle.redo_html.specs.Shown.{is_unprintable, number_text}
 use Rattle.redo_html.specs.Style.{plain_style}
-use Rattle.redo_html.specs.Symbols.{is_sequence, code_point_len, sequence_len, symbol_len}
+use Rattle.redo_html.specs.Symbols.{is_sequence, code_point_len, first_code_point, first_symbol, sequence_len, symbol_len, symbols_after}
 use Rattle.redo_line.specs.declared.entry.Entry.TheVariants.{Text}
 use Rattle.redo_logs.specs.declared.log_state.LogState.TheVariants.{Ended}
 use Rattle.redo_logs.specs.Logs.{Log}
@@ -126,7 +126,7 @@ options = record { recursive = true; unchanged = false; details = true; debug_lo
 commands :
     (length (command (codes "d") options (replicate 150 (codes "a"))) ≡ 319)
     × (command (codes "-d") options (codes "a" ∷ []) ≡ codes "redo-log -r --dir=-d a")
-unfolding is_safe
+unfolding is_safe symbols_after first_symbol symbol_len is_sequence first_code_point code_point_len is_unprintable
 commands = (refl, refl)
 
 -- ---- numbers

@@ -2,6 +2,7 @@ mod ArticleLemmas
 mod BudgetLemmas
 mod CauseLemmas
 mod CauseRows
+mod CommandLemmas
 mod ElementLemmas
 mod ErrorLemmas
 mod ErrorRows

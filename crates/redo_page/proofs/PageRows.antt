@@ -405,7 +405,7 @@ made_page :
     ∷ tag (markup.TargetItem 1) ∷ name (codes "b")
     (tag markup.EndItem ∷ tag markup.EndUnordered ∷ tag markup.EndDetails ∷ tag markup.EndItem
     ∷ footer (NumberPart 2 ∷ words (codes " logs in ") ∷ end (codes "redo-log -r --dir=d a"))))))))))
-unfolding page_parts top_parts summary_parts size_words footer_parts failed_parts news_parts is_safe number_text digits show_log show_log_within
+unfolding page_parts top_parts summary_parts size_words footer_parts failed_parts news_parts is_safe number_text digits show_log show_log_within symbols_after first_symbol symbol_len is_sequence first_code_point code_point_len is_unprintable
 made_page = refl
 
 abbrev badge : List Part → List Part
@@ -436,7 +436,7 @@ failed_page :
     ∷ tag markup.NoteItem ∷ tag (markup.OutputLink 0) ∷ words (codes "What it printed is shown above") ∷ tag markup.EndLink
     ∷ tag markup.EndItem ∷ tag markup.EndUnordered ∷ tag markup.EndDetails ∷ tag markup.EndItem
     ∷ footer (NumberPart 1 ∷ words (codes " log in ") ∷ end (codes "redo-log -r -u --debug-locks --dir=d a"))))))))))))))
-unfolding page_parts top_parts summary_parts size_words footer_parts failed_parts news_parts article_parts article_of recipe_parts commands_parts path_parts in_tree_parts output_parts whole_parts begins_with is_safe number_text digits show_log show_log_within
+unfolding page_parts top_parts summary_parts size_words footer_parts failed_parts news_parts article_parts article_of recipe_parts commands_parts path_parts in_tree_parts output_parts whole_parts begins_with is_safe number_text digits show_log show_log_within symbols_after first_symbol symbol_len is_sequence first_code_point code_point_len is_unprintable
 failed_page = refl
 
 -- The parts of these pages in short: where each section begins, the title, the first words, and the command.
@@ -458,14 +458,14 @@ made_milestones :
     flat_map milestone (page_parts (request (codes "t") false false) made (codes "a" ∷ []))
     ≡ markup.Head ∷ markup.Header ∷ markup.Nav ∷ markup.Main ∷ markup.SummarySection ∷ markup.TreeSection ∷ markup.Footer
     ∷ markup.EndHtml ∷ []
-unfolding page_parts top_parts summary_parts size_words footer_parts failed_parts news_parts is_safe number_text digits show_log show_log_within
+unfolding page_parts top_parts summary_parts size_words footer_parts failed_parts news_parts is_safe number_text digits show_log show_log_within symbols_after first_symbol symbol_len is_sequence first_code_point code_point_len is_unprintable
 made_milestones = refl
 
 failed_milestones :
     flat_map milestone (page_parts (request [] true true) failed (codes "a" ∷ []))
     ≡ markup.Head ∷ markup.Header ∷ markup.Nav ∷ markup.Main ∷ markup.FailedSection ∷ markup.SummarySection ∷ markup.TreeSection
     ∷ markup.Footer ∷ markup.EndHtml ∷ []
-unfolding page_parts top_parts summary_parts size_words footer_parts failed_parts news_parts article_parts article_of recipe_parts commands_parts path_parts in_tree_parts output_parts whole_parts begins_with is_safe number_text digits show_log show_log_within
+unfolding page_parts top_parts summary_parts size_words footer_parts failed_parts news_parts article_parts article_of recipe_parts commands_parts path_parts in_tree_parts output_parts whole_parts begins_with is_safe number_text digits show_log show_log_within symbols_after first_symbol symbol_len is_sequence first_code_point code_point_len is_unprintable
 failed_milestones = refl
 
 -- What is new follows what failed.
@@ -474,7 +474,7 @@ compared_milestones :
     (page_parts (record (request [] true true) { baseline = Some earlier }) (log (codes "a") (Closing 9 (pos 2) ∷ []) ∷ []) (codes "a" ∷ []))
     ≡ markup.Head ∷ markup.Header ∷ markup.Nav ∷ markup.Main ∷ markup.FailedSection ∷ markup.NewSection ∷ markup.SummarySection
     ∷ markup.TreeSection ∷ markup.Footer ∷ markup.EndHtml ∷ []
-unfolding page_parts top_parts summary_parts size_words footer_parts failed_parts news_parts article_parts article_of recipe_parts commands_parts path_parts in_tree_parts output_parts nothing_parts is_safe number_text digits show_log show_log_within
+unfolding page_parts top_parts summary_parts size_words footer_parts failed_parts news_parts article_parts article_of recipe_parts commands_parts path_parts in_tree_parts output_parts nothing_parts is_safe number_text digits show_log show_log_within symbols_after first_symbol symbol_len is_sequence first_code_point code_point_len is_unprintable
 compared_milestones = refl
 
 -- Two targets that failed. The second one ended first.
@@ -489,7 +489,7 @@ both_ended = record (request [] false false) { times = begun ∷ ran 17958292110
 failures_in_order :
     (article_ids (page_parts both_ended both_failed (codes "a" ∷ [])) ≡ 2 ∷ 1 ∷ [])
     × (article_links (page_parts both_ended both_failed (codes "a" ∷ [])) ≡ 2 ∷ 1 ∷ [])
-unfolding page_parts top_parts summary_parts size_words tenths_words duration_words dates.date_text_of dates.date_parts dates.period_of footer_parts failed_parts news_parts cause_of_node cause_parts article_parts article_of recipe_parts commands_parts path_parts in_tree_parts output_parts nothing_parts is_safe number_text digits show_log show_log_within
+unfolding page_parts top_parts summary_parts size_words tenths_words duration_words dates.date_text_of dates.date_parts dates.period_of footer_parts failed_parts news_parts cause_of_node cause_parts article_parts article_of recipe_parts commands_parts path_parts in_tree_parts output_parts nothing_parts is_safe number_text digits show_log show_log_within symbols_after first_symbol symbol_len is_sequence first_code_point code_point_len is_unprintable
 failures_in_order = (refl, refl)
 
 -- If most times are known, there is a timeline.
@@ -497,7 +497,7 @@ timed_milestones :
     flat_map milestone (page_parts timed made (codes "a" ∷ []))
     ≡ markup.Head ∷ markup.Header ∷ markup.Nav ∷ markup.Main ∷ markup.SummarySection ∷ markup.TimelineSection ∷ markup.TreeSection
     ∷ markup.Footer ∷ markup.EndHtml ∷ []
-unfolding page_parts top_parts summary_parts size_words tenths_words duration_words dates.date_text_of dates.date_parts dates.period_of footer_parts failed_parts news_parts is_safe number_text digits show_log show_log_within
+unfolding page_parts top_parts summary_parts size_words tenths_words duration_words dates.date_text_of dates.date_parts dates.period_of footer_parts failed_parts news_parts is_safe number_text digits show_log show_log_within symbols_after first_symbol symbol_len is_sequence first_code_point code_point_len is_unprintable
 timed_milestones = refl
 
 -- The timeline is followed by the tree of the contents.
@@ -515,14 +515,14 @@ chart_count part = 0
 charts_are :
     (sum_by chart_count (page_parts timed made (codes "a" ∷ [])) ≡ 1)
     × (sum_by chart_count (page_parts (request [] false false) made (codes "a" ∷ [])) ≡ 0)
-unfolding page_parts top_parts summary_parts size_words tenths_words duration_words dates.date_text_of dates.date_parts dates.period_of footer_parts failed_parts news_parts is_safe number_text digits show_log show_log_within
+unfolding page_parts top_parts summary_parts size_words tenths_words duration_words dates.date_text_of dates.date_parts dates.period_of footer_parts failed_parts news_parts is_safe number_text digits show_log show_log_within symbols_after first_symbol symbol_len is_sequence first_code_point code_point_len is_unprintable
 charts_are = (refl, refl)
 
 -- The tree of a page shows these lines.
 limited_page :
     (length (log_bytes (page_parts (limited 0) long (codes "a" ∷ []))) ≡ 5005)
     × (length (log_bytes (page_parts (limited 1) long (codes "a" ∷ []))) ≡ 4004)
-unfolding page_parts top_parts summary_parts size_words footer_parts failed_parts news_parts is_safe number_text digits show_log show_log_within
+unfolding page_parts top_parts summary_parts size_words footer_parts failed_parts news_parts is_safe number_text digits show_log show_log_within symbols_after first_symbol symbol_len is_sequence first_code_point code_point_len is_unprintable
 limited_page = (refl, refl)
 
 abbrev title_of : Part → List (List ℕ)
@@ -535,25 +535,25 @@ words_of part = []
 
 title_is : flat_map title_of (page_parts (request (codes "t") false false) made (codes "a" ∷ []))
     ≡ (0xE2 ∷ 0x9C ∷ 0x93 ∷ (codes " t " ++ 0xC2 ∷ 0xB7 ∷ codes " 2 targets made, none failed")) ∷ []
-unfolding page_parts top_parts summary_parts size_words footer_parts failed_parts news_parts is_safe number_text digits show_log show_log_within
+unfolding page_parts top_parts summary_parts size_words footer_parts failed_parts news_parts is_safe number_text digits show_log show_log_within symbols_after first_symbol symbol_len is_sequence first_code_point code_point_len is_unprintable
 title_is = refl
 
 made_words :
     take 6 (flat_map words_of (page_parts (request (codes "t") false false) made (codes "a" ∷ [])))
     ≡ (0xE2 ∷ 0x9C ∷ 0x93 ∷ []) ∷ codes " " ∷ codes "2 targets made, none failed" ∷ codes "t" ∷ codes "a" ∷ codes "Summary" ∷ []
-unfolding page_parts top_parts summary_parts size_words footer_parts failed_parts news_parts is_safe number_text digits show_log show_log_within
+unfolding page_parts top_parts summary_parts size_words footer_parts failed_parts news_parts is_safe number_text digits show_log show_log_within symbols_after first_symbol symbol_len is_sequence first_code_point code_point_len is_unprintable
 made_words = refl
 
 failed_words :
     take 3 (flat_map words_of (page_parts (request [] true true) failed (codes "a" ∷ [])))
     ≡ (0xE2 ∷ 0x9C ∷ 0x97 ∷ []) ∷ codes " " ∷ codes "1 of 1 target failed" ∷ []
-unfolding page_parts top_parts summary_parts size_words footer_parts failed_parts news_parts article_parts article_of recipe_parts commands_parts path_parts in_tree_parts output_parts whole_parts is_safe number_text digits show_log show_log_within
+unfolding page_parts top_parts summary_parts size_words footer_parts failed_parts news_parts article_parts article_of recipe_parts commands_parts path_parts in_tree_parts output_parts whole_parts is_safe number_text digits show_log show_log_within symbols_after first_symbol symbol_len is_sequence first_code_point code_point_len is_unprintable
 failed_words = refl
 
 command_is :
     filter (λ text. starts_with nat_eq text (codes "redo-log -r"))
     (flat_map words_of (page_parts (request [] true true) failed (codes "a" ∷ []))) ≡ codes "redo-log -r -u --debug-locks --dir=d a" ∷ []
-unfolding page_parts top_parts summary_parts size_words footer_parts failed_parts news_parts article_parts article_of recipe_parts commands_parts path_parts in_tree_parts output_parts whole_parts begins_with is_safe number_text digits show_log show_log_within
+unfolding page_parts top_parts summary_parts size_words footer_parts failed_parts news_parts article_parts article_of recipe_parts commands_parts path_parts in_tree_parts output_parts whole_parts begins_with is_safe number_text digits show_log show_log_within symbols_after first_symbol symbol_len is_sequence first_code_point code_point_len is_unprintable
 command_is = refl
 
 -- A page has the bytes of its parts.

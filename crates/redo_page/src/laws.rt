@@ -6,15 +6,18 @@ ghost use Rattle.redo_compare.specs.Baseline.{BaselineValue};
 ghost use Rattle.redo_html.specs.Html.{nests_in, read, tags_of, text_of};
 ghost use Rattle.redo_html.specs.declared.markup.Markup.{Markup};
 ghost use Rattle.redo_html.specs.declared.markup.Markup.TheVariants.{DescriptionList, EndDetails, Title1};
-ghost use Rattle.redo_html.specs.Laws.{markup_tag};
+ghost use Rattle.redo_html.specs.declared.text_kind.TextKind.TheVariants.{Monochrome};
+ghost use Rattle.redo_html.specs.Laws.{is_byte, markup_tag};
 ghost use Rattle.redo_html.specs.Parts.{Part, part_text, part_tokens};
 ghost use Rattle.redo_html.specs.Parts.Part.{MarkupPart};
+ghost use Rattle.redo_html.specs.Shown.{shown_text};
 ghost use Rattle.redo_logs.specs.Logs.{Log};
 ghost use Rattle.redo_options.specs.declared.options.Options.{Options};
 ghost use Rattle.redo_view.specs.View.{find_unknown};
 ghost use Rattle.redo_outline.specs.declared.node.Node.{Node};
 ghost use Rattle.redo_outline.specs.Contents.{Contents};
 ghost use Rattle.redo_page.specs.Laws.{AreNewLines, HasMore, ListsNews, news_link, news_shown, AreInOrderOfEnd, ContainRoots, ListsFailures, ShowsRecipe, HaveSameLogs, IsOfTarget, IsOwnTag, IsPartOf, IsRead, IsRed, ShowsItsLines, AreCountable, budget_of_tree, TellsItsTarget, article_ids, article_links, blanked, event_lines, is_among, kept_lines, lines_at, log_bytes, markups, numbers_from, page_article, page_chart, page_lines, page_recipe, page_recipes, page_tree, positioned_bytes, section_ids, section_links, target_ids, target_links, texts_of, unmoved_lines, charts, ChartDraws, HasTimeline, end_shown, first, heading_shown, heading_tag, requested_shown, summary_shown, took_shown, page_limit, says_failed, shows_failure, title_in};
+ghost use Rattle.redo_page.specs.Command.{command};
 ghost use Rattle.redo_page.specs.Failed.{is_dependent_failure, positions_where};
 ghost use Rattle.redo_page.specs.Limits.{bytes_shown, highest_cap};
 ghost use Rattle.redo_page.specs.NewSection.{news_parts, news_since};
@@ -31,7 +34,7 @@ ghost use Rattle.redo_page.specs.Timeline.{facts_drawing, has_timeline};
 use redo_chart::{bars_lead_to_positions, bars_say_when_targets_ran};
 use redo_html::{
     charts_have_no_text_in_tags, only_markup_decides_nesting, parts_are_read,
-    parts_show_their_text, passages_are_read_as_shown,
+    parts_show_their_text, passages_are_read_as_shown, printable_names_are_unchanged,
 };
 use redo_outline::{events_are_in_contents, nodes_sum_up_logs_below};
 use redo_summary::{
@@ -215,6 +218,15 @@ pub fn lines_are_shown()
     trimmed_events_are_in_tree();
     unlimited_logs_are_whole();
     head_and_tail_are_kept();
+}
+
+/// The page shows the command in its last line unchanged, so a reader can copy it, whatever bytes the names have.
+pub fn command_is_shown_unchanged()
+    ensures { (dir : List ℕ) (options : Options) (requested : List (List ℕ)) → list_all is_byte dir ≡ true →
+        list_all (λ name. list_all is_byte name) requested ≡ true →
+        shown_text Monochrome (command dir options requested) ≡ command dir options requested }
+{
+    printable_names_are_unchanged();
 }
 
 /// Each article is on the page. It shows the directory of its target's recipe, if this is known, and of the last ten known commands each

@@ -47,9 +47,9 @@ mod words;
 mod writer;
 
 pub use laws::{
-    cap_is_highest, failed_builds_are_red, failures_are_listed, lines_are_shown, links_lead_to_ids,
-    news_are_shown, numbers_are_shown, page_is_read, recipes_are_shown, tags_are_its_own,
-    tags_nest, targets_have_their_names, times_are_shown,
+    cap_is_highest, command_is_shown_unchanged, failed_builds_are_red, failures_are_listed,
+    lines_are_shown, links_lead_to_ids, news_are_shown, numbers_are_shown, page_is_read,
+    recipes_are_shown, tags_are_its_own, tags_nest, targets_have_their_names, times_are_shown,
 };
 pub use page::{PageRequest, page_options, write_page};
 pub use redo_view::FormFault;

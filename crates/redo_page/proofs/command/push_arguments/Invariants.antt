@@ -5,4 +5,4 @@ use Rattle.redo_page.proofs.command.push_arguments.Given as goal
 
 -- Everything so far was appended.
 abbrev pub invariant-loop-name : goal.invariant-loop-name
-invariant-loop-name l = l.command.items ≡ l.initial.command.items ++ flat_map argument (take l.name-index l.names)
+invariant-loop-name l = l.command.items ≡ l.initial.command.items ++ flat_map (argument l.ascii) (take l.name-index l.names)
