@@ -23,7 +23,7 @@ class Page(html.parser.HTMLParser):
 
     def __init__(self, page):
         super().__init__()
-        self.open, self.tiles, self.rows, self.bars, self.date = [], {}, [], {"w": [], "k": [], "e": []}, None
+        self.open, self.tiles, self.longest_rows, self.bars, self.date = [], {}, [], {"w": [], "k": [], "e": []}, None
         self.tables, self.group, self.place, self.box, self.term = 0, None, None, None, None
         self.feed(page)
         self.close()
@@ -35,7 +35,7 @@ class Page(html.parser.HTMLParser):
         if tag == "table":
             self.tables += 1
         elif tag == "tr" and self.tables == 1:
-            self.rows.append(["", ""])
+            self.longest_rows.append(["", ""])
         elif tag == "g":
             self.group = named["class"]
         elif tag in ("rect", "svg") and "x" in named:
@@ -53,9 +53,9 @@ class Page(html.parser.HTMLParser):
         elif at == ("dd", None):
             self.tiles[self.term] = data
         elif at == ("bdi", None) and self.tables == 1 and ("th", None) in self.open:
-            self.rows[-1][0] = data
+            self.longest_rows[-1][0] = data
         elif at == ("td", "n") and self.tables == 1:
-            self.rows[-1][1] = data
+            self.longest_rows[-1][1] = data
         elif at == ("title", None) and self.group in self.bars:
             self.bars[self.group].append((data, *self.box))
 
@@ -101,10 +101,10 @@ def differences(page, times, parents, jobs):
     began = email.utils.parsedate_to_datetime(text).timestamp()
     expect("the date", began - SLACK <= first <= began + 1 + SLACK, text, first)
 
-    for name, text in page.rows:
+    for name, text in page.longest_rows:
         near(f"the row of {name}", text, times[name].took)
-    least = min(seconds_of(text)[0] for _, text in page.rows)
-    named = {name for name, _ in page.rows}
+    least = min(seconds_of(text)[0] for _, text in page.longest_rows)
+    named = {name for name, _ in page.longest_rows}
     expect("the number of rows", len(named) == min(10, len(leaves)), len(named), min(10, len(leaves)))
     expect("rows of targets that ran others", named <= set(leaves), sorted(named - set(leaves)), [])
     for name in sorted(set(leaves) - named):

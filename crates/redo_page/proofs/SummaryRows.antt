@@ -11,7 +11,7 @@ use Rattle.redo_html.specs.Shown.{number_text}
 use Rattle.redo_logs.specs.declared.log_state.LogState.TheVariants.{Ended}
 use Rattle.redo_logs.specs.Logs.{Log}
 use Rattle.redo_outline.specs.declared.node.Node.{Node}
-use Rattle.redo_page.specs.Scope.{View, known_count, largest_of, meter_of, shown_alone, shown_longest}
+use Rattle.redo_page.specs.Scope.{View, known_count, largest_of, share_of_largest, shown_alone, shown_longest}
 use Rattle.redo_page.specs.Laws.{heading_shown, requested_shown, summary_shown}
 use Rattle.redo_page.specs.NewSection.{no_news}
 use Rattle.redo_page.specs.Page.{build_view}
@@ -157,7 +157,7 @@ processor_tile rest =
 
 -- In hundredths of a percent, rounded down. Ten thousand times a value is at most 2^64 - 1.
 abbrev width : ℕ → ℕ → ℕ
-width value largest = meter_of (record (view known) { rank = rank value 0; largest = largest })
+width value largest = share_of_largest (record (view known) { rank = rank value 0; largest = largest })
 
 widths_are :
     (width 10 10 ≡ 10000) × (width 5 10 ≡ 5000) × (width 1 3 ≡ 3333) × (width 0 0 ≡ 0) × (width 2 0 ≡ 20000) × (width 0 7 ≡ 0)
@@ -180,15 +180,15 @@ largest_are : (largest_of [] ≡ 0) × (largest_of (rank 9 1 ∷ []) ≡ 9) × (
 largest_are = (refl, refl, refl)
 
 -- The second recipe took a twelfth of the time of the first one.
-abbrev short_row : List Part → List Part
-short_row rest =
+abbrev row_of_a_by_time : List Part → List Part
+row_of_a_by_time rest =
     tag markup.TableRow ∷ tag markup.RowHeading ∷ tag (markup.TargetLink 1) ∷ tag markup.Bdi ∷ words (codes "a") ∷ tag markup.EndBdi
     ∷ tag markup.EndLink ∷ tag markup.EndRowHeading
     ∷ tag markup.NumberCell ∷ number 5 ∷ words (codes ".") ∷ number 0 ∷ number 0 ∷ words (codes " s") ∷ tag markup.EndCell
     ∷ tag markup.MeterCell ∷ MeterPart 833 ∷ tag markup.EndCell ∷ tag markup.EndTableRow ∷ rest
 
-abbrev long_row : List Part → List Part
-long_row rest =
+abbrev row_of_b_by_time : List Part → List Part
+row_of_b_by_time rest =
     tag markup.TableRow ∷ tag markup.RowHeading ∷ tag (markup.TargetLink 2) ∷ tag markup.Bdi ∷ words (codes "b") ∷ tag markup.EndBdi
     ∷ tag markup.EndLink
     ∷ words (codes " ") ∷ tag markup.ExitBadge ∷ words (codes "exit ") ∷ words [] ∷ number 2 ∷ tag markup.EndBadge
@@ -196,15 +196,15 @@ long_row rest =
     ∷ tag markup.NumberCell ∷ number 1 ∷ words (codes " min ") ∷ number 0 ∷ number 0 ∷ words (codes " s") ∷ tag markup.EndCell
     ∷ tag markup.MeterCell ∷ MeterPart 10000 ∷ tag markup.EndCell ∷ tag markup.EndTableRow ∷ rest
 
-abbrev warned_row : List Part → List Part
-warned_row rest =
+abbrev row_of_a_by_warnings : List Part → List Part
+row_of_a_by_warnings rest =
     tag markup.TableRow ∷ tag markup.RowHeading ∷ tag (markup.TargetLink 1) ∷ tag markup.Bdi ∷ words (codes "a") ∷ tag markup.EndBdi
     ∷ tag markup.EndLink ∷ tag markup.EndRowHeading
     ∷ tag markup.NumberCell ∷ number 8 ∷ tag markup.EndCell ∷ tag markup.MeterCell ∷ MeterPart 10000 ∷ tag markup.EndCell
     ∷ tag markup.EndTableRow ∷ rest
 
-abbrev large_row : List Part → List Part
-large_row rest =
+abbrev row_of_b_by_memory : List Part → List Part
+row_of_b_by_memory rest =
     tag markup.TableRow ∷ tag markup.RowHeading ∷ tag (markup.TargetLink 2) ∷ tag markup.Bdi ∷ words (codes "b") ∷ tag markup.EndBdi
     ∷ tag markup.EndLink
     ∷ words (codes " ") ∷ tag markup.ExitBadge ∷ words (codes "exit ") ∷ words [] ∷ number 2 ∷ tag markup.EndBadge
@@ -212,8 +212,8 @@ large_row rest =
     ∷ tag markup.NumberCell ∷ number 61 ∷ words (codes ".") ∷ number 4 ∷ words (codes " MB") ∷ tag markup.EndCell
     ∷ tag markup.MeterCell ∷ MeterPart 10000 ∷ tag markup.EndCell ∷ tag markup.EndTableRow ∷ rest
 
-abbrev small_row : List Part → List Part
-small_row rest =
+abbrev row_of_a_by_memory : List Part → List Part
+row_of_a_by_memory rest =
     tag markup.TableRow ∷ tag markup.RowHeading ∷ tag (markup.TargetLink 1) ∷ tag markup.Bdi ∷ words (codes "a") ∷ tag markup.EndBdi
     ∷ tag markup.EndLink ∷ tag markup.EndRowHeading
     ∷ tag markup.NumberCell ∷ number 15 ∷ words (codes ".") ∷ number 3 ∷ words (codes " MB") ∷ tag markup.EndCell
@@ -229,13 +229,13 @@ table_end rest = tag markup.EndTableBody ∷ tag markup.EndTable ∷ tag markup.
 abbrev both_tables : List Part → List Part
 both_tables rest =
     tag markup.Columns ∷ table (codes "Longest")
-    (long_row (short_row (table_end (table (codes "Most warnings") (warned_row (table_end (tag markup.EndDiv ∷ rest)))))))
+    (row_of_b_by_time (row_of_a_by_time (table_end (table (codes "Most warnings") (row_of_a_by_warnings (table_end (tag markup.EndDiv ∷ rest)))))))
 
 abbrev all_tables : List Part → List Part
 all_tables rest =
     tag markup.Columns ∷ table (codes "Longest")
-    (long_row (short_row (table_end (table (codes "Most memory")
-    (large_row (small_row (table_end (table (codes "Most warnings") (warned_row (table_end (tag markup.EndDiv ∷ rest)))))))))))
+    (row_of_b_by_time (row_of_a_by_time (table_end (table (codes "Most memory")
+    (row_of_b_by_memory (row_of_a_by_memory (table_end (table (codes "Most warnings") (row_of_a_by_warnings (table_end (tag markup.EndDiv ∷ rest)))))))))))
 
 -- ---- why there is no timeline
 

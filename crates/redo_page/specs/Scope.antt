@@ -79,8 +79,8 @@ abbrev pub row_name : View → List ℕ
 row_name view = target_at view.logs view.node.number
 
 -- How much of the largest value the row's value is, in hundredths of a percent.
-abbrev pub meter_of : View → ℕ
-meter_of view = saturated (view.rank.value * 10000) / max 1 view.largest
+abbrev pub share_of_largest : View → ℕ
+share_of_largest view = saturated (view.rank.value * 10000) / max 1 view.largest
 
 -- The positions of the targets that are in a list.
 abbrev pub positions_of : View → Listed → List ℕ

@@ -10,7 +10,7 @@ use Rattle.redo_page.specs.declared.template.Item.{Item}
 use Rattle.redo_page.specs.declared.template.Item.TheVariants as item
 use Rattle.redo_page.specs.declared.scope.Listed.TheVariants as listed
 use Rattle.redo_page.specs.Article.{article_parts, cause_of_node, line_of_node}
-use Rattle.redo_page.specs.Scope.{View, began_parts, count_of, holds, max_rows, measure_words, meter_of, phrase_text, position_view, positions_of, row_name, row_view, rows_of, target_view}
+use Rattle.redo_page.specs.Scope.{View, began_parts, count_of, holds, max_rows, measure_words, share_of_largest, phrase_text, position_view, positions_of, row_name, row_view, rows_of, target_view}
 use Rattle.redo_page.specs.Targets.{article_link_parts, badge_parts, linked_parts, name_parts, parts_if}
 use Rattle.redo_page.specs.Verdict.{body_markup}
 use Rattle.redo_page.specs.Words.{words_parts}
@@ -50,7 +50,7 @@ module _ {T B : Type 0} (text_of : T → List ℕ) (inner : B → View → List 
   parts_of_item item.Cause = cause_of_node view.logs view.node
   parts_of_item item.Line = line_of_node view.logs view.node view.rank.value
   parts_of_item item.Articles = flat_map (article_parts view.logs view.nodes view.recipes) (positions_of view listed.Articles)
-  parts_of_item item.Meter = MeterPart (meter_of view) ∷ []
+  parts_of_item item.Meter = MeterPart (share_of_largest view) ∷ []
   parts_of_item (item.In around block) = around_parts inner view around block
 
   abbrev pub parts_of_items : List (Item T B) → List Part

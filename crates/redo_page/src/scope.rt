@@ -2,7 +2,7 @@
 ghost use Rattle.std.specs.Prelude.{◌≡◌, take};
 ghost use Rattle.redo_page.specs.Private.Viewing.{view_of};
 ghost use Rattle.redo_page.specs.Private.Writing.{WroteParts};
-ghost use Rattle.redo_page.specs.Scope.{began_parts, count_of, date_parts, holds, largest_of, max_rows, measure_words, meter_of, known_count, phrase_text, position_view, positions_of, row_name, row_view, rows_of, shown_alone, shown_longest, target_view};
+ghost use Rattle.redo_page.specs.Scope.{began_parts, count_of, date_parts, holds, largest_of, max_rows, measure_words, share_of_largest, known_count, phrase_text, position_view, positions_of, row_name, row_view, rows_of, shown_alone, shown_longest, target_view};
 ghost use Rattle.redo_page.specs.Words.{words_parts};
 ghost use Rattle.redo_units.specs.Dates.{date_text_of};
 
@@ -366,8 +366,8 @@ impl<'a> Scope<'a> {
     }
 
     /// Returns how much of the largest value the row's value is, in hundredths of a percent.
-    pub fn meter(&self) -> u64
-        ensures { result ≡ meter_of (view_of self.now) }
+    pub fn share_of_largest(&self) -> u64
+        ensures { result ≡ share_of_largest (view_of self.now) }
     {
         self.rank.value.saturating_mul(10000) / self.largest.max(1)
     }

@@ -176,7 +176,7 @@ fn write_item<T: Label, B: Block, W: Sink>(
             scope.positions(Listed::Articles),
             page,
         ),
-        Item::Meter => page.put(&[Piece::Meter(scope.meter())]),
+        Item::Meter => page.put(&[Piece::Meter(scope.share_of_largest())]),
         Item::In(around, block) => write_in(*around, block, scope, page),
     }
 }
