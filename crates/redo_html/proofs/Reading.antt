@@ -12,7 +12,7 @@ use Rattle.redo_html.specs.declared.look.Look.{Look}
 use Rattle.redo_html.specs.declared.style.Hue.{Hue}
 use Rattle.redo_html.specs.declared.style.Hue.TheVariants.{Plain, Red, Green, Yellow, Blue, Magenta, Cyan}
 use Rattle.redo_html.specs.declared.style.Style.{Style}
-use Rattle.redo_html.specs.Passage.{Inline, hue_class, style_name, highlight_text, has_highlights, highlight_html, highlight_tokens, inline_html, inline_tokens, is_plain_hue, has_element, style_start, style_end, is_same_style, passage_html, passage_inlines, passage_tokens}
+use Rattle.redo_html.specs.Passage.{Inline, hue_class, style_name, highlight_text, has_highlights, highlight_html, highlight_tokens, inline_html, inline_tokens, hue_number, has_element, style_start, style_end, is_same_style, passage_html, passage_inlines, passage_tokens}
 use Rattle.redo_html.specs.Private.Highlighting.{highlight_if, highlights_between, after_code_point, with_wanted, start_look, inlines_from}
 use Rattle.redo_html.specs.Passage.Inline.{UnprintableStart, UnprintableEnd, StyleStart, StyleEnd, Text}
 use Rattle.redo_html.specs.Html.{Context, Token, Normal, characters_of, text_of, tag_of, tags_of, nests_in}
@@ -190,7 +190,7 @@ highlights_append : (a b : List (List ℕ)) → AreHighlights a → AreHighlight
 highlights_append a b first second =
     list_all-append is_highlight a b ∙ and_from (list_all is_highlight a) (list_all is_highlight b) first second
 
-style_is_highlight : (bold : Bool) (hue : Hue) → (bold || not (is_plain_hue hue)) ≡ true
+style_is_highlight : (bold : Bool) (hue : Hue) → (bold || not (hue_number hue == 0)) ≡ true
     → is_highlight (style_name bold ++ hue_class hue) ≡ true
 style_is_highlight true Plain has = refl
 style_is_highlight true Red has = refl

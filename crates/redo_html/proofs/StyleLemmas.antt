@@ -8,7 +8,7 @@ use Rattle.redo_html.specs.declared.style.Hue.{Hue}
 use Rattle.redo_html.specs.declared.style.Hue.TheVariants.{Plain, Red, Green, Yellow, Blue, Magenta, Cyan}
 use Rattle.redo_html.specs.declared.style.Style.{Style}
 use Rattle.redo_html.specs.Lines.{style_after_symbol}
-use Rattle.redo_html.specs.Passage.{hue_number, is_plain_hue, has_element, is_same_style, same_bool}
+use Rattle.redo_html.specs.Passage.{hue_number, has_element, is_same_style, same_bool}
 use Rattle.redo_html.specs.Style.{digit_hue, plain_style, restyled}
 use Rattle.redo_html.specs.Symbols.{Symbol, first_symbol, symbol_len, symbols}
 use Rattle.redo_html.specs.Symbols.Symbol.{CodePoint, Sequence}
@@ -50,11 +50,11 @@ repeated_style kind style bytes code_point count len repeated =
 -- A style without an element is the page's own.
 pub plain_without_element : (style : Style) → has_element style ≡ false → style ≡ plain_style
 plain_without_element style none =
-    let parts = or_parts style.bold (not (is_plain_hue style.hue)) none in
+    let parts = or_parts style.bold (not (hue_number style.hue == 0)) none in
     ap (λ (b : Bool). record { bold = b; hue = style.hue }) parts.0
     ∙ ap (λ (h : Hue). record { bold = false; hue = h }) (plain style.hue parts.1)
   where
-    plain : (hue : Hue) → not (is_plain_hue hue) ≡ false → hue ≡ Plain
+    plain : (hue : Hue) → not (hue_number hue == 0) ≡ false → hue ≡ Plain
     plain Plain is = refl
     plain Red is = absurd (cc)
     plain Green is = absurd (cc)

@@ -66,36 +66,11 @@ highlight_tokens kind tag = if has_highlights kind then Tag tag ∷ [] else []
 -- A part of a passage, as it is written and as it is read.
 abbrev pub inline_html : TextKind → Inline → List ℕ
 inline_html kind (Text code_point count) = escaped (code_points_text code_point count)
-inline_html kind UnprintableStart = highlight_html kind (highlight_text UnprintableStart)
-inline_html kind UnprintableEnd = highlight_html kind (highlight_text UnprintableEnd)
-inline_html kind (StyleStart style) = highlight_html kind (highlight_text (StyleStart style))
-inline_html kind (StyleEnd style) = highlight_html kind (highlight_text (StyleEnd style))
+inline_html kind highlight = highlight_html kind (highlight_text highlight)
 
 abbrev pub inline_tokens : TextKind → Inline → List Token
 inline_tokens kind (Text code_point count) = map Character (code_points_text code_point count)
-inline_tokens kind UnprintableStart = highlight_tokens kind (highlight_text UnprintableStart)
-inline_tokens kind UnprintableEnd = highlight_tokens kind (highlight_text UnprintableEnd)
-inline_tokens kind (StyleStart style) = highlight_tokens kind (highlight_text (StyleStart style))
-inline_tokens kind (StyleEnd style) = highlight_tokens kind (highlight_text (StyleEnd style))
-
--- A style other than the page's own has an element.
-abbrev pub is_plain_hue : Hue → Bool
-is_plain_hue Plain = true
-is_plain_hue Red = false
-is_plain_hue Green = false
-is_plain_hue Yellow = false
-is_plain_hue Blue = false
-is_plain_hue Magenta = false
-is_plain_hue Cyan = false
-
-abbrev pub has_element : Style → Bool
-has_element style = style.bold || not (is_plain_hue style.hue)
-
-abbrev pub style_start : Style → List Inline
-style_start style = if has_element style then StyleStart style ∷ [] else []
-
-abbrev pub style_end : Style → List Inline
-style_end style = if has_element style then StyleEnd style ∷ [] else []
+inline_tokens kind highlight = highlight_tokens kind (highlight_text highlight)
 
 abbrev pub hue_number : Hue → ℕ
 hue_number Plain = 0
@@ -105,6 +80,16 @@ hue_number Yellow = 3
 hue_number Blue = 4
 hue_number Magenta = 5
 hue_number Cyan = 6
+
+-- A style other than the page's own has an element.
+abbrev pub has_element : Style → Bool
+has_element style = style.bold || not (hue_number style.hue == 0)
+
+abbrev pub style_start : Style → List Inline
+style_start style = if has_element style then StyleStart style ∷ [] else []
+
+abbrev pub style_end : Style → List Inline
+style_end style = if has_element style then StyleEnd style ∷ [] else []
 
 abbrev pub same_bool : Bool → Bool → Bool
 same_bool true other = other
