@@ -1,10 +1,15 @@
 -- Rows of the charts of timelines, and of their parts. The values are worked out by hand.
-use Rattle.std.proofs.Common.{◌≡◌, ℕ, Bool, true, false, List, [], ◌∷◌, map, Option, None, Some, ℤ, pos, negsuc, refl}
+use Rattle.std.proofs.Common.{◌≡◌, ◌<◌, ℕ, zero, suc, Bool, true, false, List, [], ◌∷◌, ◌++◌, length, map, Option, None, Some, ℤ, pos, negsuc, refl, ap, subst, arith}
+use Rattle.std.proofs.lemmas.List.{append-nil}
+use Rattle.std.proofs.lemmas.List.Sorted.{All-permutation, IsPermutation-sym, length_permutation}
+use Rattle.std.specs.List.{All, AllByRecursion, AllZip, flat_map}
+use Rattle.std.specs.List.Sorted.{IsPermutation}
 use Rattle.std.specs.Fmt.{digits}
-use Rattle.std.specs.Prelude.{codes}
+use Rattle.std.specs.Prelude.{codes, slice_index_or}
 use Rattle.redo_html.specs.declared.chart.Anchor.TheVariants.{Start, Middle, End}
 use Rattle.redo_html.specs.declared.chart.GroupKind.TheVariants.{Axis, Callers, Recipes, Untimed}
-use Rattle.redo_html.specs.Chart.{Drawing, Layer, Shape, drawing_links}
+use Rattle.redo_html.specs.declared.chart.GroupKind.{GroupKind}
+use Rattle.redo_html.specs.Chart.{DrawnBar, Drawing, Layer, Shape, drawing_links}
 use Rattle.redo_html.specs.Chart.Shape.{BarShape, LineShape, TickShape}
 use Rattle.redo_logs.specs.declared.log_state.LogState.TheVariants.{Ended}
 use Rattle.redo_logs.specs.Logs.{Log}
@@ -19,7 +24,7 @@ use Rattle.redo_units.specs.Words.{decimal_text}
 use Rattle.redo_chart.specs.Axis.{anchor_of, axis_shapes}
 use Rattle.redo_chart.specs.Bands.{below, marks_band, max_mark_lanes, max_caller_lanes, max_recipe_lanes, callers_band, recipe_lane_height, recipes_band}
 use Rattle.redo_chart.specs.Bars.{bar_layer, drawn_bar, label_of}
-use Rattle.redo_chart.specs.Laws.{shapes_of}
+use Rattle.redo_chart.specs.Laws.{Draws, DrawsAll, Includes, shapes_of}
 use Rattle.redo_chart.specs.Targets.{after_last_slash, last_part, name_at, status_at}
 use Rattle.redo_chart.specs.Timeline.{height_of, timeline_drawing}
 use Rattle.redo_chart.specs.Titles.{duration_after, status_text, title_of}
@@ -216,3 +221,69 @@ marks_drawn = refl
 links : drawing_links chart ≡ 1 ∷ 2 ∷ 4 ∷ 0 ∷ 3 ∷ []
 unfolding tick_step_of
 links = refl
+
+-- ---- groups of one span
+
+-- What refutes a wrong definition: a group of one span has one bar, which says what it does of this span.
+pub no_bar : (logs : List Log) (nodes : List Node) (window : Window) (kind : GroupKind) (one : Span) (spans : List Span)
+    → DrawsAll logs nodes window kind (one ∷ spans) [] → ⊥
+no_bar logs nodes window kind one spans draws = by draws.bars draws.once draws.drawn
+  where
+    by : (bars : List (List Span)) → IsPermutation (one ∷ spans) (flat_map (λ (bar : List Span). bar) bars)
+        → AllZip (Draws logs nodes window kind) bars [] → ⊥
+    by [] once zip = let same = length_permutation (one ∷ spans) [] once in omega (arith, same)
+    by (bar ∷ bars) once zip = zip
+
+-- All spans of a group with one shape are in its bar.
+pub only_bar : (logs : List Log) (nodes : List Node) (window : Window) (kind : GroupKind) (spans : List Span) (shape : Shape)
+    → DrawsAll logs nodes window kind spans (shape ∷ [])
+    → (bar : List Span) × IsPermutation spans bar × Draws logs nodes window kind bar shape
+only_bar logs nodes window kind spans shape draws = by draws.bars draws.once draws.drawn
+  where
+    by : (bars : List (List Span)) → IsPermutation spans (flat_map (λ (bar : List Span). bar) bars)
+        → AllZip (Draws logs nodes window kind) bars (shape ∷ [])
+        → (bar : List Span) × IsPermutation spans bar × Draws logs nodes window kind bar shape
+    by [] once zip = absurd zip
+    by (bar ∷ []) once zip = (bar, subst (λ (all : List Span). IsPermutation spans all) (append-nil bar) once, zip.0)
+    by (bar ∷ other ∷ bars) once zip = absurd zip.1
+
+pub one_bar : (logs : List Log) (nodes : List Node) (window : Window) (kind : GroupKind) (one : Span) (shape : Shape)
+    → DrawsAll logs nodes window kind (one ∷ []) (shape ∷ []) → Draws logs nodes window kind (one ∷ []) shape
+one_bar logs nodes window kind one shape draws =
+    let found = only_bar logs nodes window kind (one ∷ []) shape draws in
+    subst (λ (spans : List Span). Draws logs nodes window kind spans shape)
+    (only found.0 (All-permutation (λ (span : Span). span ≡ one) (one ∷ []) found.0 found.1 itself)
+    (length_permutation (one ∷ []) found.0 found.1)) found.2
+  where
+    itself : (k : ℕ) (other : Span) → k < 1 → slice_index_or (one ∷ []) k other ≡ one
+    itself zero other below = refl
+    itself (suc k) other below = absurd (omega (arith, below))
+
+    only : (bar : List Span) → All (λ (span : Span). span ≡ one) bar → length bar ≡ 1 → bar ≡ one ∷ []
+    only [] all same = absurd (omega (arith, same))
+    only (span ∷ []) all same = ap (λ (first : Span). first ∷ []) (all 0 one (omega arith))
+    only (span ∷ other ∷ bar) all same = absurd (omega (arith, same))
+
+-- A group without spans has no bar.
+pub no_span : (logs : List Log) (nodes : List Node) (window : Window) (kind : GroupKind) (shape : Shape) (shapes : List Shape)
+    → DrawsAll logs nodes window kind [] (shape ∷ shapes) → ⊥
+no_span logs nodes window kind shape shapes draws = by draws.bars draws.once draws.filled draws.drawn
+  where
+    by : (bars : List (List Span)) → IsPermutation [] (flat_map (λ (bar : List Span). bar) bars)
+        → AllByRecursion (λ (bar : List Span). 0 < length bar) bars → AllZip (Draws logs nodes window kind) bars (shape ∷ shapes) → ⊥
+    by [] once filled zip = zip
+    by ([] ∷ bars) once filled zip = let some : 0 < 0 = filled.0 in omega (arith, some)
+    by ((span ∷ bar) ∷ bars) once filled zip =
+        let same = length_permutation [] (span ∷ (bar ++ flat_map (λ (bar : List Span). bar) bars)) once in omega (arith, same)
+
+-- The only bar of a group includes all spans of the group.
+pub included : (logs : List Log) (nodes : List Node) (window : Window) (kind : GroupKind) (spans : List Span) (bar : DrawnBar)
+    → DrawsAll logs nodes window kind spans (BarShape bar ∷ []) → All (Includes window bar) spans
+included logs nodes window kind spans bar draws =
+    let found = only_bar logs nodes window kind spans (BarShape bar) draws in
+    All-permutation (Includes window bar) found.0 spans (IsPermutation-sym spans found.0 found.1) (each found.0 found.2.times)
+  where
+    each : (all : List Span) → AllByRecursion (Includes window bar) all → All (Includes window bar) all
+    each [] holds k other below = absurd (omega (arith, below))
+    each (span ∷ all) holds zero other below = holds.0
+    each (span ∷ all) holds (suc k) other below = each all holds.1 k other (omega (arith, below))

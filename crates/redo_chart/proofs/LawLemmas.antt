@@ -1,11 +1,13 @@
 -- The laws about charts.
-use Rattle.std.proofs.Common.{◌≡◌, ℕ, zero, suc, ◌+◌, ◌-◌, ◌*◌, ◌/◌, ◌<◌, ◌≤◌, leb, ltb, min, Bool, true, false, cond, nat_lt, List, [], ◌∷◌, ◌++◌, map, Option, None, Some, refl, sym, ap, ◌∙◌, subst, arith}
+use Rattle.std.proofs.Common.{◌≡◌, ℕ, zero, suc, ◌+◌, ◌-◌, ◌*◌, ◌/◌, ◌<◌, ◌≤◌, leb, ltb, min, length, Bool, true, false, cond, nat_lt, List, [], ◌∷◌, ◌++◌, map, Option, None, Some, refl, sym, ap, ◌∙◌, subst, arith, length-append}
 use Rattle.std.specs.Prelude.{◌&&◌, IfSome}
 use Rattle.std.specs.List.{AllByRecursion, AllZip, flat_map, list_all, range_with_len}
+use Rattle.std.specs.List.Sorted.{IsPermutation}
 use Rattle.std.proofs.lemmas.Bool.{le-leb, lt-ltb}
 use Rattle.std.proofs.Math.Nat.{div-mul-le_self, div-zero, le-div_iff_mul-le}
 use Rattle.std.proofs.lemmas.List.{append-nil, map-append}
 use Rattle.std.proofs.lemmas.List.Folds.{list_all-append}
+use Rattle.std.proofs.lemmas.Grind.{flat_map-append}
 use Rattle.std.proofs.lemmas.List.Sorted.{All-permutation}
 use Rattle.std.proofs.lemmas.List.Sums.{AllPass-from_list_all, list_all-from_AllPass}
 use Rattle.redo_html.specs.Chart.{Shape, drawing_links, shape_links}
@@ -16,7 +18,7 @@ use Rattle.redo_timeline.specs.declared.span.Span.{Span}
 use Rattle.redo_timeline.specs.declared.span.Window.{Window}
 use Rattle.redo_timeline.specs.Bars.{bar_of, bars_from, bars_in, began_of, joins, position_of, units}
 use Rattle.redo_timeline.specs.Lanes.{ended_of, lanes_of}
-use Rattle.redo_timeline.specs.Laws.{EachBar}
+use Rattle.redo_timeline.specs.Laws.{EachBar, IsSlimIfJoined, spans_of}
 use Rattle.redo_timeline.specs.Timeline.{bars_of, drawn_bars, timeline_of}
 use Rattle.redo_timeline.proofs.CoverLemmas.{IsIncluded, bars_include}
 use Rattle.redo_timeline.proofs.CoverLemmas.{Includes as InTime}
@@ -25,7 +27,7 @@ use Rattle.redo_chart.specs.declared.band.Band.{Band}
 use Rattle.redo_chart.specs.Axis.{last_tick, tick_shapes}
 use Rattle.redo_chart.specs.Bands.{marks_band, max_mark_lanes, max_caller_lanes, max_recipe_lanes, callers_band, recipes_band}
 use Rattle.redo_chart.specs.Bars.{bar_shapes, drawn_bar, label_of}
-use Rattle.redo_chart.specs.Laws.{Draws, DrawsAll, Includes, all_bars, are_below}
+use Rattle.redo_chart.specs.Laws.{Draws, DrawsAll, Includes, are_below}
 use Rattle.redo_chart.specs.Targets.{last_part, name_at}
 use Rattle.redo_chart.specs.Timeline.{height_of, timeline_drawing}
 use Rattle.redo_units.specs.Ticks.{tick_step_of}
@@ -141,6 +143,49 @@ module _ (window : Window) (count : ℕ) where
 
 -- ---- what bars say
 
+-- The bars of all lanes, each given by its spans.
+abbrev all_bars : List (List (List Span)) → List (List Span)
+all_bars lanes = flat_map (λ (bars : List (List Span)). bars) lanes
+
+abbrev all_spans : List (List Span) → List Span
+all_spans bars = flat_map (λ (bar : List Span). bar) bars
+
+spans_of_bars : (lanes : List (List (List Span))) → spans_of lanes ≡ all_spans (all_bars lanes)
+spans_of_bars [] = refl
+spans_of_bars (bars ∷ lanes) =
+    ap (λ (spans : List Span). all_spans bars ++ spans) (spans_of_bars lanes)
+    ∙ sym (flat_map-append (λ (bar : List Span). bar) bars (all_bars lanes))
+
+append_each : {X : Type 0} (P : X → Type 0) (one other : List X) → AllByRecursion P one → AllByRecursion P other
+    → AllByRecursion P (one ++ other)
+append_each P [] other first second = second
+append_each P (x ∷ one) other first second = (first.0, append_each P one other first.1 second)
+
+each_bar : (P : List Span → Type 0) (lanes : List (List (List Span))) → EachBar P lanes → AllByRecursion P (all_bars lanes)
+each_bar P [] all = tt
+each_bar P (bars ∷ lanes) all = append_each P bars (all_bars lanes) all.0 (each_bar P lanes all.1)
+
+-- Each bar has a span.
+bars_from_filled : (window : Window) (bar rest : List Span) → 0 < length bar
+    → AllByRecursion (λ (bar : List Span). 0 < length bar) (bars_from window bar rest)
+bars_from_filled window bar [] some = (some, tt)
+bars_from_filled window bar (span ∷ rest) some =
+    by (joins window bar span)
+    (bars_from_filled window (bar ++ span ∷ []) rest (let both = length-append bar (span ∷ []) in omega (arith, both)))
+    (bars_from_filled window (span ∷ []) rest (omega arith))
+  where
+    by : (b : Bool) → AllByRecursion (λ (bar : List Span). 0 < length bar) (bars_from window (bar ++ span ∷ []) rest)
+        → AllByRecursion (λ (bar : List Span). 0 < length bar) (bars_from window (span ∷ []) rest)
+        → AllByRecursion (λ (bar : List Span). 0 < length bar)
+        (cond b (bars_from window (bar ++ span ∷ []) rest) (bar ∷ bars_from window (span ∷ []) rest))
+    by true more next = more
+    by false more next = (some, next)
+
+bars_filled : (window : Window) (lanes : List (List Span)) → EachBar (λ (bar : List Span). 0 < length bar) (map (bars_in window) lanes)
+bars_filled window [] = tt
+bars_filled window ([] ∷ lanes) = (tt, bars_filled window lanes)
+bars_filled window ((span ∷ spans) ∷ lanes) = (bars_from_filled window (span ∷ []) spans (omega arith), bars_filled window lanes)
+
 zip_append : {A B : Type 0} (R : A → B → Type 0) (xs others : List A) (ys more : List B) → AllZip R xs ys → AllZip R others more
     → AllZip R (xs ++ others) (ys ++ more)
 zip_append R [] others [] more zip rest = rest
@@ -213,14 +258,16 @@ module _ (logs : List Log) (nodes : List Node) (window : Window) (band : Band) w
       (bar_shapes logs nodes band later) (lane_drawn lane bars times.0) (lanes_drawn (lane + 1) lanes times.1))
 
   pub group_drawn : (max_lanes : ℕ) (spans : List Span)
-      → DrawsAll logs nodes window band.kind max_lanes spans
+      → DrawsAll logs nodes window band.kind spans
       (bar_shapes logs nodes band (drawn_bars window 0 (bars_of window max_lanes spans)) ++ [])
   group_drawn max_lanes spans =
-      let shapes = bar_shapes logs nodes band (drawn_bars window 0 (bars_of window max_lanes spans)) in record {
-        bars =
-            subst (λ (all : List Shape). AllZip (Draws logs nodes window band.kind) (all_bars (bars_of window max_lanes spans)) all)
-            (sym (append-nil shapes))
-            (lanes_drawn 0 (bars_of window max_lanes spans) (bars_include window max_lanes spans));
-        once = drawn_once window max_lanes spans;
-        narrow = joined_narrow window max_lanes spans;
+      let shapes = bar_shapes logs nodes band (drawn_bars window 0 (bars_of window max_lanes spans)) in
+      let lanes = bars_of window max_lanes spans in record {
+        bars = all_bars lanes;
+        once = subst (λ (drawn : List Span). IsPermutation spans drawn) (spans_of_bars lanes) (drawn_once window max_lanes spans);
+        filled = each_bar (λ (bar : List Span). 0 < length bar) lanes (bars_filled window (lanes_of max_lanes spans));
+        drawn =
+            subst (λ (all : List Shape). AllZip (Draws logs nodes window band.kind) (all_bars lanes) all) (sym (append-nil shapes))
+            (lanes_drawn 0 lanes (bars_include window max_lanes spans));
+        narrow = each_bar (IsSlimIfJoined window) lanes (joined_narrow window max_lanes spans);
       }

@@ -1,7 +1,9 @@
 -- Charts that the laws accept, and others that they reject.
-use Rattle.std.proofs.Common.{◌≡◌, ℕ, ◌<◌, ◌≤◌, Bool, true, false, List, [], ◌∷◌, map, length, unwrap_or, Option, None, Some, refl, ap, arith}
+use Rattle.std.proofs.Common.{◌≡◌, ℕ, ◌<◌, ◌≤◌, Bool, true, false, List, [], ◌∷◌, ◌++◌, map, length, length-append, unwrap_or, Option, None, Some, refl, ap, arith}
 use Rattle.std.specs.Fmt.{digits}
-use Rattle.std.specs.List.{flat_map}
+use Rattle.std.specs.List.{AllByRecursion, AllZip, flat_map}
+use Rattle.std.specs.List.Sorted.{IsPermutation}
+use Rattle.std.proofs.lemmas.List.Sorted.{length_permutation}
 use Rattle.std.specs.Prelude.{codes}
 use Rattle.redo_html.specs.declared.chart.Anchor.TheVariants.{Start}
 use Rattle.redo_html.specs.declared.chart.GroupKind.TheVariants.{Axis, Recipes, Untimed}
@@ -11,8 +13,8 @@ use Rattle.redo_timeline.specs.declared.span.Span.{Span}
 use Rattle.redo_units.specs.Durations.{duration_words}
 use Rattle.redo_units.specs.Ticks.{tick_step_of}
 use Rattle.redo_units.specs.Words.{decimal_text}
-use Rattle.redo_chart.specs.Laws.{AreRows, Draws, DrawsAll, Includes, IsNoBar, SaysOf, all_bars, are_below, chart_bars, chart_lanes, kinds_of, rows_of, shapes_of}
-use Rattle.redo_chart.proofs.ChartRows.{chart, logs, nodes, span, window}
+use Rattle.redo_chart.specs.Laws.{AreRows, Draws, DrawsAll, Includes, IsNoBar, SaysOf, are_below, chart_bars, chart_lanes, kinds_of, rows_of, shapes_of}
+use Rattle.redo_chart.proofs.ChartRows.{chart, logs, no_bar, no_span, nodes, span, window}
 
 -- ---- groups and lanes
 
@@ -26,9 +28,7 @@ tests :
           ∷ record { kind = Recipes; shapes = LineShape 5 6 ∷ [] } ∷ [];
     })
     ≡ LineShape 1 2 ∷ LineShape 5 6 ∷ [])
-    × (all_bars (((span 0 0 9 false ∷ []) ∷ []) ∷ [] ∷ ((span 1 0 9 false ∷ []) ∷ (span 2 0 9 false ∷ []) ∷ []) ∷ [])
-    ≡ (span 0 0 9 false ∷ []) ∷ (span 1 0 9 false ∷ []) ∷ (span 2 0 9 false ∷ []) ∷ [])
-tests = (refl, refl, refl, refl, refl)
+tests = (refl, refl, refl, refl)
 
 kinds : kinds_of (record {
   height = 0;
@@ -126,13 +126,41 @@ rejected_shapes :
 unfolding duration_words decimal_text digits
 rejected_shapes = (λ draws. draws, λ draws. draws, λ draws. let same : 1 ≡ 2 = draws.target in omega (arith, same))
 
--- A span has no bar, or two. Then there is a bar of no span.
+-- A bar of no span, as it would be drawn.
+abbrev of_none : Shape
+of_none = BarShape (labelled 0 0 10 false (codes "0 targets in 0.00 s, from out/b.o") (Some (codes "b.o")))
+
+abbrev Zip : List (List Span) → List Shape → Type 0
+Zip bars shapes = AllZip (Draws logs nodes window Recipes) bars shapes
+
+abbrev Filled : List (List Span) → Type 0
+Filled bars = AllByRecursion (λ (bar : List Span). 0 < length bar) bars
+
+abbrev Once : List Span → List (List Span) → Type 0
+Once spans bars = IsPermutation spans (flat_map (λ (bar : List Span). bar) bars)
+
+two_bars : (first second : Shape) (bars : List (List Span)) → Once one bars → Filled bars → Zip bars (first ∷ second ∷ []) → ⊥
+two_bars first second [] once filled zip = zip
+two_bars first second (bar ∷ []) once filled zip = zip.1
+two_bars first second (bar ∷ other ∷ []) once filled zip =
+    let same = length_permutation one (bar ++ (other ++ [])) once in
+    let both = length-append bar (other ++ []) in
+    let last = length-append other [] in omega (arith, same, both, last, filled.0, filled.1.0)
+two_bars first second (bar ∷ other ∷ more ∷ bars) once filled zip = zip.1.1
+
+-- A span has no bar, or two, or there is a bar of no span beside its own. Then there is a bar although there is no span.
 rejected_groups :
-    ¬ DrawsAll logs nodes window Recipes 4 one []
-    × ¬ DrawsAll logs nodes window Recipes 4 one (BarShape (said 2 0 4000 false title) ∷ BarShape (said 2 0 4000 false title) ∷ [])
-    × ¬ DrawsAll logs nodes window Recipes 4 [] (BarShape (said 2 0 4000 false title) ∷ [])
+    ¬ DrawsAll logs nodes window Recipes one []
+    × ¬ DrawsAll logs nodes window Recipes one (BarShape (said 2 0 4000 false title) ∷ BarShape (said 2 0 4000 false title) ∷ [])
+    × ¬ DrawsAll logs nodes window Recipes one (BarShape (said 2 0 4000 false title) ∷ of_none ∷ [])
+    × ¬ DrawsAll logs nodes window Recipes [] (of_none ∷ [])
 unfolding duration_words decimal_text digits
-rejected_groups = (λ draws. draws.bars, λ draws. draws.bars.1, λ draws. draws.bars)
+rejected_groups = (
+  λ draws. no_bar logs nodes window Recipes (span 2 1000 5000 false) [] draws,
+  λ draws. two_bars _ _ draws.bars draws.once draws.filled draws.drawn,
+  λ draws. two_bars _ _ draws.bars draws.once draws.filled draws.drawn,
+  λ draws. no_span logs nodes window Recipes of_none [] draws,
+)
 
 -- ---- where bars are
 

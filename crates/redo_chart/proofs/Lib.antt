@@ -1,5 +1,5 @@
 mod ChartLemmas
-mod ChartRows
+pub mod ChartRows
 mod LawLemmas
 mod LawRows
 mod RowLemmas

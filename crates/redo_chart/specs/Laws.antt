@@ -11,7 +11,7 @@ use Rattle.redo_outline.specs.declared.node.Node.{Node}
 use Rattle.redo_timeline.specs.declared.span.Span.{Span}
 use Rattle.redo_timeline.specs.declared.span.Window.{Window}
 use Rattle.redo_timeline.specs.Bars.{bar_of, began_of, has_failed, position_of, units, width_of}
-use Rattle.redo_timeline.specs.Laws.{EachBar, IsSlimIfJoined, spans_of}
+use Rattle.redo_timeline.specs.Laws.{IsSlimIfJoined}
 use Rattle.redo_timeline.specs.Timeline.{bars_of}
 use Rattle.redo_chart.specs.Bands.{max_mark_lanes, max_caller_lanes, max_recipe_lanes}
 use Rattle.redo_chart.specs.Targets.{last_part, name_at}
@@ -66,17 +66,16 @@ Draws logs nodes window kind spans (LineShape x bottom) = ⊥
 Draws logs nodes window kind spans (TickShape x at text) = ⊥
 Draws logs nodes window kind spans (BarShape bar) = SaysOf logs nodes window kind spans bar
 
--- The bars of all lanes, each given by its spans.
-abbrev pub all_bars : List (List (List Span)) → List (List Span)
-all_bars lanes = flat_map (λ (bars : List (List Span)). bars) lanes
-
--- The shapes of a group are bars, one for each bar of the layout, lane by lane. Each span of the group is in exactly one of them. A bar of
--- several spans is narrower than 0.5 % by its times, and none of its spans failed.
-pub record DrawsAll (logs : List Log) (nodes : List Node) (window : Window) (kind : GroupKind) (max_lanes : ℕ) (spans : List Span)
-    (shapes : List Shape) : Type 0 where
-  pub bars : AllZip (Draws logs nodes window kind) (all_bars (bars_of window max_lanes spans)) shapes
-  pub once : IsPermutation spans (spans_of (bars_of window max_lanes spans))
-  pub narrow : EachBar (IsSlimIfJoined window) (bars_of window max_lanes spans)
+-- The shapes of a group are bars. Each span of the group is in exactly one of them, and each bar has a span. A bar of several spans is
+-- narrower than 0.5 % by its times, and none of its spans failed.
+pub record DrawsAll (logs : List Log) (nodes : List Node) (window : Window) (kind : GroupKind) (spans : List Span) (shapes : List Shape)
+    : Type 0 where
+  -- The spans of each bar.
+  pub bars : List (List Span)
+  pub once : IsPermutation spans (flat_map (λ (bar : List Span). bar) bars)
+  pub filled : AllByRecursion (λ (bar : List Span). 0 < length bar) bars
+  pub drawn : AllZip (Draws logs nodes window kind) bars shapes
+  pub narrow : AllByRecursion (IsSlimIfJoined window) bars
 
 -- The lanes of a chart, and the shapes of its groups of bars, from the top.
 abbrev pub chart_lanes : Window → List Span → List Span → List Span → List (List (List Span))

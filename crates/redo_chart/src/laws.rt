@@ -1,7 +1,8 @@
 //! Laws, which are theorems about the definitions alone: each contract is a theorem, and the bodies are empty.
 //!
-//! `SaysOf` states what a bar says of its spans: the target to which it leads, its beginning, width, colour, tooltip and label. It
-//! follows the bars of the layout, so the law about a group (`DrawsAll`) needs no second definition of the spans that share a bar.
+//! `SaysOf` states what a bar says of its spans: the target to which it leads, its beginning, width, colour, tooltip and label. The law
+//! about a group (`DrawsAll`) states that there are bars that say so of all its spans. It doesn't depend on the layout, which decides which
+//! spans share a bar.
 ghost use Rattle.std.specs.Prelude.{◌≡◌, ◌++◌, ◌∷◌, ℕ, true, nat_lt, List, []};
 ghost use Rattle.std.specs.List.{AllByRecursion, list_all};
 ghost use Rattle.redo_html.specs.declared.chart.GroupKind.TheVariants.{Axis, Callers, Recipes, Untimed};
@@ -10,7 +11,6 @@ ghost use Rattle.redo_logs.specs.Logs.{Log};
 ghost use Rattle.redo_outline.specs.declared.node.Node.{Node};
 ghost use Rattle.redo_timeline.specs.declared.span.Span.{Span};
 ghost use Rattle.redo_timeline.specs.declared.span.Window.{Window};
-ghost use Rattle.redo_chart.specs.Bands.{max_mark_lanes, max_caller_lanes, max_recipe_lanes};
 ghost use Rattle.redo_chart.specs.Laws.{AreRows, DrawsAll, IsNoBar, are_below, chart_bars, chart_lanes, kinds_of, rows_of, shapes_of};
 ghost use Rattle.redo_chart.specs.Timeline.{timeline_drawing};
 
@@ -28,13 +28,13 @@ pub fn bars_lead_to_positions()
 /// 0.5 % of the chart together.
 pub fn bars_say_when_targets_ran()
     ensures callers { (logs : List Log) (nodes : List Node) (window : Window) (callers recipes marks : List Span) →
-        DrawsAll logs nodes window Callers max_caller_lanes callers
+        DrawsAll logs nodes window Callers callers
         (shapes_of Callers (timeline_drawing logs nodes window callers recipes marks)) }
     ensures recipes { (logs : List Log) (nodes : List Node) (window : Window) (callers recipes marks : List Span) →
-        DrawsAll logs nodes window Recipes max_recipe_lanes recipes
+        DrawsAll logs nodes window Recipes recipes
         (shapes_of Recipes (timeline_drawing logs nodes window callers recipes marks)) }
     ensures marks { (logs : List Log) (nodes : List Node) (window : Window) (callers recipes marks : List Span) →
-        DrawsAll logs nodes window Untimed max_mark_lanes marks
+        DrawsAll logs nodes window Untimed marks
         (shapes_of Untimed (timeline_drawing logs nodes window callers recipes marks)) }
 {}
 

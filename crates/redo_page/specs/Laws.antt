@@ -549,9 +549,9 @@ module _ (request : Request) (logs : List Log) (requested : List (List ℕ)) whe
   abbrev pub HasTimeline : Window → Type 0
   HasTimeline window = ((page_facts request logs requested).window ≡ Some window) × (is_timed (page_facts request logs requested) ≡ true)
 
-  -- Whether the chart draws these spans as its bars of one kind, in at most `max_lanes` lanes.
-  abbrev pub ChartDraws : Window → GroupKind → ℕ → List Span → Type 0
-  ChartDraws window kind max_lanes spans = DrawsAll logs (page_outline request logs requested) window kind max_lanes spans (shapes_of kind (page_chart window))
+  -- Whether the chart draws these spans as its bars of one kind.
+  abbrev pub ChartDraws : Window → GroupKind → List Span → Type 0
+  ChartDraws window kind spans = DrawsAll logs (page_outline request logs requested) window kind spans (shapes_of kind (page_chart window))
 
 -- ---- elements of logs
 

@@ -23,7 +23,6 @@ ghost use Rattle.redo_page.specs.Limits.{bytes_shown, highest_cap};
 ghost use Rattle.redo_page.specs.NewSection.{news_parts, news_since};
 ghost use Rattle.redo_page.specs.Page.{Request, page_build, page_events, page_facts, page_html, page_news, page_outline, page_parts, page_usage, page_view};
 ghost use Rattle.redo_page.specs.Tree.{articles, root_failures, has_failed, is_moved, tree_parts};
-ghost use Rattle.redo_chart.specs.Bands.{max_caller_lanes, max_recipe_lanes, max_mark_lanes};
 ghost use Rattle.redo_chart.specs.Laws.{DrawsAll, shapes_of};
 ghost use Rattle.redo_html.specs.declared.chart.GroupKind.TheVariants.{Callers, Recipes, Untimed};
 ghost use Rattle.redo_trim.specs.Laws.{head_and_tail};
@@ -278,11 +277,11 @@ pub fn times_are_shown()
     ensures spans { (request : Request) (logs : List Log) (requested : List (List ℕ)) →
         AreSplit (page_outline request logs requested) request.times (page_facts request logs requested) }
     ensures callers { (request : Request) (logs : List Log) (requested : List (List ℕ)) (window : Window) →
-        ChartDraws request logs requested window Callers max_caller_lanes (page_facts request logs requested).callers }
+        ChartDraws request logs requested window Callers (page_facts request logs requested).callers }
     ensures recipes { (request : Request) (logs : List Log) (requested : List (List ℕ)) (window : Window) →
-        ChartDraws request logs requested window Recipes max_recipe_lanes (page_facts request logs requested).recipes }
+        ChartDraws request logs requested window Recipes (page_facts request logs requested).recipes }
     ensures marks { (request : Request) (logs : List Log) (requested : List (List ℕ)) (window : Window) →
-        ChartDraws request logs requested window Untimed max_mark_lanes (page_facts request logs requested).marks }
+        ChartDraws request logs requested window Untimed (page_facts request logs requested).marks }
 {
     window_is_over_known_times();
     spans_are_callers_or_recipes();
