@@ -151,13 +151,14 @@ fn push_if_diagnostic(
         ≡ occurrences.old.items ++ occurrence_if position (diagnostic_of line.now) [] []) }
     ensures is { IfOk result (λ is. is ≡ is_some (diagnostic_of line.now)) }
 {
-    let Some(diagnostic) = read_diagnostic(alloc, line)? else {
+    let mut plain = Vec::new(alloc);
+    let Some(diagnostic) = read_diagnostic(alloc, line, &mut plain)? else {
         return Ok(false);
     };
     let occurrence = Occurrence {
         line: position,
         severity: diagnostic.severity(),
-        key: diagnostic.key().to_vec(alloc)?,
+        key: diagnostic.into_key(),
         source: Vec::new(alloc),
     };
     occurrences.push(occurrence)?;

@@ -31,16 +31,16 @@ impl KeyCounts {
         }
     }
 
-    /// Counts a key, and returns how often it occurred before. The key is hashed once. The only error is that an allocation failed; then
-    /// nothing changes.
-    pub fn add(&mut self, alloc: Global, key: &[u8]) -> Result<u64, AllocError>
+    /// Counts a key, and returns how often it occurred before. The key is hashed once, and stored if it is new. The only error is that an
+    /// allocation failed; then nothing changes.
+    pub fn add(&mut self, key: Vec<u8>) -> Result<u64, AllocError>
         ensures before { (keys : List (List ℕ)) → AreCounts self.old keys → IfOk result (λ before.
-            before ≡ stored (times_of key.now keys)) }
-        ensures counted { (keys : List (List ℕ)) → AreCounts self.old keys → OnOk result (AreCounts self.new (keys ++ key.now ∷ [])) }
+            before ≡ stored (times_of key.items keys)) }
+        ensures counted { (keys : List (List ℕ)) → AreCounts self.old keys → OnOk result (AreCounts self.new (keys ++ key.items ∷ [])) }
         ensures unchanged { IfErr result (λ error. self.new ≡ self.old) }
     {
-        let key = Text::copy_of(alloc, key)?;
-        let entry = self.counts.entry(key)?;
+        let text = Text::new(key);
+        let entry = self.counts.entry(text)?;
         let count = entry.or_insert(0);
         let before = *count;
         *count = before.saturating_add(1);

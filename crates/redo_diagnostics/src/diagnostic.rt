@@ -1,70 +1,32 @@
-ghost use Rattle.std.specs.Prelude.{◌≡◌, false, None, Some, IfNone, IfOk, IfSome, ◌+◌, drop, length, option_map};
+ghost use Rattle.std.specs.Prelude.{◌≡◌, false, None, Some, IfNone, IfOk, IfSome, ◌+◌, drop, length, option_copied, option_map};
 ghost use Rattle.std.specs.List.{AllByRecursion};
 ghost use Rattle.redo_line.specs.Lines.{ended};
-ghost use Rattle.redo_diagnostics.specs.Diagnostic.{diagnostic_from, diagnostic_of, parts_in, place_of, word_of};
+ghost use Rattle.redo_diagnostics.specs.Diagnostic.{diagnostic_from, diagnostic_of, flag_in, message_in, parts_in, word_of};
+ghost use Rattle.redo_diagnostics.specs.Diagnostic as spec;
 
 use crate::flag::split_flag;
 use crate::key::key_of;
-use crate::place::place_of;
+use crate::place::{Place, origin_and_place};
 use crate::plain::push_plain;
 use crate::severity::Severity;
-use crate::text::Text;
 use crate::word::{find_word, word_of};
 use memchr::{memchr, memmem};
 use redo_html::ESCAPE;
 use std::alloc::{AllocError, Global};
 use std::marker::Model;
 
-/// The place that a diagnostic is about.
+/// A warning or an error. It borrows from the line without colours and links, and owns its key.
 #[derive(Drop)]
-pub struct Place {
-    file: Vec<u8>,
-    row: u32,
-    column: Option<u32>,
-}
-
-impl Model for Place {
-    ghost use Rattle.redo_diagnostics.specs.Diagnostic.{PlaceValue};
-
-    ghost Value = { PlaceValue };
-
-    ghost view = { λ place. record { file = place.file.items; row = place.row; column = place.column } };
-}
-
-impl Place {
-    /// Returns the name of the file, as written. It is not empty and has no colon.
-    pub fn file(&self) -> &[u8]
-        ensures { result.now ≡ self.now.file }
-    {
-        &self.file
-    }
-
-    /// Returns the row, which is below 10^9.
-    pub fn row(&self) -> u32
-        ensures { result ≡ self.now.row }
-    {
-        self.row
-    }
-
-    /// Returns the column, if the line has one. It is below 10^9.
-    pub fn column(&self) -> Option<u32>
-        ensures { result ≡ self.now.column }
-    {
-        self.column
-    }
-}
-
-/// A warning or an error.
-#[derive(Drop)]
-pub struct Diagnostic {
+pub struct Diagnostic<'a> {
     severity: Severity,
-    place: Option<Place>,
-    message: Text,
-    flag: Option<Text>,
-    key: Text,
+    place: Option<Place<'a>>,
+    message: &'a [u8],
+    flag: Option<&'a [u8]>,
+    key: Vec<u8>,
 }
 
-impl Model for Diagnostic {
+impl<'a> Model for Diagnostic<'a> {
+    ghost use Rattle.std.specs.Prelude.{option_copied};
     ghost use Rattle.redo_diagnostics.specs.Diagnostic.{DiagnosticValue};
 
     ghost Value = { DiagnosticValue };
@@ -72,13 +34,13 @@ impl Model for Diagnostic {
     ghost view = { λ diagnostic. record {
       severity = diagnostic.severity;
       place = diagnostic.place;
-      message = diagnostic.message;
-      flag = diagnostic.flag;
-      key = diagnostic.key;
+      message = diagnostic.message.now;
+      flag = option_copied diagnostic.flag;
+      key = diagnostic.key.items;
     } };
 }
 
-impl Diagnostic {
+impl<'a> Diagnostic<'a> {
     /// Returns the severity, by the word of the line.
     pub fn severity(&self) -> Severity
         ensures { result ≡ self.now.severity }
@@ -87,7 +49,7 @@ impl Diagnostic {
     }
 
     /// Returns the place, if the bytes before the word are one.
-    pub fn place(&self) -> Option<&Place>
+    pub fn place(&self) -> Option<&Place<'a>>
         ensures some { IfSome result (λ place. self.now.place ≡ Some place.now) }
         ensures none { IfNone result (self.now.place ≡ None) }
     {
@@ -98,21 +60,18 @@ impl Diagnostic {
     }
 
     /// Returns the message, without the flag.
-    pub fn message(&self) -> &[u8]
+    pub fn message(&self) -> &'a [u8]
         ensures { result.now ≡ self.now.message }
     {
-        self.message.bytes()
+        self.message
     }
 
     /// Returns the flag, if the message ends with one in brackets, such as `-Wunused`.
-    pub fn flag(&self) -> Option<&[u8]>
+    pub fn flag(&self) -> Option<&'a [u8]>
         ensures some { IfSome result (λ flag. self.now.flag ≡ Some flag.now) }
         ensures none { IfNone result (self.now.flag ≡ None) }
     {
-        match &self.flag {
-            Some(flag) => Some(flag.bytes()),
-            None => None,
-        }
+        self.flag
     }
 
     /// Returns the key: the file or program, a colon, a space, the word, and all that follows it. It has no row, no column and no
@@ -120,15 +79,27 @@ impl Diagnostic {
     pub fn key(&self) -> &[u8]
         ensures { result.now ≡ self.now.key }
     {
-        self.key.bytes()
+        &self.key
+    }
+
+    /// Returns the key by value, so that a map can store it without a copy.
+    pub fn into_key(self) -> Vec<u8>
+        ensures { result.items ≡ self.entry.key }
+    {
+        self.key
     }
 }
 
 /// Returns the diagnostic of a line, if it is one. The line must have no line feed, but may have any other bytes.
 ///
-/// Colours and links don't count. The only error is that an allocation failed. A line without a colon, or without a word and without
-/// an escape byte, allocates nothing. For n bytes, this takes O(n) time.
-pub fn read_diagnostic(alloc: Global, line: &[u8]) -> Result<Option<Diagnostic>, AllocError>
+/// Colours and links don't count. A line that has an escape byte is copied to `plain` without them; what `plain` had is lost. The only error
+/// is that an allocation failed. A line without a colon, or without a word and without an escape byte, allocates nothing. For n bytes, this
+/// takes O(n) time.
+pub fn read_diagnostic<'a>(
+    alloc: Global,
+    line: &'a [u8],
+    plain: &'a mut Vec<u8>,
+) -> Result<Option<Diagnostic<'a>>, AllocError>
     ensures { IfOk result (λ diagnostic. diagnostic ≡ diagnostic_of line.now) }
 {
     if memchr(ESCAPE, line).is_none() {
@@ -137,9 +108,9 @@ pub fn read_diagnostic(alloc: Global, line: &[u8]) -> Result<Option<Diagnostic>,
     if memchr(b':', line).is_none() {
         return Ok(None);
     }
-    let mut plain = Vec::new(alloc);
-    push_plain(line, &mut plain)?;
-    read_plain(alloc, &plain)
+    plain.clear();
+    push_plain(line, plain)?;
+    read_plain(alloc, plain)
 }
 
 /// Returns false only if none of these lines is a diagnostic. Each line ends with a line feed. How often it returns true changes only the
@@ -160,7 +131,7 @@ pub fn may_have_diagnostic(lines: &[u8]) -> bool
 }
 
 // Returns the diagnostic of a line without colours and links.
-fn read_plain(alloc: Global, plain: &[u8]) -> Result<Option<Diagnostic>, AllocError>
+fn read_plain<'a>(alloc: Global, plain: &'a [u8]) -> Result<Option<Diagnostic<'a>>, AllocError>
     ensures { IfOk result (λ diagnostic. diagnostic ≡ option_map diagnostic_from (parts_in plain.now)) }
 {
     let Some((at, severity)) = find_word(plain) else {
@@ -171,26 +142,34 @@ fn read_plain(alloc: Global, plain: &[u8]) -> Result<Option<Diagnostic>, AllocEr
 }
 
 // Returns the diagnostic with these bytes before its word, and these from the word on.
-fn from_parts(
+fn from_parts<'a>(
     alloc: Global,
-    head: &[u8],
+    head: &'a [u8],
     severity: Severity,
-    tail: &[u8],
-) -> Result<Diagnostic, AllocError>
+    tail: &'a [u8],
+) -> Result<Diagnostic<'a>, AllocError>
     ensures { IfOk result (λ diagnostic. diagnostic ≡ diagnostic_from (record { head = head.now; severity = severity; tail = tail.now })) }
 {
-    let text = text_of(severity, tail);
-    let (message, flag) = match split_flag(text) {
-        Some((message, flag)) => (message, Some(Text::copy_of(alloc, flag)?)),
-        None => (text, None),
-    };
+    let (origin, place) = origin_and_place(head);
+    let (message, flag) = message_and_flag(text_of(severity, tail));
     Ok(Diagnostic {
         severity,
-        place: copy_place(alloc, head)?,
-        message: Text::copy_of(alloc, message)?,
+        place,
+        message,
         flag,
-        key: Text::new(key_of(alloc, head, tail)?),
+        key: key_of(alloc, origin, tail)?,
     })
+}
+
+// Returns the message and the flag of a text.
+fn message_and_flag(text: &[u8]) -> (&[u8], Option<&[u8]>)
+    ensures message { result.0.now ≡ message_in text.now (spec.split_flag text.now) }
+    ensures flag { option_copied result.1 ≡ flag_in (spec.split_flag text.now) }
+{
+    match split_flag(text) {
+        Some((message, flag)) => (message, Some(flag)),
+        None => (text, None),
+    }
 }
 
 // Returns what follows the word and one space.
@@ -202,18 +181,5 @@ fn text_of(severity: Severity, tail: &[u8]) -> &[u8]
         &tail[word + 1..]
     } else {
         b""
-    }
-}
-
-fn copy_place(alloc: Global, head: &[u8]) -> Result<Option<Place>, AllocError>
-    ensures { IfOk result (λ place. place ≡ place_of head.now) }
-{
-    match place_of(head) {
-        Some(place) => Ok(Some(Place {
-            file: place.file.to_vec(alloc)?,
-            row: place.row,
-            column: place.column,
-        })),
-        None => Ok(None),
     }
 }

@@ -7,11 +7,11 @@ ghost use Rattle.redo_diagnostics.specs.Diagnostic as spec;
 use redo_line::split_at_first;
 use std::alloc::{AllocError, Global};
 
-/// Returns the key of a diagnostic, from the bytes before its word, and the bytes from the word on.
-pub fn key_of(alloc: Global, head: &[u8], tail: &[u8]) -> Result<Vec<u8>, AllocError>
-    ensures { IfOk result (λ key. key.items ≡ spec.masked (spec.origin_of head.now ++ codes ": " ++ tail.now)) }
+/// Returns the key of a diagnostic, from the file or program that it names, and the bytes from its word on.
+pub fn key_of(alloc: Global, origin: &[u8], tail: &[u8]) -> Result<Vec<u8>, AllocError>
+    ensures { IfOk result (λ key. key.items ≡ spec.masked (origin.now ++ codes ": " ++ tail.now)) }
 {
-    let bytes = whole_key(alloc, origin_of(head), tail)?;
+    let bytes = whole_key(alloc, origin, tail)?;
     if has_temporary(&bytes) {
         masked(alloc, &bytes)
     } else {
@@ -29,16 +29,6 @@ fn whole_key(alloc: Global, origin: &[u8], tail: &[u8]) -> Result<Vec<u8>, Alloc
     bytes.extend_from_slice(b": ")?;
     bytes.extend_from_slice(tail)?;
     Ok(bytes)
-}
-
-// Returns what precedes the first colon, if there is one.
-fn origin_of(head: &[u8]) -> &[u8]
-    ensures { result.now ≡ spec.origin_of head.now }
-{
-    match split_at_first(b':', head) {
-        Some((origin, _)) => origin,
-        None => b"",
-    }
 }
 
 // Returns true unless no name of a temporary file is in a text, which then has nothing to replace.

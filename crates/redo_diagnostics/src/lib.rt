@@ -9,6 +9,8 @@
 //!   an end is none, and counts.
 //! - A word ends with its only colon, so the code looks for a word only before each colon. The definition tests each place.
 //!   [`may_have_diagnostic`] rules out many lines at once.
+//! - A diagnostic borrows from its line, or from the buffer that a line with colours or links is copied to without them. Only its key is
+//!   allocated, and the key moves into [`KeyCounts`] without a copy.
 //! - A key always has a colon and a space after its origin, even if the origin is empty: `warning: x` has the key `: warning: x`.
 //!   Otherwise `warning:y warning: z` and `warning: warning: z` would have the same key.
 //! - What precedes the word doesn't count without a colon. It names no file and no program, and is often a number that changes: of a
@@ -30,9 +32,10 @@ mod text;
 mod word;
 
 pub use counts::KeyCounts;
-pub use diagnostic::{Diagnostic, Place, may_have_diagnostic, read_diagnostic};
+pub use diagnostic::{Diagnostic, may_have_diagnostic, read_diagnostic};
 pub use laws::{
     colours_and_links_say_nothing, ids_are_distinct, keys_ignore_places, keys_tell_apart,
 };
+pub use place::Place;
 pub use plain::push_plain;
 pub use severity::Severity;

@@ -1,26 +1,68 @@
 //! The place that a diagnostic is about.
-ghost use Rattle.std.specs.Prelude.{◌≡◌, None, Some, IfNone, IfSome, option_map};
+ghost use Rattle.std.specs.Prelude.{◌≡◌, None, Some, IfNone, IfSome, option_and_then, option_map};
+ghost use Rattle.redo_line.specs.Parts.{split_once};
+ghost use Rattle.redo_line.specs.Record.{colon};
 ghost use Rattle.redo_diagnostics.specs.Diagnostic as spec;
+ghost use Rattle.redo_diagnostics.specs.Diagnostic.{place_from};
 
 use redo_line::{read_number, split_at_first};
+use std::marker::Model;
 
-/// A place in a plain line.
-#[derive(Clone, Copy)]
-pub struct PlaceIn<'a> {
-    pub file: &'a [u8],
-    pub row: u32,
-    pub column: Option<u32>,
+/// The place that a diagnostic is about. It borrows from the line without colours and links.
+#[derive(Drop)]
+pub struct Place<'a> {
+    file: &'a [u8],
+    row: u32,
+    column: Option<u32>,
 }
 
-/// Returns the place in the bytes before a word: `F:R: ` or `F:R:C: `.
-pub fn place_of(head: &[u8]) -> Option<PlaceIn<'_>>
-    ensures some { IfSome result (λ place.
-        spec.place_of head.now ≡ Some (record { file = place.file.now; row = place.row; column = place.column })) }
-    ensures none { IfNone result (spec.place_of head.now ≡ None) }
+impl<'a> Model for Place<'a> {
+    ghost use Rattle.redo_diagnostics.specs.Diagnostic.{PlaceValue};
+
+    ghost Value = { PlaceValue };
+
+    ghost view = { λ place. record { file = place.file.now; row = place.row; column = place.column } };
+}
+
+impl<'a> Place<'a> {
+    /// Returns the name of the file, as written. It is not empty and has no colon.
+    pub fn file(&self) -> &'a [u8]
+        ensures { result.now ≡ self.now.file }
+    {
+        self.file
+    }
+
+    /// Returns the row, which is below 10^9.
+    pub fn row(&self) -> u32
+        ensures { result ≡ self.now.row }
+    {
+        self.row
+    }
+
+    /// Returns the column, if the line has one. It is below 10^9.
+    pub fn column(&self) -> Option<u32>
+        ensures { result ≡ self.now.column }
+    {
+        self.column
+    }
+}
+
+/// Returns the file or program that the bytes before a word name, and the place in them: `F:R: ` or `F:R:C: `. Both need the first colon,
+/// which is looked for once.
+pub fn origin_and_place(head: &[u8]) -> (&[u8], Option<Place<'_>>)
+    ensures origin { result.0.now ≡ spec.origin_of head.now }
+    ensures place { result.1 ≡ spec.place_of head.now }
 {
-    let Some((file, others)) = split_at_first(b':', head) else {
-        return None;
-    };
+    match split_at_first(b':', head) {
+        Some((file, others)) => (file, place_of(file, others)),
+        None => (b"", None),
+    }
+}
+
+// Returns the place, from the bytes before and after the first colon.
+fn place_of<'a>(file: &'a [u8], others: &[u8]) -> Option<Place<'a>>
+    ensures { result ≡ place_from file.now (option_and_then (λ row. spec.row_and_column row) (split_once colon others.now)) }
+{
     if file.is_empty() {
         return None;
     }
@@ -28,7 +70,7 @@ pub fn place_of(head: &[u8]) -> Option<PlaceIn<'_>>
         return None;
     };
     match row_and_column(row, others) {
-        Some((row, column)) => Some(PlaceIn { file, row, column }),
+        Some((row, column)) => Some(Place { file, row, column }),
         None => None,
     }
 }

@@ -1,11 +1,10 @@
-//! Bytes that a diagnostic owns.
-ghost use Rattle.std.specs.Prelude.{◌≡◌, [], ◌∷◌, IfOk, nat_eq};
+//! Bytes that a map owns.
+ghost use Rattle.std.specs.Prelude.{◌≡◌, [], ◌∷◌, nat_eq};
 ghost use Rattle.std.proofs.Common.{rules};
 ghost use Rattle.std.specs.Cmp.{partial_equiv_from_equiv};
 ghost use Rattle.std.specs.Cmp.Lexicographic.{nat_list_eq_equiv, pointwise};
 ghost use Rattle.std.specs.Cmp.Rules.{hashing};
 
-use std::alloc::{AllocError, Global};
 use std::hash::{Hash, Hasher};
 use std::marker::Model;
 
@@ -28,14 +27,6 @@ impl Text {
         ensures { result ≡ bytes.items }
     {
         Text { bytes }
-    }
-
-    pub fn copy_of(alloc: Global, bytes: &[u8]) -> Result<Text, AllocError>
-        ensures { IfOk result (λ text. text ≡ bytes.now) }
-    {
-        Ok(Text {
-            bytes: bytes.to_vec(alloc)?,
-        })
     }
 
     pub fn bytes(&self) -> &[u8]

@@ -11,6 +11,8 @@ mod EveryLemmas
 mod ExactLemmas
 mod FieldRows
 mod FormLemmas
+mod JoinLemmas
+mod KeyVerbatimLemmas
 mod LawLemmas
 mod LeftLemmas
 mod LineLemmas

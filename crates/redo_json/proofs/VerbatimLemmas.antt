@@ -1,6 +1,6 @@
 -- Bytes that strings have as they are, and diagnostics of such bytes.
 use Rattle.std.proofs.Common.{◌≡◌, ℕ, Bool, true, List, [], ◌∷◌, ◌++◌, Option, None, Some, refl, sym, ap, ap₂, ◌∙◌, append_assoc}
-use Rattle.std.specs.Prelude.{codes, decimal, nat_lt}
+use Rattle.std.specs.Prelude.{IfSome, codes, decimal, nat_lt}
 use Rattle.std.specs.List.{list_all}
 use Rattle.std.proofs.lemmas.Bool.{and_from, and_parts}
 use Rattle.std.proofs.lemmas.List.{append-nil}
@@ -9,10 +9,12 @@ use Rattle.json.specs.Print.{print}
 use Rattle.json.specs.Run.{is_plain}
 use Rattle.json.specs.Tree.{json_tokens}
 use Rattle.json.proofs.Printed.Utf8.{IsUtf8-are_ascii, are_ascii}
+use Rattle.redo_diagnostics.specs.declared.severity.Severity.{Severity}
 use Rattle.redo_diagnostics.specs.Diagnostic.{DiagnosticValue, PlaceValue}
 use Rattle.redo_json.specs.Diagnostics.{LogDiagnostic}
 use Rattle.redo_json.specs.Fields.{bytes_fields, number_value, optional_bytes_fields}
-use Rattle.redo_json.specs.Private.Parts.{comma_fields, comma_if, diagnostic_back, diagnostic_front, diagnostic_text, place_text, severity_text, string_start}
+use Rattle.redo_json.specs.Private.Parts.{comma_fields, comma_if, diagnostic_back, diagnostic_front, diagnostic_text, flag_text, number_text, place_text, severity_text, string_start, strings_text}
+use Rattle.redo_json.specs.Private.Diagnosing.{IsVerbatimDiagnostic}
 use Rattle.redo_json.specs.Private.Writing.{IsVerbatim, is_verbatim_byte}
 use Rattle.redo_json.proofs.DiagnosticLemmas.{diagnostic_parts, end_text, flag_start, key_start, last_is, last_text, message_start, no_flag, place_parts}
 use Rattle.redo_json.proofs.EscapeLemmas.{escape_plain}
@@ -48,51 +50,47 @@ member_with name start bytes starts is =
 
 module _ (is_first : Bool) (line : ℕ) (value : DiagnosticValue) (start : List ℕ)
     (starts : start ≡ comma_if is_first ++ codes "{\"line\":") where
-  in_front : (middle : List ℕ) → middle ≡ severity_text value.severity ++ (place_text value.place ++ string_start (codes "message"))
+  pub in_front : (middle : List ℕ) → middle ≡ severity_text value.severity ++ (place_text value.place ++ string_start (codes "message"))
       → start ++ (decimal line ++ middle) ≡ diagnostic_front is_first line value
   in_front middle is =
       ap (λ (l : List ℕ). l ++ (decimal line ++ middle)) starts
       ∙ append_assoc (comma_if is_first) (codes "{\"line\":") (decimal line ++ middle)
       ∙ ap (λ (l : List ℕ). comma_if is_first ++ (codes "{\"line\":" ++ (decimal line ++ l))) is
 
-  pub front_without : (middle : List ℕ) → value.place ≡ None
-      → middle ≡ severity_text value.severity ++ (place_text None ++ string_start (codes "message"))
-      → start ++ (decimal line ++ (middle ++ [])) ≡ diagnostic_front is_first line value
-  front_without middle none is = in_front (middle ++ []) (append-nil middle ∙ is
-      ∙ ap (λ (place : Option PlaceValue). severity_text value.severity ++ (place_text place ++ string_start (codes "message"))) (sym none))
-
-  pub front_with : (place : PlaceValue) (middle file column : List ℕ) (row : ℕ) → value.place ≡ Some place → IsVerbatim place.file
-      → middle ≡ severity_text value.severity ++ string_start (codes "file")
-      → file ≡ place.file → row ≡ place.row → column ≡ print (json_tokens (number_value place.column))
-      → start ++ (decimal line ++ (middle ++ (file ++ (codes "\",\"row\":" ++ (decimal row
-      ++ (codes ",\"column\":" ++ (column ++ (codes ",\"message\":\"" ++ []))))))))
-      ≡ diagnostic_front is_first line value
-  front_with place middle file column row some verbatim is file_is row_is column_is = in_front _
-      (ap₂ (λ (f : List ℕ) (r : ℕ). middle ++ (f ++ (34 ∷ (codes ",\"row\":" ++ (decimal r ++ (codes ",\"column\":"
-      ++ (column ++ (codes ",\"message\":\"" ++ [])))))))) file_is row_is
-      ∙ ap (λ (l : List ℕ). l ++ (place.file ++ (34 ∷ (codes ",\"row\":" ++ (decimal place.row ++ (codes ",\"column\":"
-      ++ (column ++ (codes ",\"message\":\"" ++ [])))))))) is
-      ∙ placed (severity_text value.severity) (string_start (codes "file")) place.file (codes ",\"row\":") (decimal place.row)
-      (codes ",\"column\":") column (codes ",\"message\":\"")
-      ∙ ap (λ (l : List ℕ). severity_text value.severity
-      ++ ((l ++ ((codes ",\"row\":" ++ (decimal place.row ++ (codes ",\"column\":" ++ [])))
-      ++ column)) ++ codes ",\"message\":\"")) (member_with (codes "file") (string_start (codes "file")) place.file refl verbatim)
-      ∙ ap (λ (l : List ℕ). severity_text value.severity ++ ((comma_fields (bytes_fields (codes "file") place.file)
-      ++ ((codes ",\"row\":" ++ (decimal place.row ++ (codes ",\"column\":" ++ []))) ++ l)) ++ codes ",\"message\":\"")) column_is
-      ∙ ap (λ (l : List ℕ). severity_text value.severity ++ (l ++ codes ",\"message\":\"")) (place_parts place)
-      ∙ ap (λ (l : List ℕ). severity_text value.severity ++ (place_text (Some place) ++ l)) message_start
-      ∙ ap (λ (one : Option PlaceValue). severity_text value.severity ++ (place_text one ++ string_start (codes "message"))) (sym some))
-    where
-      placed : (s f file r n c col m : List ℕ)
-          → (s ++ f) ++ (file ++ (34 ∷ (r ++ (n ++ (c ++ (col ++ (m ++ [])))))))
-          ≡ s ++ (((f ++ (file ++ 34 ∷ [])) ++ ((r ++ (n ++ (c ++ []))) ++ col)) ++ m)
-      placed s f file r n c col m = simp (append_assoc, append-nil)
+-- The members with a severity and a place, and the start of the member with the message.
+pub place_joined : (severity : Severity) (place : PlaceValue) (middle file : List ℕ) (row : ℕ) (column : Option ℕ) → IsVerbatim place.file
+    → middle ≡ severity_text severity ++ string_start (codes "file")
+    → file ≡ place.file → row ≡ place.row → column ≡ place.column
+    → middle ++ (file ++ (codes "\",\"row\":" ++ (decimal row
+    ++ (codes ",\"column\":" ++ (print (json_tokens (number_value column)) ++ codes ",\"message\":\"")))))
+    ≡ severity_text severity ++ (place_text (Some place) ++ string_start (codes "message"))
+place_joined severity place middle file row column verbatim is file_is row_is column_is =
+    let column_text = print (json_tokens (number_value column)) in
+    ap₂ (λ (f : List ℕ) (r : ℕ). middle ++ (f ++ (34 ∷ (codes ",\"row\":" ++ (decimal r ++ (codes ",\"column\":"
+    ++ (column_text ++ codes ",\"message\":\""))))))) file_is row_is
+    ∙ ap (λ (l : List ℕ). l ++ (place.file ++ (34 ∷ (codes ",\"row\":" ++ (decimal place.row ++ (codes ",\"column\":"
+    ++ (column_text ++ codes ",\"message\":\""))))))) is
+    ∙ placed (severity_text severity) (string_start (codes "file")) place.file (codes ",\"row\":") (decimal place.row)
+    (codes ",\"column\":") column_text (codes ",\"message\":\"")
+    ∙ ap (λ (l : List ℕ). severity_text severity
+    ++ ((l ++ ((codes ",\"row\":" ++ (decimal place.row ++ (codes ",\"column\":" ++ [])))
+    ++ column_text)) ++ codes ",\"message\":\"")) (member_with (codes "file") (string_start (codes "file")) place.file refl verbatim)
+    ∙ ap (λ (n : Option ℕ). severity_text severity ++ ((comma_fields (bytes_fields (codes "file") place.file)
+    ++ ((codes ",\"row\":" ++ (decimal place.row ++ (codes ",\"column\":" ++ [])))
+    ++ print (json_tokens (number_value n)))) ++ codes ",\"message\":\"")) column_is
+    ∙ ap (λ (l : List ℕ). severity_text severity ++ (l ++ codes ",\"message\":\"")) (place_parts place)
+    ∙ ap (λ (l : List ℕ). severity_text severity ++ (place_text (Some place) ++ l)) message_start
+  where
+    placed : (s f file r n c col m : List ℕ)
+        → (s ++ f) ++ (file ++ (34 ∷ (r ++ (n ++ (c ++ (col ++ m))))))
+        ≡ s ++ (((f ++ (file ++ 34 ∷ [])) ++ ((r ++ (n ++ (c ++ []))) ++ col)) ++ m)
+    placed s f file r n c col m = simp (append_assoc, append-nil)
 
 -- ---- the back
 
 module _ (value : DiagnosticValue) (nth : ℕ) (new : Option Bool) (end : List ℕ) (ends : end ≡ end_text new)
     (verbatim_key : IsVerbatim value.key) (message key : List ℕ) (message_is : message ≡ value.message) (key_is : key ≡ value.key) where
-  pub back_without : value.flag ≡ None
+  back_without : value.flag ≡ None
       → message ++ (codes "\",\"flag\":null,\"key\":\"" ++ (key ++ (codes "\",\"nth\":" ++ (decimal nth ++ (end ++ [])))))
       ≡ diagnostic_back value nth new
   back_without none =
@@ -109,7 +107,7 @@ module _ (value : DiagnosticValue) (nth : ℕ) (new : Option Bool) (end : List �
       backed : (m f k key n : List ℕ) → m ++ (34 ∷ ((f ++ k) ++ (key ++ (34 ∷ n)))) ≡ m ++ (34 ∷ (f ++ ((k ++ (key ++ 34 ∷ [])) ++ n)))
       backed m f k key n = simp append_assoc
 
-  pub back_with : (flag : List ℕ) → value.flag ≡ Some flag → IsVerbatim flag
+  back_with : (flag : List ℕ) → value.flag ≡ Some flag → IsVerbatim flag
       → message ++ (codes "\",\"flag\":\"" ++ (flag ++ (codes "\",\"key\":\"" ++ (key
       ++ (codes "\",\"nth\":" ++ (decimal nth ++ (end ++ [])))))))
       ≡ diagnostic_back value nth new
@@ -131,9 +129,33 @@ module _ (value : DiagnosticValue) (nth : ℕ) (new : Option Bool) (end : List �
           ≡ m ++ (34 ∷ ((f ++ (flag ++ 34 ∷ [])) ++ ((k ++ (key ++ 34 ∷ [])) ++ n)))
       backed m f flag k key n = simp append_assoc
 
+-- The strings and what follows them.
+back_parts : (value : DiagnosticValue) (nth : ℕ) (new : Option Bool) → IsVerbatimDiagnostic value
+    → strings_text value ++ number_text nth new ≡ diagnostic_back value nth new
+back_parts value nth new verbatim = by value.flag refl verbatim.flag
+  where
+    without : (m f k n d e : List ℕ) → (m ++ (f ++ k)) ++ (n ++ (d ++ e)) ≡ m ++ (f ++ (k ++ (n ++ (d ++ (e ++ [])))))
+    without m f k n d e = simp (append_assoc, append-nil)
+
+    with : (m f g h k n d e : List ℕ)
+        → (m ++ ((f ++ (g ++ h)) ++ k)) ++ (n ++ (d ++ e)) ≡ m ++ (f ++ (g ++ (h ++ (k ++ (n ++ (d ++ (e ++ [])))))))
+    with m f g h k n d e = simp (append_assoc, append-nil)
+
+    by : (flag : Option (List ℕ)) → value.flag ≡ flag → IfSome flag IsVerbatim
+        → strings_text value ++ number_text nth new ≡ diagnostic_back value nth new
+    by None is plain =
+        ap (λ (flag : Option (List ℕ)). (value.message ++ (flag_text flag ++ value.key)) ++ number_text nth new) is
+        ∙ without value.message (codes "\",\"flag\":null,\"key\":\"") value.key (codes "\",\"nth\":") (decimal nth) (end_text new)
+        ∙ back_without value nth new (end_text new) refl verbatim.key value.message value.key refl refl is
+    by (Some flag) is plain =
+        ap (λ (flag : Option (List ℕ)). (value.message ++ (flag_text flag ++ value.key)) ++ number_text nth new) is
+        ∙ with value.message (codes "\",\"flag\":\"") flag (codes "\",\"key\":\"") value.key (codes "\",\"nth\":") (decimal nth)
+        (end_text new)
+        ∙ back_with value nth new (end_text new) refl verbatim.key value.message value.key refl refl flag is plain
+
 -- ---- front and back
 
-pub verbatim_parts : (one : LogDiagnostic) (new : Option Bool) (is_first : Bool) → IsVerbatim one.value.message
+verbatim_parts : (one : LogDiagnostic) (new : Option Bool) (is_first : Bool) → IsVerbatim one.value.message
     → diagnostic_front is_first one.line one.value ++ diagnostic_back one.value one.nth new ≡ diagnostic_text is_first (one, new)
 verbatim_parts one new is_first message =
     let value = one.value in
@@ -149,3 +171,11 @@ verbatim_parts one new is_first message =
     joined : (a b c d e f m x : List ℕ) → (a ++ (b ++ (c ++ (d ++ (e ++ f))))) ++ (m ++ (34 ∷ x))
         ≡ (a ++ (b ++ (c ++ []))) ++ (d ++ (e ++ ((f ++ (m ++ 34 ∷ [])) ++ x)))
     joined a b c d e f m x = simp (append_assoc, append-nil)
+
+-- A joined object: the front, the strings, and what follows them.
+pub joined_object : (one : LogDiagnostic) (new : Option Bool) (is_first : Bool) → IsVerbatimDiagnostic one.value
+    → diagnostic_front is_first one.line one.value ++ (strings_text one.value ++ number_text one.nth new)
+    ≡ diagnostic_text is_first (one, new)
+joined_object one new is_first verbatim =
+    ap (λ (l : List ℕ). diagnostic_front is_first one.line one.value ++ l) (back_parts one.value one.nth new verbatim)
+    ∙ verbatim_parts one new is_first verbatim.message

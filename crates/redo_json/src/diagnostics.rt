@@ -1,20 +1,21 @@
 //! The member of an object with the diagnostics of a log.
-ghost use Rattle.std.specs.Prelude.{◌≡◌, ◌∷◌, ◌++◌, [], None, Some, true, IfSome, codes, option_copied};
+ghost use Rattle.std.specs.Prelude.{◌≡◌, ◌∷◌, ◌++◌, ℕ, List, [], None, Some, true, OnOk, codes, option_copied};
 ghost use Rattle.json.specs.Json.{string};
 ghost use Rattle.json.specs.Print.{print};
 ghost use Rattle.json.specs.Tree.{json_tokens};
 ghost use Rattle.redo_device.specs.Sink.{Writes};
+ghost use Rattle.redo_diagnostics.specs.Counts.{AreCounts, stored, times_of};
 ghost use Rattle.redo_outline.specs.Facts.{entries_at, texts_of};
 ghost use Rattle.redo_view.specs.Form.{FormWrites};
 ghost use Rattle.redo_json.specs.Diagnostics.{diagnostics_field, diagnostics_of, first_flag, flagged, other_flags, severity_name};
 ghost use Rattle.redo_json.specs.Fields.{boolean_value, field, number_value, optional_bytes_fields};
-ghost use Rattle.redo_json.specs.Private.Diagnosing.{IsVerbatimDiagnostic};
-ghost use Rattle.redo_json.specs.Private.Parts.{comma_field, comma_fields, comma_if, diagnostic_back, diagnostic_front, diagnostic_text, diagnostics_text, part_text, place_text, severity_text, string_start};
-ghost use Rattle.redo_json.specs.Private.Writing.{IsVerbatim};
+ghost use Rattle.redo_json.specs.Private.Diagnosing.{IsOfLine, IsVerbatimDiagnostic};
+ghost use Rattle.redo_json.specs.Private.Parts.{comma_field, comma_fields, diagnostic_text, diagnostics_text, place_text};
 
 use crate::field::write_bytes;
+use crate::joined::{object_end, object_start, write_joined};
 use crate::log_lines::LogLines;
-use crate::part::{Part, write_joined, write_parts};
+use crate::part::{Part, write_parts};
 use crate::plain::is_verbatim;
 use redo_device::{Broken, Sink, push_all};
 use redo_diagnostics::{Diagnostic, KeyCounts, Place, Severity, read_diagnostic};
@@ -56,13 +57,23 @@ fn write_each<W: Sink>(
 {
     let mut lines = LogLines::new(table, number);
     let mut counts = KeyCounts::new(alloc, keys);
+    let mut plain = Vec::new(alloc);
+    let mut object = Vec::new(alloc);
     let mut is_first = true;
     let mut left = flags;
     'each: while let Some((position, line)) = lines.next_candidate() {
-        if let Some(diagnostic) = read_diagnostic(alloc, line)? {
-            let nth = counts.add(alloc, diagnostic.key())?;
+        if let Some(diagnostic) = read_diagnostic(alloc, line, &mut plain)? {
             let (new, others) = next_flag(left);
-            write_diagnostic(is_first, position, &diagnostic, nth, new, out)?;
+            write_diagnostic(
+                alloc,
+                is_first,
+                position,
+                diagnostic,
+                new,
+                &mut counts,
+                &mut object,
+                out,
+            )?;
             is_first = false;
             left = others;
         }
@@ -82,169 +93,46 @@ fn next_flag(flags: Option<&[bool]>) -> (Option<bool>, Option<&[bool]>)
     }
 }
 
-// Writes the object of a diagnostic, after a comma unless it is the first one.
+// Writes the object of a diagnostic, after a comma unless it is the first one, and counts its key. `object` is overwritten.
 fn write_diagnostic<W: Sink>(
+    alloc: Global,
     is_first: bool,
     position: usize,
-    diagnostic: &Diagnostic,
-    nth: u64,
+    diagnostic: Diagnostic<'_>,
     new: Option<bool>,
+    counts: &mut KeyCounts,
+    object: &mut Vec<u8>,
     out: &mut W,
-) -> Result<(), Broken>
-    ensures { Writes (W.written out.old) (W.written out.new)
-        (diagnostic_text is_first (record { line = position; value = diagnostic.now; nth = nth }, new)) result }
+) -> Result<(), FormFault>
+    requires { IsOfLine diagnostic }
+    ensures counted { (keys : List (List ℕ)) → AreCounts counts.old keys → OnOk result (
+        AreCounts counts.new (keys ++ diagnostic.entry.key ∷ [])) }
+    ensures wrote { (keys : List (List ℕ)) → AreCounts counts.old keys → FormWrites (W.written out.old) (W.written out.new)
+        (diagnostic_text is_first
+        (record { line = position; value = diagnostic.entry; nth = stored (times_of diagnostic.entry.key keys) }, new)) result }
 {
-    if !is_verbatim_diagnostic(diagnostic) {
-        return write_any_diagnostic(is_first, position, diagnostic, nth, new, out);
+    if is_verbatim_diagnostic(&diagnostic) {
+        return write_joined(is_first, position, diagnostic, new, counts, object, out);
     }
-    write_diagnostic_front(is_first, position, diagnostic, out)?;
-    write_diagnostic_back(diagnostic, nth, new, out)
+    let nth = counts.add(diagnostic.key().to_vec(alloc)?)?;
+    write_any_diagnostic(is_first, position, &diagnostic, nth, new, out)?;
+    Ok(())
 }
 
-// Returns true only if all strings of a diagnostic are written as they are.
-fn is_verbatim_diagnostic(diagnostic: &Diagnostic) -> bool
+// Returns true only if all strings of a diagnostic are written as they are. It looks only at the key, which has the other strings in it: the
+// letters and digits that are replaced in a name of a temporary file are written as they are, too.
+fn is_verbatim_diagnostic(diagnostic: &Diagnostic<'_>) -> bool
+    requires { IsOfLine diagnostic.now }
     ensures { result ≡ true → IsVerbatimDiagnostic diagnostic.now }
 {
     is_verbatim(diagnostic.key())
-        && is_verbatim(diagnostic.message())
-        && is_verbatim_flag(diagnostic.flag())
-        && is_verbatim_place(diagnostic.place())
-}
-
-fn is_verbatim_flag(flag: Option<&[u8]>) -> bool
-    ensures { result ≡ true → IfSome (option_copied flag.entry) (λ bytes. IsVerbatim bytes) }
-{
-    match flag {
-        None => true,
-        Some(flag) => is_verbatim(flag),
-    }
-}
-
-fn is_verbatim_place(place: Option<&Place>) -> bool
-    ensures { result ≡ true → IfSome (option_copied place.entry) (λ one. IsVerbatim one.file) }
-{
-    match place {
-        None => true,
-        Some(place) => is_verbatim(place.file()),
-    }
-}
-
-// Writes the object of a diagnostic up to the first byte of its message, after a comma unless it is the first one.
-fn write_diagnostic_front<W: Sink>(
-    is_first: bool,
-    position: usize,
-    diagnostic: &Diagnostic,
-    out: &mut W,
-) -> Result<(), Broken>
-    requires { IsVerbatimDiagnostic diagnostic.now }
-    ensures { Writes (W.written out.old) (W.written out.new) (diagnostic_front is_first position diagnostic.now) result }
-{
-    match diagnostic.place() {
-        None => write_joined(
-            &[
-                Part::Json(object_start(is_first)),
-                Part::Number(position as u64),
-                Part::Json(front_without_place(diagnostic.severity())),
-            ],
-            out,
-        ),
-        Some(place) => write_joined(
-            &[
-                Part::Json(object_start(is_first)),
-                Part::Number(position as u64),
-                Part::Json(front_of_file(diagnostic.severity())),
-                Part::Json(place.file()),
-                Part::Json(b"\",\"row\":"),
-                Part::Number(place.row() as u64),
-                Part::Json(b",\"column\":"),
-                column_part(place.column()),
-                Part::Json(b",\"message\":\""),
-            ],
-            out,
-        ),
-    }
-}
-
-fn column_part(column: Option<u32>) -> Part<'static>
-    ensures { part_text result ≡ print (json_tokens (number_value column)) }
-{
-    match column {
-        None => Part::Json(b"null"),
-        Some(column) => Part::Number(column as u64),
-    }
-}
-
-// Returns the members with the severity and no place, and the start of the member with the message.
-fn front_without_place(severity: Severity) -> &'static [u8]
-    ensures { result.now ≡ severity_text severity ++ (place_text None ++ string_start (codes "message")) }
-{
-    match severity {
-        Severity::Warning => {
-            b",\"severity\":\"warning\",\"file\":null,\"row\":null,\"column\":null,\"message\":\""
-        }
-        Severity::Error => {
-            b",\"severity\":\"error\",\"file\":null,\"row\":null,\"column\":null,\"message\":\""
-        }
-        Severity::FatalError => {
-            b",\"severity\":\"fatal error\",\"file\":null,\"row\":null,\"column\":null,\"message\":\""
-        }
-    }
-}
-
-// Returns the member with the severity, and the start of the member with the file.
-fn front_of_file(severity: Severity) -> &'static [u8]
-    ensures { result.now ≡ severity_text severity ++ string_start (codes "file") }
-{
-    match severity {
-        Severity::Warning => b",\"severity\":\"warning\",\"file\":\"",
-        Severity::Error => b",\"severity\":\"error\",\"file\":\"",
-        Severity::FatalError => b",\"severity\":\"fatal error\",\"file\":\"",
-    }
-}
-
-// Writes the object of a diagnostic from the first byte of its message on.
-fn write_diagnostic_back<W: Sink>(
-    diagnostic: &Diagnostic,
-    nth: u64,
-    new: Option<bool>,
-    out: &mut W,
-) -> Result<(), Broken>
-    requires { IsVerbatimDiagnostic diagnostic.now }
-    ensures { Writes (W.written out.old) (W.written out.new) (diagnostic_back diagnostic.now nth new) result }
-{
-    match diagnostic.flag() {
-        None => write_joined(
-            &[
-                Part::Json(diagnostic.message()),
-                Part::Json(b"\",\"flag\":null,\"key\":\""),
-                Part::Json(diagnostic.key()),
-                Part::Json(b"\",\"nth\":"),
-                Part::Number(nth),
-                Part::Json(object_end(new)),
-            ],
-            out,
-        ),
-        Some(flag) => write_joined(
-            &[
-                Part::Json(diagnostic.message()),
-                Part::Json(b"\",\"flag\":\""),
-                Part::Json(flag),
-                Part::Json(b"\",\"key\":\""),
-                Part::Json(diagnostic.key()),
-                Part::Json(b"\",\"nth\":"),
-                Part::Number(nth),
-                Part::Json(object_end(new)),
-            ],
-            out,
-        ),
-    }
 }
 
 // Writes the object of a diagnostic, whatever bytes it has, after a comma unless it is the first one.
 fn write_any_diagnostic<W: Sink>(
     is_first: bool,
     position: usize,
-    diagnostic: &Diagnostic,
+    diagnostic: &Diagnostic<'_>,
     nth: u64,
     new: Option<bool>,
     out: &mut W,
@@ -274,33 +162,6 @@ fn write_any_diagnostic<W: Sink>(
     )
 }
 
-// Returns the end of a diagnostic's object, from the member that says whether it is new.
-fn object_end(new: Option<bool>) -> &'static [u8]
-    ensures { result.now ≡ comma_field (field (codes "new") (boolean_value new)) ++ 125 ∷ [] }
-{
-    match new {
-        None => b",\"new\":null}",
-        Some(is_new) => {
-            if is_new {
-                b",\"new\":true}"
-            } else {
-                b",\"new\":false}"
-            }
-        }
-    }
-}
-
-// Returns the start of a diagnostic's object up to the position of its line, with the comma before an object that isn't the first one.
-fn object_start(is_first: bool) -> &'static [u8]
-    ensures { result.now ≡ comma_if is_first ++ codes "{\"line\":" }
-{
-    if is_first {
-        b"{\"line\":"
-    } else {
-        b",{\"line\":"
-    }
-}
-
 fn write_severity<W: Sink>(severity: Severity, out: &mut W) -> Result<(), Broken>
     ensures { Writes (W.written out.old) (W.written out.new)
         (comma_field (field (codes "severity") (string (severity_name severity)))) result }
@@ -313,7 +174,7 @@ fn write_severity<W: Sink>(severity: Severity, out: &mut W) -> Result<(), Broken
 }
 
 // Writes the members with the place of a diagnostic. What isn't known is `null`.
-fn write_place<W: Sink>(place: Option<&Place>, out: &mut W) -> Result<(), Broken>
+fn write_place<W: Sink>(place: Option<&Place<'_>>, out: &mut W) -> Result<(), Broken>
     ensures { Writes (W.written out.old) (W.written out.new) (place_text (option_copied place.entry)) result }
 {
     match place {
@@ -322,7 +183,7 @@ fn write_place<W: Sink>(place: Option<&Place>, out: &mut W) -> Result<(), Broken
     }
 }
 
-fn write_known_place<W: Sink>(place: &Place, out: &mut W) -> Result<(), Broken>
+fn write_known_place<W: Sink>(place: &Place<'_>, out: &mut W) -> Result<(), Broken>
     ensures { Writes (W.written out.old) (W.written out.new) (place_text (Some place.now)) result }
 {
     write_bytes(b"file", b",\"file\":\"", place.file(), out)?;

@@ -25,7 +25,7 @@ pub fn needs_of<'a>(
 {
     let logs = table.numbered();
     let mut counts = KeyCounts::new(alloc, keys);
-    counts.add(alloc, target_at(table, number))?;
+    counts.add(target_at(table, number).to_vec(alloc)?)?;
     let mut needs = Vec::new(alloc);
     let mut at = 0;
     'entries: loop {
@@ -71,7 +71,7 @@ fn add_name<'a>(
     ensures added { (before : List (List ℕ)) → AreCounts counts.old before → OnOk result (
         map (λ name. name.now) needs.new.items ≡ map (λ name. name.now) needs.old.items ++ name_if_new name.now before) }
 {
-    if counts.add(alloc, name)? == 0 {
+    if counts.add(name.to_vec(alloc)?)? == 0 {
         needs.push(name)?;
     }
     Ok(())

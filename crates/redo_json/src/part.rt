@@ -1,20 +1,16 @@
 //! Parts of a JSON text that are written in order.
-ghost use Rattle.std.specs.Prelude.{◌≡◌, ◌≤◌, ◌++◌, IfSome, decimal, length, take};
+ghost use Rattle.std.specs.Prelude.{decimal};
 ghost use Rattle.std.specs.Fmt.{signed_decimal};
 ghost use Rattle.std.specs.List.{flat_map};
 ghost use Rattle.json.specs.Print.{escape};
 ghost use Rattle.redo_device.specs.Sink.{Writes};
 ghost use Rattle.redo_json.specs.Private.Parts.{part_text};
-ghost use Rattle.redo_json.specs.Private.Writing.{IsJoined};
 
 use crate::escape::write_escaped;
 use crate::exact::write_base64;
 use crate::string::write_string;
 use itoa::Buffer;
 use redo_device::{Broken, Sink, push_all};
-
-// The number of bytes of parts that are one write.
-const JOINED: usize = 512;
 
 /// A part of a JSON text.
 #[derive(Clone, Copy)]
@@ -43,60 +39,6 @@ pub fn write_parts<W: Sink>(parts: &[Part<'_>], out: &mut W) -> Result<(), Broke
         write_part(*part, out)?;
     }
     Ok(())
-}
-
-/// Writes parts in order, as [`write_parts`] does. If they are short, and JSON or numbers, they are one write.
-pub fn write_joined<W: Sink>(parts: &[Part<'_>], out: &mut W) -> Result<(), Broken>
-    ensures { Writes (W.written out.old) (W.written out.new) (flat_map part_text parts.now) result }
-{
-    let mut joined = [0; JOINED];
-    match join(parts, &mut joined) {
-        Some(len) => push_all(out, &joined[..len]),
-        None => write_parts(parts, out),
-    }
-}
-
-// Copies parts in order to the start of an array, and returns the number of their bytes. Returns `None` if a part is text or Base64, or if
-// the array has no room for all.
-fn join(parts: &[Part<'_>], joined: &mut [u8; JOINED]) -> Option<usize>
-    ensures { IfSome result (λ len. IsJoined (flat_map part_text parts.now) joined.new len) }
-{
-    let mut len = 0;
-    for part in parts {
-        match join_part(*part, joined, len) {
-            Some(more) => len = more,
-            None => return None,
-        }
-    }
-    Some(len)
-}
-
-// Copies a part to an array, from this index on, and returns the index after it.
-fn join_part(part: Part<'_>, joined: &mut [u8; JOINED], len: usize) -> Option<usize>
-    requires { len ≤ length joined.old }
-    ensures { IfSome result (λ more. IsJoined (take len joined.old ++ part_text part.entry) joined.new more) }
-{
-    match part {
-        Part::Json(json) => join_bytes(json, joined, len),
-        Part::Number(value) => {
-            let mut buffer = Buffer::new();
-            join_bytes(buffer.format(value).as_bytes(), joined, len)
-        }
-        _ => None,
-    }
-}
-
-// Copies bytes to an array, from this index on, and returns the index after them. Returns `None` if the array has no room for them.
-fn join_bytes(bytes: &[u8], joined: &mut [u8; JOINED], len: usize) -> Option<usize>
-    requires { len ≤ length joined.old }
-    ensures { IfSome result (λ more. IsJoined (take len joined.old ++ bytes.now) joined.new more) }
-{
-    if bytes.len() > JOINED - len {
-        return None;
-    }
-    let more = len + bytes.len();
-    joined[len..more].copy_from_slice(bytes);
-    Some(more)
 }
 
 fn write_part<W: Sink>(part: Part<'_>, out: &mut W) -> Result<(), Broken>

@@ -2,7 +2,7 @@
 ghost use Rattle.std.specs.Prelude.{◌≡◌, ◌≤◌, true, length, take};
 ghost use Rattle.std.specs.List.{list_all};
 ghost use Rattle.json.specs.Run.{is_plain};
-ghost use Rattle.redo_json.specs.Private.Writing.{ArePlain, IsVerbatim, is_verbatim_byte, special_bit_if};
+ghost use Rattle.redo_json.specs.Private.Writing.{ArePlain, is_verbatim_byte, special_bit_if};
 
 // The number of bytes that are tested at once.
 const STRIDE: usize = 32;
@@ -85,9 +85,9 @@ fn is_plain_byte(byte: u8) -> bool
     !(byte == b'"' || byte == b'\\' || byte < 32)
 }
 
-/// Returns true only if bytes are UTF-8, and a string of JSON has them as they are. They are ASCII then.
+/// Returns true only if all bytes are ASCII that a string of JSON has as they are.
 pub fn is_verbatim(bytes: &[u8]) -> bool
-    ensures { result ≡ true → IsVerbatim bytes.now }
+    ensures { result ≡ true → list_all is_verbatim_byte bytes.now ≡ true }
 {
     if bytes.len() < SHORT_STRIDE {
         return are_verbatim_bytes(bytes);

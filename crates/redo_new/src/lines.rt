@@ -82,7 +82,8 @@ fn diagnostic_in<'a>(alloc: Global, entry: EntryRef<'a>) -> Result<Option<&'a [u
 fn is_diagnostic(alloc: Global, line: &[u8]) -> Result<bool, AllocError>
     ensures { IfOk result (λ is. is ≡ is_some (diagnostic_of line.now)) }
 {
-    Ok(read_diagnostic(alloc, line)?.is_some())
+    let mut plain = Vec::new(alloc);
+    Ok(read_diagnostic(alloc, line, &mut plain)?.is_some())
 }
 
 // Writes the line of diagnostic `next`, if its flag is set.

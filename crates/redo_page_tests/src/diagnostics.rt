@@ -25,13 +25,14 @@ fn diagnostics_of_chosen_lines(rt: HostRuntime) -> Result<(), Fail> {
 }
 
 fn told(alloc: Global, line: &[u8]) -> Result<Vec<u8>, AllocError> {
-    match read_diagnostic(alloc, line)? {
+    let mut plain = b"of another line".to_vec(alloc)?;
+    match read_diagnostic(alloc, line, &mut plain)? {
         Some(diagnostic) => fields(alloc, &diagnostic),
         None => b"none".to_vec(alloc),
     }
 }
 
-fn fields(alloc: Global, diagnostic: &Diagnostic) -> Result<Vec<u8>, AllocError> {
+fn fields(alloc: Global, diagnostic: &Diagnostic<'_>) -> Result<Vec<u8>, AllocError> {
     let mut text = Vec::new(alloc);
     text.extend_from_slice(word(diagnostic.severity()))?;
     match diagnostic.place() {
@@ -99,7 +100,8 @@ fn repeated(alloc: Global, part: &[u8]) -> Result<Vec<u8>, AllocError> {
 fn long_lines(rt: HostRuntime) -> Result<(), Fail> {
     for (part, is_diagnostic) in REPEATED {
         let line = repeated(rt.alloc(), part.as_bytes())?;
-        let found = read_diagnostic(rt.alloc(), &line)?.is_some();
+        let mut plain = Vec::new(rt.alloc());
+        let found = read_diagnostic(rt.alloc(), &line, &mut plain)?.is_some();
         assert_eq!(rt; found, *is_diagnostic, "{part}");
     }
     Ok(())
@@ -117,7 +119,11 @@ fn keys_are_counted(rt: HostRuntime) -> Result<(), Fail> {
         ("b", 1),
         ("", 1),
     ] {
-        assert_eq!(rt; counts.add(rt.alloc(), key.as_bytes())?, before, "{key}");
+        assert_eq!(rt;
+            counts.add(key.as_bytes().to_vec(rt.alloc())?)?,
+            before,
+            "{key}"
+        );
     }
     Ok(())
 }

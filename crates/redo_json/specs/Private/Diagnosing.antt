@@ -1,8 +1,8 @@
 -- What the writer of diagnostics ensures.
-use Rattle.std.specs.Prelude.{ℕ, ◌≤◌, Bool, List, Option, IfSome, length}
+use Rattle.std.specs.Prelude.{◌≡◌, ℕ, ◌≤◌, Bool, List, Option, Some, IfSome, length}
 use Rattle.redo_device.specs.Sink.{Output}
 use Rattle.redo_diagnostics.specs.Counts.{AreCounts}
-use Rattle.redo_diagnostics.specs.Diagnostic.{DiagnosticValue, PlaceValue}
+use Rattle.redo_diagnostics.specs.Diagnostic.{DiagnosticValue, PlaceValue, diagnostic_of}
 use Rattle.redo_json.specs.Diagnostics.{flagged, numbered_from, placed_from}
 use Rattle.redo_json.specs.Private.LogLines.{Remaining}
 use Rattle.redo_json.specs.Private.Parts.{diagnostics_text}
@@ -16,6 +16,10 @@ pub record WroteDiagnostics (before after : Option Output) (text : List ℕ) (is
   pub counted : AreCounts counts keys
   pub few : length keys ≤ lines.done
   pub wrote : WroteUpTo before after text (diagnostics_text is_first (flagged flags (numbered_from keys (placed_from lines.done lines.left))))
+
+-- A line says this.
+abbrev pub IsOfLine : DiagnosticValue → Type 0
+IsOfLine value = (line : List ℕ) × (diagnostic_of line ≡ Some value)
 
 -- All strings of a diagnostic are written as they are.
 pub record IsVerbatimDiagnostic (value : DiagnosticValue) : Type 0 where

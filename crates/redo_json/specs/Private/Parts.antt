@@ -1,5 +1,5 @@
 -- The postconditions of the writers of objects.
-use Rattle.std.specs.Prelude.{◌≡◌, ℕ, ◌+◌, ◌<◌, ◌≤◌, Bool, false, List, [], ◌∷◌, ◌++◌, Option, option_and_then, option_map, length, drop, get_or, codes, decimal, if◌then◌else◌}
+use Rattle.std.specs.Prelude.{◌≡◌, ℕ, ◌+◌, ◌<◌, ◌≤◌, Bool, false, List, [], ◌∷◌, ◌++◌, Option, None, Some, option_and_then, option_map, length, drop, get_or, codes, decimal, if◌then◌else◌}
 use Rattle.std.specs.Fmt.{signed_decimal}
 use Rattle.std.specs.List.{flat_map}
 use Rattle.json.specs.Json.{number, string}
@@ -91,6 +91,19 @@ diagnostic_back value nth new =
     ∷ (comma_fields (optional_bytes_fields (codes "flag") value.flag)
     ++ (comma_fields (bytes_fields (codes "key") value.key)
     ++ (comma_field (field (codes "nth") (number (decimal nth))) ++ (comma_field (field (codes "new") (boolean_value new)) ++ 125 ∷ [])))))
+
+-- What is between the message and the key of a diagnostic with this flag, if the flag is written as it is.
+abbrev pub flag_text : Option (List ℕ) → List ℕ
+flag_text None = codes "\",\"flag\":null,\"key\":\""
+flag_text (Some flag) = codes "\",\"flag\":\"" ++ (flag ++ codes "\",\"key\":\"")
+
+-- The object of a diagnostic from the first byte of its message to the last one of its key, if its strings are written as they are.
+abbrev pub strings_text : DiagnosticValue → List ℕ
+strings_text value = value.message ++ (flag_text value.flag ++ value.key)
+
+-- What follows the key of a diagnostic, if the key is written as it is.
+abbrev pub number_text : ℕ → Option Bool → List ℕ
+number_text nth new = codes "\",\"nth\":" ++ (decimal nth ++ (comma_field (field (codes "new") (boolean_value new)) ++ 125 ∷ []))
 
 abbrev pub diagnostics_text : Bool → List FlaggedDiagnostic → List ℕ
 diagnostics_text is_first [] = []

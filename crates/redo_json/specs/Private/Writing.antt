@@ -31,10 +31,9 @@ pub record IsVerbatim (bytes : List ℕ) : Type 0 where
   pub utf8 : is_utf8 bytes ≡ true
   pub escaped : escape bytes ≡ bytes
 
--- The first `len` bytes are this text.
-pub record IsJoined (text bytes : List ℕ) (len : ℕ) : Type 0 where
-  pub within : len ≤ length bytes
-  pub joined : take len bytes ≡ text
+-- Bytes were appended.
+pub record IsAppended (before after appended : List ℕ) : Type 0 where
+  pub is : after ≡ before ++ appended
 
 -- A text is `plain`, which is written as it is, then a byte, and then `behind`.
 pub record HasEscape (text plain : List ℕ) (byte : ℕ) (behind : List ℕ) : Type 0 where

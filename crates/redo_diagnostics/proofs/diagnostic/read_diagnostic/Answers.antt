@@ -16,5 +16,5 @@ returns-then-is_none-2 c =
 pub returns : goal.returns
 returns c = subst (λ (value : Option DiagnosticValue). IfOk c.read_plain-2.result (λ diagnostic. diagnostic ≡ value))
     (ap (λ bytes. option_map diagnostic_from (parts_in bytes)) (c.deref.ensures.value ∙ c.in_ok-push_plain.ensures
-    ∙ ap (λ bytes. bytes ++ plain_line c.args.line.now) c.new-plain.ensures.items)
+    ∙ ap (λ bytes. bytes ++ plain_line c.args.line.now) c.clear.ensures.items)
     ∙ of_plain c.args.line.now) c.read_plain-2.ensures

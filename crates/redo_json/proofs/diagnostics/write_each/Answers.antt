@@ -1,13 +1,13 @@
-use Rattle.std.proofs.Common.{ℕ, true, List, [], ◌∷◌, ◌++◌, ap, sym, ◌∙◌, subst, arith, option_copied}
+use Rattle.std.proofs.Common.{true, [], ◌∷◌, ◌++◌, refl, sym, ◌∙◌, arith, option_copied}
 use Rattle.std.proofs.lemmas.List.{length-append}
 use Rattle.std.proofs.lemmas.Result.{err_from_is_err_and}
-use Rattle.redo_diagnostics.specs.Counts.{AreCounts, stored, times_of}
+use Rattle.redo_diagnostics.specs.Counts.{stored, times_of}
 use Rattle.redo_outline.specs.Facts.{entries_at, texts_of}
 use Rattle.redo_json.specs.Diagnostics.{diagnostics_of, flagged}
 use Rattle.redo_json.specs.Private.Parts.{diagnostics_text}
 use Rattle.redo_json.proofs.CandidateLemmas.{at_candidates}
 use Rattle.redo_json.proofs.DiagnosingLemmas.{begins, finds, nth_is}
-use Rattle.redo_json.proofs.FormLemmas.{ran_out, write_failed}
+use Rattle.redo_json.proofs.FormLemmas.{part_failed, ran_out}
 use Rattle.redo_json.proofs.WritingLemmas.{left_is, wrote_more}
 use Rattle.redo_json.proofs.diagnostics.write_each.Goals as goal
 
@@ -22,10 +22,8 @@ returns-in_err-diagnostic g c =
     let given = err_from_is_err_and c.from_residual.result c.from_residual.ensures.1 in
     rw (given.1, given.2) (ran_out _ _ _ _ c.each.invariant.wrote)
 
-pub returns-in_err-nth : goal.returns-in_err-nth
-returns-in_err-nth g c =
-    let given = err_from_is_err_and c.from_residual-in_err-nth.result c.from_residual-in_err-nth.ensures.1 in
-    rw (given.1, given.2) (ran_out _ _ _ _ c.each.invariant.wrote)
+pub write_diagnostic-requires : goal.write_diagnostic-requires
+write_diagnostic-requires g c = (c.in-Some.line.now, sym c.in_ok-diagnostic.ensures ∙ c.in-Some-2.is)
 
 pub returns-in_err-write_diagnostic : goal.returns-in_err-write_diagnostic
 returns-in_err-write_diagnostic g c =
@@ -36,15 +34,15 @@ returns-in_err-write_diagnostic g c =
     let so_far = at_candidates _ _ _ _ _ _ lines _ found.are c.each.invariant in
     let done = found.done in
     let room = c.in-Some.ensures.no_overflow in
-    let nth = nth_is c.in-Some-2.diagnostic.key so_far.keys lines.done c.in_ok-nth.nth so_far.few (omega (arith, done, room))
-    (c.in_ok-nth.ensures.before so_far.keys so_far.counted ∙ ap (λ (k : List ℕ). stored (times_of k so_far.keys)) c.key.ensures) in
+    let key = c.in-Some-2.diagnostic.key in
+    let nth = nth_is key so_far.keys lines.done (stored (times_of key so_far.keys)) so_far.few (omega (arith, done, room)) refl in
     let given = err_from_is_err_and c.from_residual-in_err-write_diagnostic.result c.from_residual-in_err-write_diagnostic.ensures.1 in
-    rw (given.1, given.2) (write_failed _ _ _ whole _ _ _
+    rw (given.1, given.2) (part_failed _ _ _ whole _ _ _
     (left_is _ _ _ _ _ (finds c.each.is_first (option_copied c.each.left) lines c.next_candidate.new.self c.in-Some.line.now found.first
     done so_far.keys
-    c.in-Some-2.diagnostic c.in-Some.position c.in_ok-nth.nth _ _ (sym c.in_ok-diagnostic.ensures
+    c.in-Some-2.diagnostic c.in-Some.position (stored (times_of key so_far.keys)) _ _ (sym c.in_ok-diagnostic.ensures
     ∙ c.in-Some-2.is) found.position_is nth c.next_flag-new.ensures.first c.next_flag-new.ensures.others) so_far.wrote)
-    c.in_err-write_diagnostic.ensures)
+    (c.in_err-write_diagnostic.ensures.wrote so_far.keys so_far.counted))
 
 pub each-preserved-in-Some-2 : goal.each-preserved-in-Some-2
 each-preserved-in-Some-2 g c =
@@ -55,17 +53,15 @@ each-preserved-in-Some-2 g c =
     let room = c.in-Some.ensures.no_overflow in
     let few = so_far.few in
     let key = c.in-Some-2.diagnostic.key in
-    let nth = nth_is key so_far.keys lines.done c.in_ok-nth.nth so_far.few (omega (arith, done, room))
-    (c.in_ok-nth.ensures.before so_far.keys so_far.counted ∙ ap (λ (k : List ℕ). stored (times_of k so_far.keys)) c.key.ensures) in
+    let nth = nth_is key so_far.keys lines.done (stored (times_of key so_far.keys)) so_far.few (omega (arith, done, room)) refl in
     record {
       keys = so_far.keys ++ key ∷ [];
-      counted = subst (λ (k : List ℕ). AreCounts c.add.new.self (so_far.keys
-          ++ k ∷ [])) c.key.ensures (c.in_ok-nth.ensures.counted so_far.keys so_far.counted);
+      counted = c.in_ok-write_diagnostic.ensures.counted so_far.keys so_far.counted;
       few = omega (arith, few, done, length-append so_far.keys (key ∷ []));
       wrote = wrote_more _ _ _ _ _ _
           (left_is _ _ _ _ _
           (finds c.each.is_first (option_copied c.each.left) lines c.next_candidate.new.self c.in-Some.line.now found.first done so_far.keys
-          c.in-Some-2.diagnostic c.in-Some.position c.in_ok-nth.nth _ _ (sym c.in_ok-diagnostic.ensures
+          c.in-Some-2.diagnostic c.in-Some.position (stored (times_of key so_far.keys)) _ _ (sym c.in_ok-diagnostic.ensures
           ∙ c.in-Some-2.is) found.position_is nth c.next_flag-new.ensures.first c.next_flag-new.ensures.others) so_far.wrote)
-          c.in_ok-write_diagnostic.ensures;
+          (c.in_ok-write_diagnostic.ensures.wrote so_far.keys so_far.counted);
     }

@@ -1,4 +1,4 @@
-use Rattle.std.proofs.Common.{ℕ, Bor, List, [], ap, map, sym, subst, arith}
+use Rattle.std.proofs.Common.{ℕ, Bor, List, [], ap, map, sym, ◌∙◌, subst, arith}
 use Rattle.redo_logs.specs.Logs.{Log}
 use Rattle.redo_logs.specs.Numbering.{AreLinesAt}
 use Rattle.redo_json.proofs.LogLineLemmas.{within}
@@ -8,7 +8,8 @@ use Rattle.redo_json.proofs.needs.needs_of.Goals as goal
 pub entries-init : goal.entries-init
 entries-init c =
     begin_needs _ _ _ _ _ (ap (λ (l : List (Bor (List ℕ))). map (λ (name : Bor (List ℕ)). name.now) l) c.new-needs.ensures.items)
-    c.target_at.ensures (c.in_ok-add.ensures.counted [] c.new-counts.ensures)
+    (c.in_ok-to_vec.ensures.items_if_clones_equal (λ x y same. same) ∙ c.target_at.ensures)
+    (c.in_ok-add.ensures.counted [] c.new-counts.ensures)
 
 pub entries-smaller-then-count-gt0 : goal.entries-smaller-then-count-gt0
 entries-smaller-then-count-gt0 c =

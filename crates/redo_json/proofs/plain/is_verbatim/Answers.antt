@@ -2,11 +2,7 @@ use Rattle.std.proofs.Common.{◌≡◌, ◌+◌, ◌-◌, ◌≤◌, ℕ, true,
 use Rattle.std.specs.List.{list_all}
 use Rattle.redo_json.specs.Private.Writing.{is_verbatim_byte}
 use Rattle.redo_json.proofs.EscapeLemmas.{pass_more, pass_to_end}
-use Rattle.redo_json.proofs.VerbatimLemmas.{verbatim_bytes}
 use Rattle.redo_json.proofs.plain.is_verbatim.Goals as goal
-
-pub returns-then-bytes-lt-SHORT_STRIDE : goal.returns-then-bytes-lt-SHORT_STRIDE
-returns-then-bytes-lt-SHORT_STRIDE c = λ is. verbatim_bytes c.args.bytes.now (c.are_verbatim_bytes.ensures is)
 
 pub loop-len-preserved : goal.loop-len-preserved
 loop-len-preserved c =
@@ -26,6 +22,5 @@ returns c = λ is.
     let within = c.loop-len.invariant.0 in
     let left = c.loop-len-test.false in
     let low : length bytes - 16 ≤ c.loop-len.len = omega (arith, within, left) in
-    verbatim_bytes bytes
-    (pass_to_end is_verbatim_byte bytes (length bytes - 16) c.loop-len.len low within c.loop-len.invariant.1
-    (sym c.are_verbatim-2.ensures ∙ is))
+    pass_to_end is_verbatim_byte bytes (length bytes - 16) c.loop-len.len low within c.loop-len.invariant.1
+    (sym c.are_verbatim-2.ensures ∙ is)

@@ -1,6 +1,6 @@
 use Rattle.std.proofs.Common.{◌++◌, ℕ, List, ap₂}
 use Rattle.redo_json.proofs.DiagnosticLemmas.{error_text, fatal_text, file_start, warning_text}
-use Rattle.redo_json.proofs.diagnostics.front_of_file.Goals as goal
+use Rattle.redo_json.proofs.joined.front_of_file.Goals as goal
 
 pub returns-in-Warning : goal.returns-in-Warning
 returns-in-Warning c = ap₂ (λ (a b : List ℕ). a ++ b) (warning_text c.args.severity c.in-Warning.is) file_start

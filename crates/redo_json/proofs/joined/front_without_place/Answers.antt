@@ -1,6 +1,6 @@
 use Rattle.std.proofs.Common.{◌++◌, ℕ, List, ap₂}
 use Rattle.redo_json.proofs.DiagnosticLemmas.{error_text, fatal_text, message_start, no_place, warning_text}
-use Rattle.redo_json.proofs.diagnostics.front_without_place.Goals as goal
+use Rattle.redo_json.proofs.joined.front_without_place.Goals as goal
 
 pub returns-in-Warning : goal.returns-in-Warning
 returns-in-Warning c =

@@ -1,6 +1,6 @@
 use Rattle.std.proofs.Common.{◌∙◌, Bool, Some, sym, ap}
 use Rattle.redo_json.proofs.DiagnosticLemmas.{end_text, is_known, is_new, not_known}
-use Rattle.redo_json.proofs.diagnostics.object_end.Goals as goal
+use Rattle.redo_json.proofs.joined.object_end.Goals as goal
 
 pub returns-in-None : goal.returns-in-None
 returns-in-None c = not_known ∙ ap end_text (sym c.in-None.is)

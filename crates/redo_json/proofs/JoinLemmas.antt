@@ -1,0 +1,39 @@
+-- Objects that are joined in memory.
+use Rattle.std.proofs.Common.{◌≡◌, ℕ, Bool, List, [], ◌++◌, Option, Result, Ok, Err, ap, ◌∙◌, append_assoc}
+use Rattle.std.specs.Prelude.{OnOk}
+use Rattle.redo_diagnostics.specs.Counts.{stored, times_of}
+use Rattle.redo_diagnostics.specs.Diagnostic.{DiagnosticValue}
+use Rattle.redo_json.specs.Diagnostics.{LogDiagnostic}
+use Rattle.redo_json.specs.Private.Diagnosing.{IsVerbatimDiagnostic}
+use Rattle.redo_json.specs.Private.Parts.{diagnostic_front, diagnostic_text, number_text, strings_text}
+use Rattle.redo_json.specs.Private.Writing.{IsAppended}
+use Rattle.redo_json.proofs.VerbatimLemmas.{joined_object}
+
+-- Equal bytes were appended.
+pub appended_as : {E : Type 0} (done : Result (Unit {0}) E) (before after text other : List ℕ) → text ≡ other
+    → OnOk done (IsAppended before after text) → OnOk done (IsAppended before after other)
+appended_as (Ok u) before after text other is appended = record { is = appended.is ∙ ap (λ (l : List ℕ). before ++ l) is }
+appended_as (Err e) before after text other is appended = tt
+
+-- Bytes were appended, and then others.
+pub appended_then : {E : Type 0} (done : Result (Unit {0}) E) (before middle after first second : List ℕ) → IsAppended before middle first
+    → OnOk done (IsAppended middle after second) → OnOk done (IsAppended before after (first ++ second))
+appended_then (Ok u) before middle after first second one two =
+    record { is = two.is ∙ ap (λ (l : List ℕ). l ++ second) one.is ∙ append_assoc before first second }
+appended_then (Err e) before middle after first second one two = tt
+
+-- The three parts of an object.
+pub object_is : (is_first : Bool) (position nth : ℕ) (value : DiagnosticValue) (new : Option Bool) (keys : List (List ℕ))
+    (none front strings whole : List ℕ) → IsVerbatimDiagnostic value → none ≡ []
+    → IsAppended none front (diagnostic_front is_first position value)
+    → IsAppended front strings (strings_text value) → IsAppended strings whole (number_text nth new)
+    → nth ≡ stored (times_of value.key keys)
+    → whole ≡ diagnostic_text is_first (record { line = position; value = value; nth = stored (times_of value.key keys) }, new)
+object_is is_first position nth value new keys none front strings whole verbatim first second third last is =
+    let one : LogDiagnostic = record { line = position; value = value; nth = nth } in
+    last.is ∙ ap (λ (l : List ℕ). l ++ number_text nth new) third.is
+    ∙ append_assoc front (strings_text value) (number_text nth new)
+    ∙ ap (λ (l : List ℕ). l ++ (strings_text value ++ number_text nth new))
+    (second.is ∙ ap (λ (l : List ℕ). l ++ diagnostic_front is_first position value) first)
+    ∙ joined_object one new is_first verbatim
+    ∙ ap (λ (n : ℕ). diagnostic_text is_first (record { line = position; value = value; nth = n }, new)) is
