@@ -1,13 +1,14 @@
 -- The groups of a passage are what is written of it, from its start on.
 use Rattle.std.proofs.Common.{◌≡◌, ℕ, Bool, true, false, List, [], ◌∷◌, ◌++◌, refl, sym, ◌∙◌, ap, subst}
 use Rattle.std.specs.Prelude.{◌&&◌, not, if◌then◌else◌}
-use Rattle.std.specs.List.{flat_map}
+use Rattle.std.specs.List.{AllByRecursion, flat_map}
+use Rattle.std.proofs.lemmas.Bool.{cond_both}
 use Rattle.std.proofs.lemmas.List.{append_assoc, append-nil}
 use Rattle.redo_html.specs.declared.text_kind.TextKind.{TextKind}
 use Rattle.redo_html.specs.declared.look.Look.{Look}
 use Rattle.redo_html.specs.declared.style.Style.{Style}
-use Rattle.redo_html.specs.Passage.{Inline, inline_html, inline_tokens, style_start, style_end, same_bool, is_same_style, with_member, group_by, styled_texts, printability_group, style_group, passage_inlines, passage_html, passage_tokens}
-use Rattle.redo_html.specs.Passage.Inline.{UnprintableStart, UnprintableEnd, Text}
+use Rattle.redo_html.specs.Passage.{Inline, inline_html, inline_tokens, has_element, style_start, style_end, same_bool, is_same_style, with_member, group_by, styled_texts, printability_group, style_group, passage_inlines, passage_html, passage_tokens}
+use Rattle.redo_html.specs.Passage.Inline.{UnprintableStart, UnprintableEnd, StyleStart, StyleEnd, Text}
 use Rattle.redo_html.specs.Private.Highlighting.{highlight_if, highlights_between, after_code_point, with_wanted, start_look, inlines_from, html_from}
 use Rattle.redo_html.specs.Shown.{Run, runs_of, is_unprintable}
 use Rattle.redo_html.specs.Shown.Run.{CodePoints, Restyle}
@@ -171,3 +172,70 @@ passage_is kind style bytes = ap (flat_map (inline_html kind)) (parts_are style 
 pub tokens_are : (kind : TextKind) (style : Style) (bytes : List ℕ)
     → passage_tokens kind style bytes ≡ flat_map (inline_tokens kind) (inlines_from (start_look style) (runs_of (symbols kind bytes)))
 tokens_are kind style bytes = ap (flat_map (inline_tokens kind)) (parts_are style (runs_of (symbols kind bytes)))
+
+-- ---- what holds of each passage
+
+module _ {Key Member : Type 0} (same : Key → Key → Bool) (Good : Member → Type 0) where
+  abbrev AllGood : List (Key × List Member) → Type 0
+  AllGood groups = AllByRecursion (λ (group : Key × List Member). AllByRecursion Good group.1) groups
+
+  good_first : (key : Key) (member : Member) (groups : List (Key × List Member)) → Good member → AllGood groups
+      → AllGood (with_member same key member groups)
+  good_first key member [] good all = ((good, tt), tt)
+  good_first key member ((next, members) ∷ groups) good all =
+      cond_both (same key next) ((next, member ∷ members) ∷ groups) ((key, member ∷ []) ∷ (next, members) ∷ groups) AllGood
+      (λ is. ((good, all.0), all.1)) (λ is. ((good, tt), all))
+
+  good_groups : (members : List (Key × Member)) → AllByRecursion (λ (member : Key × Member). Good member.1) members
+      → AllGood (group_by same members)
+  good_groups [] all = tt
+  good_groups ((key, member) ∷ members) all = good_first key member (group_by same members) all.0 (good_groups members all.1)
+
+-- It holds of code points, and if it holds of some parts, of these parts within a highlight.
+module _ (P : List Inline → Type 0) (Q : Run → Type 0) (nothing : P [])
+    (both : (a b : List Inline) → P a → P b → P (a ++ b))
+    (text : (code_point count : ℕ) → Q (CodePoints code_point count) → P (Text code_point count ∷ []))
+    (unprintable : (a : List Inline) → P a → P (UnprintableStart ∷ (a ++ UnprintableEnd ∷ [])))
+    (styled : (style : Style) (a : List Inline) → has_element style ≡ true → P a → P (StyleStart style ∷ (a ++ StyleEnd style ∷ []))) where
+  each : {X : Type 0} (parts : X → List Inline) (Good : X → Type 0) → ((x : X) → Good x → P (parts x))
+      → (xs : List X) → AllByRecursion Good xs → P (flat_map parts xs)
+  each parts Good good [] all = nothing
+  each parts Good good (x ∷ xs) all = both (parts x) (flat_map parts xs) (good x all.0) (each parts Good good xs all.1)
+
+  all_texts : (texts : List Inline) → AllByRecursion (λ (t : Inline). P (t ∷ [])) texts → P texts
+  all_texts [] all = nothing
+  all_texts (t ∷ texts) all = both (t ∷ []) texts all.0 (all_texts texts all.1)
+
+  in_printability : (group : Bool × List Inline) → AllByRecursion (λ (t : Inline). P (t ∷ [])) group.1 → P (printability_group group)
+  in_printability (true, texts) all = unprintable texts (all_texts texts all)
+  in_printability (false, texts) all = all_texts texts all
+
+  in_style : (group : Style × List (Bool × Inline)) → AllByRecursion (λ (t : Bool × Inline). P (t.1 ∷ [])) group.1 → P (style_group group)
+  in_style (style, texts) all = by (has_element style) refl
+    where
+      inner : List Inline
+      inner = flat_map printability_group (group_by same_bool texts)
+
+      holds : P inner
+      holds = each printability_group (λ (group : Bool × List Inline). AllByRecursion (λ (t : Inline). P (t ∷ [])) group.1) in_printability
+          (group_by same_bool texts) (good_groups same_bool (λ (t : Inline). P (t ∷ [])) texts all)
+
+      by : (has : Bool) → has_element style ≡ has → P (style_group (style, texts))
+      by true is = rw is (styled style inner is holds)
+      by false is = rw is (subst P (sym (append-nil inner)) holds)
+
+  all_styled : (style : Style) (runs : List Run) → AllByRecursion Q runs
+      → AllByRecursion (λ (t : Style × (Bool × Inline)). P (t.1.1 ∷ [])) (styled_texts style runs)
+  all_styled style [] all = tt
+  all_styled style (CodePoints code_point count ∷ runs) all = (text code_point count all.0, all_styled style runs all.1)
+  all_styled style (Restyle numbers ∷ runs) all = all_styled (restyled style numbers) runs all.1
+
+  pub holds_of_passage : (style : Style) (runs : List Run) → AllByRecursion Q runs → P (passage_inlines style runs)
+  holds_of_passage style runs all =
+      each style_group (λ (group : Style × List (Bool × Inline)). AllByRecursion (λ (t : Bool × Inline). P (t.1 ∷ [])) group.1) in_style
+      (group_by is_same_style (styled_texts style runs))
+      (good_groups is_same_style (λ (t : Bool × Inline). P (t.1 ∷ [])) (styled_texts style runs) (all_styled style runs all))
+
+pub any_runs : (runs : List Run) → AllByRecursion (λ (run : Run). Unit {0}) runs
+any_runs [] = tt
+any_runs (run ∷ runs) = (tt, any_runs runs)

@@ -22,8 +22,7 @@ use Rattle.redo_html.specs.Shown.{Run, is_unprintable, code_points_text, run_tex
 use Rattle.redo_html.specs.Shown.Run.{CodePoints, Restyle}
 use Rattle.redo_html.specs.Style.{restyled}
 use Rattle.redo_html.specs.Symbols.{symbols}
-use Rattle.redo_html.proofs.PassageGroups.{tokens_are}
-use Rattle.redo_html.proofs.StyleLemmas.{same_style}
+use Rattle.redo_html.proofs.PassageGroups.{any_runs, holds_of_passage, tokens_are}
 use Rattle.redo_html.proofs.TextReading.{HasReferences, ReadsIn, each_reads, escaped_reads, code_points_clean}
 
 -- ---- highlights and code points
@@ -211,19 +210,6 @@ style_end_is_highlight : (bold : Bool) → is_highlight (47 ∷ style_name bold)
 style_end_is_highlight true = refl
 style_end_is_highlight false = refl
 
-highlight_tags : (kind : TextKind) (tag : List ℕ) → is_highlight tag ≡ true → AreHighlights (tags_of (highlight_tokens kind tag))
-highlight_tags Log tag is = and_from (is_highlight tag) true is refl
-highlight_tags Monochrome tag is = and_from (is_highlight tag) true is refl
-highlight_tags Title tag is = refl
-
-highlights_if : (kind : TextKind) (wanted : Bool) (highlight : Inline)
-    → inline_tokens kind highlight ≡ highlight_tokens kind (highlight_text highlight)
-    → (wanted ≡ true → is_highlight (highlight_text highlight) ≡ true) → AreHighlights (tags_in kind (highlight_if wanted highlight))
-highlights_if kind false highlight is one = refl
-highlights_if kind true highlight is one =
-    subst (λ (ts : List Token). AreHighlights (tags_of ts)) (sym (append-nil (inline_tokens kind highlight) ∙ is))
-    (highlight_tags kind (highlight_text highlight) (one refl))
-
 abbrev highlights_in : TextKind → List Inline → Type 0
 highlights_in kind inlines = AreHighlights (tags_in kind inlines)
 
@@ -231,216 +217,106 @@ highlights_in-append : (kind : TextKind) (a b : List Inline) → highlights_in k
 highlights_in-append kind a b first second =
     subst AreHighlights (sym (tags_in-append kind a b)) (highlights_append (tags_in kind a) (tags_in kind b) first second)
 
-style_highlights : (kind : TextKind) (look : Look) (same : Bool)
-    → highlights_in kind (if same then [] else style_end look.current ++ style_start look.wanted)
-style_highlights kind look true = refl
-style_highlights kind look false =
-    highlights_in-append kind (style_end look.current) (style_start look.wanted)
-    (highlights_if kind (has_element look.current) (StyleEnd look.current) refl (λ has. style_end_is_highlight look.current.bold))
-    (highlights_if kind (has_element look.wanted) (StyleStart look.wanted) refl
-    (λ has. style_is_highlight look.wanted.bold look.wanted.hue has))
+highlight_in : (kind : TextKind) (highlight : Inline) → inline_tokens kind highlight ≡ highlight_tokens kind (highlight_text highlight)
+    → is_highlight (highlight_text highlight) ≡ true → highlights_in kind (highlight ∷ [])
+highlight_in kind highlight tokens is =
+    subst (λ (ts : List Token). AreHighlights (tags_of ts)) (sym (append-nil (inline_tokens kind highlight) ∙ tokens))
+    (one kind (highlight_text highlight) is)
+  where
+    one : (kind : TextKind) (tag : List ℕ) → is_highlight tag ≡ true → AreHighlights (tags_of (highlight_tokens kind tag))
+    one Log tag is = and_from (is_highlight tag) true is refl
+    one Monochrome tag is = and_from (is_highlight tag) true is refl
+    one Title tag is = refl
 
-between_highlights : (kind : TextKind) (look : Look) (unprintable : Bool) → highlights_in kind (highlights_between look unprintable)
-between_highlights kind look unprintable =
-    let same = is_same_style look.wanted look.current in
-    let styles = if same then [] else style_end look.current ++ style_start look.wanted in
-    let first = highlight_if (look.unprintable && not (same && unprintable)) UnprintableEnd in
-    let last = highlight_if (unprintable && not (same && look.unprintable)) UnprintableStart in
-    highlights_in-append kind (first ++ styles) last
-    (highlights_in-append kind first styles
-    (highlights_if kind (look.unprintable && not (same && unprintable)) UnprintableEnd refl (λ wanted. refl))
-    (style_highlights kind look same))
-    (highlights_if kind (unprintable && not (same && look.unprintable)) UnprintableStart refl (λ wanted. refl))
-
-runs_highlights : (kind : TextKind) (look : Look) (runs : List Run) → highlights_in kind (inlines_from look runs)
-runs_highlights kind look [] =
-    highlights_in-append kind (highlight_if look.unprintable UnprintableEnd) (style_end look.current)
-    (highlights_if kind look.unprintable UnprintableEnd refl (λ wanted. refl))
-    (highlights_if kind (has_element look.current) (StyleEnd look.current) refl (λ has. style_end_is_highlight look.current.bold))
-runs_highlights kind look (Restyle numbers ∷ runs) = runs_highlights kind (with_wanted look (restyled look.wanted numbers)) runs
-runs_highlights kind look (CodePoints code_point count ∷ runs) =
-    let unprintable = is_unprintable code_point in
-    let rest = inlines_from (after_code_point look unprintable) runs in
-    highlights_in-append kind (highlights_between look unprintable) (Text code_point count ∷ rest)
-    (between_highlights kind look unprintable)
-    (subst AreHighlights (sym (text_tags kind code_point count rest)) (runs_highlights kind (after_code_point look unprintable) runs))
+passage_highlights : (kind : TextKind) (style : Style) (runs : List Run) → highlights_in kind (passage_inlines style runs)
+passage_highlights kind style runs =
+    holds_of_passage (highlights_in kind) (λ (run : Run). Unit {0}) refl (highlights_in-append kind)
+    (λ code_point count given. subst AreHighlights (sym (text_tags kind code_point count [])) refl)
+    (λ inlines are. highlights_in-append kind (UnprintableStart ∷ []) (inlines ++ UnprintableEnd ∷ [])
+    (highlight_in kind UnprintableStart refl refl)
+    (highlights_in-append kind inlines (UnprintableEnd ∷ []) are (highlight_in kind UnprintableEnd refl refl)))
+    (λ style inlines has are. highlights_in-append kind (StyleStart style ∷ []) (inlines ++ StyleEnd style ∷ [])
+    (highlight_in kind (StyleStart style) refl (style_is_highlight style.bold style.hue has))
+    (highlights_in-append kind inlines (StyleEnd style ∷ []) are
+    (highlight_in kind (StyleEnd style) refl (style_end_is_highlight style.bold))))
+    style runs (any_runs runs)
 
 -- ---- nesting
 
-abbrev tag_if : Bool → List ℕ → List (List ℕ)
-tag_if wanted tag = if wanted then tag ∷ [] else []
+abbrev Nests : TextKind → List Inline → Type 0
+Nests kind inlines = (around tags : List (List ℕ)) → nests_in around (tags_in kind inlines ++ tags) ≡ nests_in around tags
 
-abbrev push_if : Bool → List ℕ → List (List ℕ) → List (List ℕ)
-push_if wanted name around = if wanted then name ∷ around else around
+style_starts : (bold : Bool) (hue : Hue) (around tags : List (List ℕ))
+    → nests_in around ((style_name bold ++ hue_class hue) ∷ tags) ≡ nests_in (style_name bold ∷ around) tags
+style_starts true Plain around tags = refl
+style_starts true Red around tags = refl
+style_starts true Green around tags = refl
+style_starts true Yellow around tags = refl
+style_starts true Blue around tags = refl
+style_starts true Magenta around tags = refl
+style_starts true Cyan around tags = refl
+style_starts false Plain around tags = refl
+style_starts false Red around tags = refl
+style_starts false Green around tags = refl
+style_starts false Yellow around tags = refl
+style_starts false Blue around tags = refl
+style_starts false Magenta around tags = refl
+style_starts false Cyan around tags = refl
 
--- The open elements inside of `open`.
-abbrev opened : Bool → Style → List (List ℕ) → List (List ℕ)
-opened unprintable style around = push_if unprintable (codes "i") (push_if (has_element style) (style_name style.bold) around)
+style_ends : (bold : Bool) (around tags : List (List ℕ))
+    → nests_in (style_name bold ∷ around) ((47 ∷ style_name bold) ∷ tags) ≡ nests_in around tags
+style_ends true around tags = refl
+style_ends false around tags = refl
 
-tags_if : (kind : TextKind) → has_highlights kind ≡ true → (wanted : Bool) (highlight : Inline)
-    → inline_tokens kind highlight ≡ highlight_tokens kind (highlight_text highlight)
-    → tags_in kind (highlight_if wanted highlight) ≡ tag_if wanted (highlight_text highlight)
-tags_if kind has false highlight is = refl
-tags_if kind has true highlight is =
-    ap tags_of (append-nil (inline_tokens kind highlight) ∙ is
-    ∙ cond-true (has_highlights kind) (Tag (highlight_text highlight) ∷ []) [] has)
+module _ (kind : TextKind) (has : has_highlights kind ≡ true) where
+  both_nest : (a b : List Inline) → Nests kind a → Nests kind b → Nests kind (a ++ b)
+  both_nest a b first second around tags =
+      ap (λ (t : List (List ℕ)). nests_in around (t ++ tags)) (tags_in-append kind a b)
+      ∙ ap (nests_in around) (append_assoc (tags_in kind a) (tags_in kind b) tags) ∙ first around (tags_in kind b ++ tags)
+      ∙ second around tags
 
-unprintable_ends : (unprintable : Bool) (around tags : List (List ℕ))
-    → nests_in (push_if unprintable (codes "i") around) (tag_if unprintable (codes "/i") ++ tags) ≡ nests_in around tags
-unprintable_ends true around tags = refl
-unprintable_ends false around tags = refl
+  highlight_tag : (highlight : Inline) → inline_tokens kind highlight ≡ highlight_tokens kind (highlight_text highlight)
+      → tags_in kind (highlight ∷ []) ≡ highlight_text highlight ∷ []
+  highlight_tag highlight tokens = ap tags_of (append-nil (inline_tokens kind highlight) ∙ tokens
+      ∙ cond-true (has_highlights kind) (Tag (highlight_text highlight) ∷ []) [] has)
 
-unprintable_starts : (unprintable : Bool) (around tags : List (List ℕ))
-    → nests_in around (tag_if unprintable (codes "i") ++ tags) ≡ nests_in (push_if unprintable (codes "i") around) tags
-unprintable_starts true around tags = refl
-unprintable_starts false around tags = refl
+  -- Parts within a highlight.
+  within_nests : (start end : Inline) (name : List ℕ) (inlines : List Inline)
+      → inline_tokens kind start ≡ highlight_tokens kind (highlight_text start)
+      → inline_tokens kind end ≡ highlight_tokens kind (highlight_text end)
+      → ((around tags : List (List ℕ)) → nests_in around (highlight_text start ∷ tags) ≡ nests_in (name ∷ around) tags)
+      → ((around tags : List (List ℕ)) → nests_in (name ∷ around) (highlight_text end ∷ tags) ≡ nests_in around tags)
+      → Nests kind inlines → Nests kind (start ∷ (inlines ++ end ∷ []))
+  within_nests start end name inlines start_is end_is starts ends nest around tags =
+      let inner = tags_in kind inlines in
+      ap (λ (t : List (List ℕ)). nests_in around (t ++ tags))
+      (tags_in-append kind (start ∷ []) (inlines ++ end ∷ [])
+      ∙ ap (λ (t : List (List ℕ)). t ++ tags_in kind (inlines ++ end ∷ [])) (highlight_tag start start_is)
+      ∙ ap (λ (t : List (List ℕ)). highlight_text start ∷ t) (tags_in-append kind inlines (end ∷ [])
+      ∙ ap (λ (t : List (List ℕ)). inner ++ t) (highlight_tag end end_is)))
+      ∙ starts around ((inner ++ highlight_text end ∷ []) ++ tags)
+      ∙ ap (nests_in (name ∷ around)) (append_assoc inner (highlight_text end ∷ []) tags)
+      ∙ nest (name ∷ around) (highlight_text end ∷ tags) ∙ ends around tags
 
-style_ends : (has bold : Bool) (around tags : List (List ℕ))
-    → nests_in (push_if has (style_name bold) around) (tag_if has (47 ∷ style_name bold) ++ tags) ≡ nests_in around tags
-style_ends true true around tags = refl
-style_ends true false around tags = refl
-style_ends false bold around tags = refl
-
-style_starts : (has bold : Bool) (hue : Hue) (around tags : List (List ℕ))
-    → nests_in around (tag_if has (style_name bold ++ hue_class hue) ++ tags) ≡ nests_in (push_if has (style_name bold) around) tags
-style_starts false bold hue around tags = refl
-style_starts true true Plain around tags = refl
-style_starts true true Red around tags = refl
-style_starts true true Green around tags = refl
-style_starts true true Yellow around tags = refl
-style_starts true true Blue around tags = refl
-style_starts true true Magenta around tags = refl
-style_starts true true Cyan around tags = refl
-style_starts true false Plain around tags = refl
-style_starts true false Red around tags = refl
-style_starts true false Green around tags = refl
-style_starts true false Yellow around tags = refl
-style_starts true false Blue around tags = refl
-style_starts true false Magenta around tags = refl
-style_starts true false Cyan around tags = refl
-
--- The elements of two styles that are the same have the same name.
-same_opened : (one other : Style) (around : List (List ℕ)) → is_same_style one other ≡ true
-    → push_if (has_element other) (style_name other.bold) around ≡ push_if (has_element one) (style_name one.bold) around
-same_opened one other around is =
-    ap (λ (s : Style). push_if (has_element s) (style_name s.bold) around) (sym (same_style one other is))
-
-between_nests : (look : Look) (unprintable same was : Bool) (around tags : List (List ℕ)) → is_same_style look.wanted look.current ≡ same
-    → look.unprintable ≡ was
-    → nests_in (opened was look.current around)
-    (tag_if (was && not (same && unprintable)) (codes "/i")
-    ++ (tag_if (not same && has_element look.current) (47 ∷ style_name look.current.bold)
-    ++ (tag_if (not same && has_element look.wanted) (style_name look.wanted.bold ++ hue_class look.wanted.hue)
-    ++ (tag_if (unprintable && not (same && was)) (codes "i") ++ tags)))) ≡ nests_in (opened unprintable look.wanted around) tags
-between_nests look true true true around tags is was =
-    ap (λ (inner : List (List ℕ)). nests_in (codes "i" ∷ inner) tags) (same_opened look.wanted look.current around is)
-between_nests look false true true around tags is was =
-    ap (λ (inner : List (List ℕ)). nests_in inner tags) (same_opened look.wanted look.current around is)
-between_nests look true true false around tags is was =
-    ap (λ (inner : List (List ℕ)). nests_in (codes "i" ∷ inner) tags) (same_opened look.wanted look.current around is)
-between_nests look false true false around tags is was =
-    ap (λ (inner : List (List ℕ)). nests_in inner tags) (same_opened look.wanted look.current around is)
-between_nests look unprintable false was around tags is unprintable_is = by was unprintable
-  where
-    styles : (ts : List (List ℕ)) → nests_in (push_if (has_element look.current) (style_name look.current.bold) around)
-        (tag_if (has_element look.current) (47 ∷ style_name look.current.bold)
-        ++ (tag_if (has_element look.wanted) (style_name look.wanted.bold ++ hue_class look.wanted.hue) ++ ts))
-        ≡ nests_in (push_if (has_element look.wanted) (style_name look.wanted.bold) around) ts
-    styles ts = style_ends (has_element look.current) look.current.bold around
-        (tag_if (has_element look.wanted) (style_name look.wanted.bold ++ hue_class look.wanted.hue) ++ ts)
-        ∙ style_starts (has_element look.wanted) look.wanted.bold look.wanted.hue around ts
-
-    by : (was unprintable : Bool) → nests_in (opened was look.current around)
-        (tag_if (was && true) (codes "/i")
-        ++ (tag_if (has_element look.current) (47 ∷ style_name look.current.bold)
-        ++ (tag_if (has_element look.wanted) (style_name look.wanted.bold ++ hue_class look.wanted.hue)
-        ++ (tag_if (unprintable && true) (codes "i") ++ tags)))) ≡ nests_in (opened unprintable look.wanted around) tags
-    by true true = styles (codes "i" ∷ tags)
-    by true false = styles tags
-    by false true = styles (codes "i" ∷ tags)
-    by false false = styles tags
-
-styles_tags : (kind : TextKind) → has_highlights kind ≡ true → (look : Look) (same : Bool)
-    → tags_in kind (if same then [] else style_end look.current ++ style_start look.wanted)
-    ≡ tag_if (not same && has_element look.current) (47 ∷ style_name look.current.bold)
-    ++ tag_if (not same && has_element look.wanted) (style_name look.wanted.bold ++ hue_class look.wanted.hue)
-styles_tags kind has look true = refl
-styles_tags kind has look false =
-    tags_in-append kind (style_end look.current) (style_start look.wanted)
-    ∙ ap (λ (t : List (List ℕ)). t ++ tags_in kind (style_start look.wanted))
-    (tags_if kind has (has_element look.current) (StyleEnd look.current) refl)
-    ∙ ap (λ (t : List (List ℕ)). tag_if (has_element look.current) (47 ∷ style_name look.current.bold) ++ t)
-    (tags_if kind has (has_element look.wanted) (StyleStart look.wanted) refl)
-
-four_parts : (a b c d e : List (List ℕ)) → ((a ++ (b ++ c)) ++ d) ++ e ≡ a ++ (b ++ (c ++ (d ++ e)))
-four_parts a b c d e = append_assoc (a ++ (b ++ c)) d e ∙ append_assoc a (b ++ c) (d ++ e)
-    ∙ ap (λ (t : List (List ℕ)). a ++ t) (append_assoc b c (d ++ e))
-
-highlights_nest : (kind : TextKind) → has_highlights kind ≡ true → (look : Look) (unprintable : Bool) (around tags : List (List ℕ))
-    → nests_in (opened look.unprintable look.current around) (tags_in kind (highlights_between look unprintable) ++ tags)
-    ≡ nests_in (opened unprintable look.wanted around) tags
-highlights_nest kind has look unprintable around tags =
-    let same = is_same_style look.wanted look.current in
-    let styles = if same then [] else style_end look.current ++ style_start look.wanted in
-    let a = look.unprintable && not (same && unprintable) in
-    let d = unprintable && not (same && look.unprintable) in
-    let ends = tag_if (not same && has_element look.current) (47 ∷ style_name look.current.bold) in
-    let starts = tag_if (not same && has_element look.wanted) (style_name look.wanted.bold ++ hue_class look.wanted.hue) in
-    ap (λ (t : List (List ℕ)). nests_in (opened look.unprintable look.current around) (t ++ tags))
-    (tags_in-append kind (highlight_if a UnprintableEnd ++ styles) (highlight_if d UnprintableStart)
-    ∙ ap (λ (t : List (List ℕ)). t ++ tags_in kind (highlight_if d UnprintableStart))
-    (tags_in-append kind (highlight_if a UnprintableEnd) styles)
-    ∙ ap (λ (t : List (List ℕ)). (t ++ tags_in kind styles) ++ tags_in kind (highlight_if d UnprintableStart))
-    (tags_if kind has a UnprintableEnd refl)
-    ∙ ap (λ (t : List (List ℕ)). (tag_if a (codes "/i") ++ t) ++ tags_in kind (highlight_if d UnprintableStart))
-    (styles_tags kind has look same)
-    ∙ ap (λ (t : List (List ℕ)). (tag_if a (codes "/i") ++ (ends ++ starts)) ++ t) (tags_if kind has d UnprintableStart refl))
-    ∙ ap (nests_in (opened look.unprintable look.current around))
-    (four_parts (tag_if a (codes "/i")) ends starts (tag_if d (codes "i")) tags)
-    ∙ between_nests look unprintable same look.unprintable around tags refl refl
-
-runs_nest : (kind : TextKind) → has_highlights kind ≡ true → (look : Look) (runs : List Run) (around tags : List (List ℕ))
-    → nests_in (opened look.unprintable look.current around) (tags_in kind (inlines_from look runs) ++ tags) ≡ nests_in around tags
-runs_nest kind has look [] around tags =
-    let end = style_end look.current in
-    ap (λ (t : List (List ℕ)). nests_in (opened look.unprintable look.current around) (t ++ tags))
-    (tags_in-append kind (highlight_if look.unprintable UnprintableEnd) end
-    ∙ ap (λ (t : List (List ℕ)). t ++ tags_in kind end) (tags_if kind has look.unprintable UnprintableEnd refl)
-    ∙ ap (λ (t : List (List ℕ)). tag_if look.unprintable (codes "/i") ++ t)
-    (tags_if kind has (has_element look.current) (StyleEnd look.current) refl))
-    ∙ ap (nests_in (opened look.unprintable look.current around))
-    (append_assoc (tag_if look.unprintable (codes "/i")) (tag_if (has_element look.current) (47 ∷ style_name look.current.bold)) tags)
-    ∙ unprintable_ends look.unprintable (push_if (has_element look.current) (style_name look.current.bold) around)
-    (tag_if (has_element look.current) (47 ∷ style_name look.current.bold) ++ tags)
-    ∙ style_ends (has_element look.current) look.current.bold around tags
-runs_nest kind has look (Restyle numbers ∷ runs) around tags =
-    runs_nest kind has (with_wanted look (restyled look.wanted numbers)) runs around tags
-runs_nest kind has look (CodePoints code_point count ∷ runs) around tags =
-    let unprintable = is_unprintable code_point in
-    let rest = inlines_from (after_code_point look unprintable) runs in
-    ap (λ (t : List (List ℕ)). nests_in (opened look.unprintable look.current around) (t ++ tags))
-    (tags_in-append kind (highlights_between look unprintable) (Text code_point count ∷ rest)
-    ∙ ap (λ (t : List (List ℕ)). tags_in kind (highlights_between look unprintable) ++ t) (text_tags kind code_point count rest))
-    ∙ ap (nests_in (opened look.unprintable look.current around))
-    (append_assoc (tags_in kind (highlights_between look unprintable)) (tags_in kind rest) tags)
-    ∙ highlights_nest kind has look unprintable around (tags_in kind rest ++ tags)
-    ∙ runs_nest kind has (after_code_point look unprintable) runs around tags
+  passage_nest : (style : Style) (runs : List Run) → Nests kind (passage_inlines style runs)
+  passage_nest style runs =
+      holds_of_passage (Nests kind) (λ (run : Run). Unit {0}) (λ around tags. refl) both_nest
+      (λ code_point count given around tags. ap (λ (t : List (List ℕ)). nests_in around (t ++ tags)) (text_tags kind code_point count []))
+      (λ inlines nest. within_nests UnprintableStart UnprintableEnd (codes "i") inlines refl refl (λ around tags. refl)
+      (λ around tags. refl) nest)
+      (λ style inlines has_one nest. within_nests (StyleStart style) (StyleEnd style) (style_name style.bold) inlines refl refl
+      (style_starts style.bold style.hue) (style_ends style.bold) nest) style runs (any_runs runs)
 
 pub passage_nests : (kind : TextKind) (style : Style) (bytes : List ℕ) (around tags : List (List ℕ))
     → nests_in around (tags_of (passage_tokens kind style bytes) ++ tags) ≡ nests_in around tags
-passage_nests Log style bytes around tags =
-    ap (λ (t : List Token). nests_in around (tags_of t ++ tags)) (tokens_are Log style bytes)
-    ∙ runs_nest Log refl (start_look style) (runs_of (symbols Log bytes)) around tags
-passage_nests Monochrome style bytes around tags =
-    ap (λ (t : List Token). nests_in around (tags_of t ++ tags)) (tokens_are Monochrome style bytes)
-    ∙ runs_nest Monochrome refl (start_look style) (runs_of (symbols Monochrome bytes)) around tags
-passage_nests Title style bytes around tags = ap (λ (t : List (List ℕ)). nests_in around (t ++ tags)) (title_tags style bytes)
+passage_nests Log style bytes = passage_nest Log refl style (runs_of (symbols Log bytes))
+passage_nests Monochrome style bytes = passage_nest Monochrome refl style (runs_of (symbols Monochrome bytes))
+passage_nests Title style bytes = λ around tags. ap (λ (t : List (List ℕ)). nests_in around (t ++ tags)) (title_tags style bytes)
 
 pub passage_is_read : (kind : TextKind) (style : Style) (bytes : List ℕ) → IsReadAsShown kind style bytes
 passage_is_read kind style bytes = record {
   reads = passage_reads kind style bytes;
   text = passage_text kind style bytes;
-  highlights = subst (λ (t : List Token). AreHighlights (tags_of t)) (sym (tokens_are kind style bytes))
-      (runs_highlights kind (start_look style) (runs_of (symbols kind bytes)));
+  highlights = passage_highlights kind style (runs_of (symbols kind bytes));
   nests = passage_nests kind style bytes;
 }

@@ -1,7 +1,7 @@
 -- The shown text is UTF-8, and so is its HTML.
 use Rattle.std.proofs.Common.{◌≡◌, ℕ, zero, suc, ◌+◌, ◌-◌, ◌/◌, ◌%◌, ◌<◌, ◌≤◌, Bool, true, false, List, [], ◌∷◌, ◌++◌, Option, None, Some, slice_index, refl, sym, ◌∙◌, ap, subst, arith}
 use Rattle.std.specs.Char.{encode_utf8, IsScalar}
-use Rattle.std.specs.Prelude.{⊤, IsUtf8, ◌==◌, ◌&&◌, not, nat_lt, nat_le, codes, if◌then◌else◌}
+use Rattle.std.specs.Prelude.{⊤, IsUtf8, ◌==◌, ◌&&◌, nat_lt, nat_le, codes}
 use Rattle.std.specs.Fmt.{digit_glyph}
 use Rattle.std.specs.List.{AllByRecursion, flat_map, list_all, repeat}
 use Rattle.std.proofs.lemmas.Bool.{agree_below_at, and_parts, and_from, cond_both, eqb-true, lt-ltb, ltb-true, leb-true}
@@ -11,7 +11,6 @@ use Rattle.bstr.specs.Utf8.{decoded}
 use Rattle.bstr.proofs.lemmas.SoundLemmas.{SpellsChar-decoded}
 use Rattle.redo_html.specs.declared.text_kind.TextKind.{TextKind}
 use Rattle.redo_html.specs.declared.text_kind.TextKind.TheVariants.{Log, Monochrome, Title}
-use Rattle.redo_html.specs.declared.look.Look.{Look}
 use Rattle.redo_html.specs.declared.markup.Markup.{Markup}
 use Rattle.redo_html.specs.declared.markup.Markup.TheVariants.{Doctype, Html, EndHtml, Head, EndHead, Charset, Viewport, ColorScheme, Referrer, Policy, BodyGood, BodyBad, BodyOpen, EndBody, Header, EndHeader, Title1, EndTitle1, Sign, EndSign, Nav, EndNav, Main, EndMain, FailedSection, NewSection, SummarySection, TreeSection, TimelineSection, EndSection, FailedHeading, NewHeading, SummaryHeading, TreeHeading, TimelineHeading, EndHeading, FailedLink, NewLink, SummaryLink, TreeLink, TimelineLink, TargetLink, OutputLink, EndLink, Article, EndArticle, Title3, EndTitle3, Paragraph, MetaParagraph, QuietParagraph, CutParagraph, ProblemParagraph, EndParagraph, Unordered, Tree, EndUnordered, Ordered, OrderedFrom, EndOrdered, Item, NoteItem, TargetItem, EndItem, Details, OpenDetails, QuietDetails, MoreDetails, EndDetails, Summary, EndSummary, Pre, EndPre, Bdi, EndBdi, Code, EndCode, ExitBadge, OpenBadge, EndBadge, Emphasis, EndEmphasis, Small, EndSmall, Footer, EndFooter, DescriptionList, EndDescriptionList, Div, EndDiv, Term, EndTerm, Description, EndDescription, Columns, Table, EndTable, TableBody, EndTableBody, TableRow, EndTableRow, RowHeading, EndRowHeading, NumberCell, MeterCell, EndCell, TimelineScroll}
 use Rattle.redo_html.specs.declared.style.Hue.{Hue}
@@ -23,18 +22,17 @@ use Rattle.redo_html.specs.Html.{Normal, is_digit}
 use Rattle.redo_html.specs.Laws.{is_byte, has_bytes, node_has_bytes}
 use Rattle.redo_html.specs.Parts.{Part, part_html}
 use Rattle.redo_html.specs.Parts.Part.{MarkupPart, LogPart, TextPart, NumberPart, TitlePart, StylePart, ChartPart, MeterPart}
-use Rattle.redo_html.specs.Passage.{Inline, escaped, hue_class, style_name, has_highlights, highlight_html, inline_html, has_element, style_start, style_end, is_same_style, passage_html, passage_inlines}
-use Rattle.redo_html.specs.Private.Highlighting.{highlight_if, highlights_between, after_code_point, with_wanted, start_look, inlines_from}
+use Rattle.redo_html.specs.Passage.{Inline, escaped, hue_class, style_name, has_highlights, highlight_html, inline_html, passage_html, passage_inlines}
 use Rattle.redo_html.specs.Passage.Inline.{UnprintableStart, UnprintableEnd, StyleStart, StyleEnd, Text}
 use Rattle.redo_html.specs.Shown.{is_between, is_unprintable, lower_hex, upper_hex, notation, number_text, unprintable_text, Run, with_code_point, runs_of, code_points_text, run_text, shown_text}
 use Rattle.redo_html.specs.Shown.Run.{CodePoints, Restyle}
-use Rattle.redo_html.specs.Style.{plain_style, restyled}
+use Rattle.redo_html.specs.Style.{plain_style}
 use Rattle.redo_html.specs.StyleSheet.{style_sheet}
 use Rattle.redo_html.specs.Symbols.{Symbol, code_point_of, first_code_point, is_sequence, first_symbol, symbol_len, symbols_after, symbols}
 use Rattle.redo_html.specs.Symbols.Symbol.{CodePoint, Sequence}
 use Rattle.redo_html.specs.Tags.{markup_html}
 use Rattle.redo_html.proofs.ChartReading.{drawing_contexts, is_well_formed, meter_contexts, nodes_well_formed}
-use Rattle.redo_html.proofs.PassageGroups.{parts_are}
+use Rattle.redo_html.proofs.PassageGroups.{holds_of_passage}
 use Rattle.redo_html.proofs.SymbolLemmas.{unprintable_byte}
 use Rattle.redo_html.proofs.TagReading.{element_name_low, is_attribute, is_element, is_low, tag_low}
 use Rattle.redo_html.proofs.TextReading.{all_append, all_weaker, number_digits, unprintable_safe, safe_escaped, encoded_escaped}
@@ -246,35 +244,11 @@ both_showable : (a b : List Inline) → AllByRecursion IsShowableInline a → Al
 both_showable [] b first second = second
 both_showable (inline ∷ a) b first second = (first.0, both_showable a b first.1 second)
 
-highlight_showable : (wanted : Bool) (highlight : Inline) → IsShowableInline highlight
-    → AllByRecursion IsShowableInline (highlight_if wanted highlight)
-highlight_showable true highlight showable = (showable, tt)
-highlight_showable false highlight showable = tt
-
-between_showable : (look : Look) (unprintable : Bool) → AllByRecursion IsShowableInline (highlights_between look unprintable)
-between_showable look unprintable =
-    let same = is_same_style look.wanted look.current in
-    let styles = if same then [] else style_end look.current ++ style_start look.wanted in
-    let first = highlight_if (look.unprintable && not (same && unprintable)) UnprintableEnd in
-    let last = highlight_if (unprintable && not (same && look.unprintable)) UnprintableStart in
-    both_showable (first ++ styles) last
-    (both_showable first styles (highlight_showable (look.unprintable && not (same && unprintable)) UnprintableEnd tt)
-    (cond_both same [] (style_end look.current ++ style_start look.wanted) (AllByRecursion IsShowableInline) (λ is. tt)
-    (λ other. both_showable (style_end look.current) (style_start look.wanted)
-    (highlight_showable (has_element look.current) (StyleEnd look.current) tt)
-    (highlight_showable (has_element look.wanted) (StyleStart look.wanted) tt))))
-    (highlight_showable (unprintable && not (same && look.unprintable)) UnprintableStart tt)
-
-inlines_showable : (look : Look) (runs : List Run) → AllByRecursion IsShowableRun runs
-    → AllByRecursion IsShowableInline (inlines_from look runs)
-inlines_showable look [] all = both_showable (highlight_if look.unprintable UnprintableEnd) (style_end look.current)
-    (highlight_showable look.unprintable UnprintableEnd tt) (highlight_showable (has_element look.current) (StyleEnd look.current) tt)
-inlines_showable look (Restyle numbers ∷ runs) all = inlines_showable (with_wanted look (restyled look.wanted numbers)) runs all.1
-inlines_showable look (CodePoints code_point count ∷ runs) all =
-    both_showable (highlights_between look (is_unprintable code_point))
-    (Text code_point count ∷ inlines_from (after_code_point look (is_unprintable code_point)) runs)
-    (between_showable look (is_unprintable code_point))
-    (all.0, inlines_showable (after_code_point look (is_unprintable code_point)) runs all.1)
+inlines_showable : (style : Style) (runs : List Run) → AllByRecursion IsShowableRun runs
+    → AllByRecursion IsShowableInline (passage_inlines style runs)
+inlines_showable = holds_of_passage (AllByRecursion IsShowableInline) IsShowableRun tt both_showable
+    (λ code_point count showable. (showable, tt)) (λ inlines are. (tt, both_showable inlines (UnprintableEnd ∷ []) are (tt, tt)))
+    (λ style inlines has are. (tt, both_showable inlines (StyleEnd style ∷ []) are (tt, tt)))
 
 pub passage_utf8 : (kind : TextKind) (style : Style) (bytes : List ℕ) → list_all is_byte bytes ≡ true
     → IsUtf8 (passage_html kind style bytes)
@@ -282,8 +256,7 @@ unfolding passage_html
 passage_utf8 kind style bytes are =
     let runs = runs_of (symbols kind bytes) in
     each_utf8 (inline_html kind) IsShowableInline (inline_utf8 kind) (passage_inlines style runs)
-    (subst (AllByRecursion IsShowableInline) (sym (parts_are style runs))
-    (inlines_showable (start_look style) runs (text_showable kind bytes are)))
+    (inlines_showable style runs (text_showable kind bytes are))
 
 -- ---- tags
 
