@@ -15,6 +15,9 @@ use redo_diagnostics::{Diagnostic, KeyCounts, Place, Severity};
 use redo_view::FormFault;
 use std::alloc::AllocError;
 
+// The room that is reserved for the first object. Most objects are shorter.
+const OBJECT_BYTES: usize = 512;
+
 /// Writes the object of a diagnostic, after a comma unless it is the first one, and counts its key. `object` is overwritten.
 pub fn write_joined<W: Sink>(
     is_first: bool,
@@ -33,6 +36,7 @@ pub fn write_joined<W: Sink>(
         (record { line = position; value = diagnostic.entry; nth = stored (times_of diagnostic.entry.key keys) }, new)) result }
 {
     object.clear();
+    object.reserve(OBJECT_BYTES)?;
     join_front(is_first, position, &diagnostic, object)?;
     join_strings(&diagnostic, object)?;
     let nth = counts.add(diagnostic.into_key())?;
