@@ -224,7 +224,7 @@ links = refl
 
 -- ---- groups of one span
 
--- What refutes a wrong definition: a group of one span has one bar, which says what it does of this span.
+-- Specification mutants are refuted with these: a group of one span has one bar, which says what it does of this span.
 pub no_bar : (logs : List Log) (nodes : List Node) (window : Window) (kind : GroupKind) (one : Span) (spans : List Span)
     → DrawsAll logs nodes window kind (one ∷ spans) [] → ⊥
 no_bar logs nodes window kind one spans draws = by draws.bars draws.once draws.drawn
