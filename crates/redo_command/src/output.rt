@@ -146,21 +146,28 @@ fn create_temporary<'a, R: Files + AllocGlobal>(
 {
     for number in 0..MAX_TEMPORARY_NAMES {
         let temporary = temporary_path(rt.alloc(), path, number)?;
-        match File::create_new(rt, temporary.as_str()) {
-            Ok(file) => {
-                return Ok(Output::Temporary {
-                    file,
-                    temporary,
-                    path,
-                });
-            }
-            Err(error) => match error.kind() {
-                ErrorKind::AlreadyExists => {}
-                _ => return Err(failure_after(&error)),
-            },
+        if let Some(file) = new_file(File::create_new(rt, temporary.as_str()))? {
+            return Ok(Output::Temporary {
+                file,
+                temporary,
+                path,
+            });
         }
     }
     Err(Failure::Run(RunFault::Write))
+}
+
+// Returns the file that was created, or `None` if its name is taken.
+fn new_file<F: Drop>(created: io::Result<F>) -> Result<Option<F>, Failure>
+    ensures { IfErr result (λ failure. (failure ≡ Run run.Write) ⊎ (failure ≡ Memory)) }
+{
+    match created {
+        Ok(file) => Ok(Some(file)),
+        Err(error) => match error.kind() {
+            ErrorKind::AlreadyExists => Ok(None),
+            _ => Err(failure_after(&error)),
+        },
+    }
 }
 
 // Returns the path of a temporary file with this number.
