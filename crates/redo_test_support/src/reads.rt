@@ -21,15 +21,20 @@ pub fn cut_into_reads(alloc: Global, bytes: &[u8], cut: Cut) -> Result<Vec<Vec<u
 fn in_two_reads(alloc: Global, bytes: &[u8], at: usize) -> Result<Vec<Vec<u8>>, AllocError> {
     let (front, back) = bytes.split_at(at.min(bytes.len()));
     let mut reads = Vec::new(alloc);
-    reads.push(front.to_vec(alloc)?)?;
-    reads.push(back.to_vec(alloc)?)?;
+    push_copy(alloc, &mut reads, front)?;
+    push_copy(alloc, &mut reads, back)?;
     Ok(reads)
 }
 
 fn in_reads_of(alloc: Global, bytes: &[u8], size: usize) -> Result<Vec<Vec<u8>>, AllocError> {
     let mut reads = Vec::new(alloc);
     for read in bytes.chunks(size.max(1)) {
-        reads.push(read.to_vec(alloc)?)?;
+        push_copy(alloc, &mut reads, read)?;
     }
     Ok(reads)
+}
+
+fn push_copy(alloc: Global, reads: &mut Vec<Vec<u8>>, read: &[u8]) -> Result<(), AllocError> {
+    reads.push(read.to_vec(alloc)?)?;
+    Ok(())
 }

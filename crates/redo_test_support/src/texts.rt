@@ -60,8 +60,12 @@ fn add_entries(
         let Some(entry) = table.entry(i, k) else {
             break;
         };
-        text.push_str(&entry_text(alloc, entry)?)?;
-        text.push_str("\n")?;
+        add_line(text, &entry_text(alloc, entry)?)?;
     }
     Ok(())
+}
+
+fn add_line(text: &mut String, line: &str) -> Result<(), AllocError> {
+    text.push_str(line)?;
+    text.push_str("\n")
 }
