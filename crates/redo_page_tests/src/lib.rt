@@ -9,6 +9,8 @@ mod compare;
 #[cfg(test)]
 mod diagnostics;
 #[cfg(test)]
+mod expect;
+#[cfg(test)]
 mod facts;
 #[cfg(test)]
 mod gathered;
@@ -18,6 +20,8 @@ mod html;
 mod outline;
 #[cfg(test)]
 mod summary;
+#[cfg(test)]
+mod texts;
 #[cfg(test)]
 mod timeline;
 #[cfg(test)]

@@ -1,4 +1,5 @@
 //! The text of a few words, and a date.
+use crate::expect::expect_bytes;
 use redo_units::{Word, date, duration, push_words, size, tenths, tick, tick_step};
 use std::alloc::{AllocError, Global};
 use std::process::Abort;
@@ -35,7 +36,7 @@ fn date_has_time_of_day(rt: HostRuntime) -> Result<(), Fail> {
 // The text begins with `= `, and the words are appended.
 fn expect_text(rt: &(impl Abort + AllocGlobal), words: &[Word], want: &str) -> Result<(), Fail> {
     let text = text_of(rt.alloc(), words)?;
-    assert_eq!(rt; text.as_slice(), want.as_bytes());
+    expect_bytes(rt, &text, want.as_bytes());
     Ok(())
 }
 
