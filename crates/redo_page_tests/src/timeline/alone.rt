@@ -3,6 +3,7 @@ use crate::timeline::cases::ALONE;
 use crate::timeline::{span, spans_of};
 use redo_timeline::{Span, times_alone};
 use std::alloc::{AllocError, Global};
+use std::process::Abort;
 use std::test::Fail;
 
 // All times of the random spans are below this one.
@@ -10,9 +11,9 @@ const END: u64 = 40;
 
 #[test]
 fn times_alone_of_few_spans(rt: HostRuntime) -> Result<(), Fail> {
-    for (spans, want) in &ALONE {
+    for (spans, want) in ALONE {
         let spans = spans_of(rt.alloc(), spans)?;
-        assert_eq!(rt; times_alone(rt.alloc(), &spans)?.as_slice(), *want);
+        expect_alone(&rt, &spans, want)?;
     }
     Ok(())
 }
@@ -21,38 +22,62 @@ fn times_alone_of_few_spans(rt: HostRuntime) -> Result<(), Fail> {
 fn times_alone_of_random_spans(rt: HostRuntime) -> Result<(), Fail> {
     let mut state = 1u64;
     for count in 0u64..60 {
-        let mut spans = Vec::new(rt.alloc());
-        for _ in 0..count % 12 {
-            state = next(state);
-            let began = (state >> 33) % END;
-            state = next(state);
-            let ended = (state >> 33) % END;
-            spans.push(span(&(began, ended, 0, false)))?;
-        }
-        let want = counted(rt.alloc(), &spans)?;
-        assert_eq!(rt;
-            times_alone(rt.alloc(), &spans)?.as_slice(),
-            want.as_slice()
-        );
+        expect_random(&rt, count % 12, &mut state)?;
     }
     Ok(())
+}
+
+fn expect_random(rt: &(impl Abort + AllocGlobal), count: u64, state: &mut u64) -> Result<(), Fail> {
+    let spans = random_spans(rt.alloc(), count, state)?;
+    let want = counted(rt.alloc(), &spans)?;
+    expect_alone(rt, &spans, &want)
+}
+
+fn expect_alone(rt: &(impl Abort + AllocGlobal), spans: &[Span], want: &[u64]) -> Result<(), Fail> {
+    assert_eq!(rt; times_alone(rt.alloc(), spans)?.as_slice(), want);
+    Ok(())
+}
+
+fn random_spans(alloc: Global, count: u64, state: &mut u64) -> Result<Vec<Span>, AllocError> {
+    let mut spans = Vec::new(alloc);
+    for _ in 0..count {
+        spans.push(random_span(state))?;
+    }
+    Ok(spans)
+}
+
+fn random_span(state: &mut u64) -> Span {
+    let (began, ended) = (random_time(state), random_time(state));
+    span(&(began, ended, 0, false))
+}
+
+fn random_time(state: &mut u64) -> u64 {
+    *state = next(*state);
+    (*state / 8_589_934_592) % END
 }
 
 // Each span overlaps the one before for a millisecond, and the one after. The last one is given first.
 #[test]
 fn times_alone_of_many_spans(rt: HostRuntime) -> Result<(), Fail> {
-    let mut spans = Vec::new(rt.alloc());
-    let mut want = Vec::new(rt.alloc());
+    let spans = many_spans(rt.alloc())?;
+    let want = times_of_many(rt.alloc())?;
+    expect_alone(&rt, &spans, &want)
+}
+
+fn many_spans(alloc: Global) -> Result<Vec<Span>, AllocError> {
+    let mut spans = Vec::new(alloc);
     for i in 0u64..100_000 {
         let began = 1_000_000_000_000 - 2 * i;
         spans.push(span(&(began, began + 3, 0, false)))?;
-        want.push(if i == 0 || i == 99_999 { 2 } else { 1 })?;
     }
-    assert_eq!(rt;
-        times_alone(rt.alloc(), &spans)?.as_slice(),
-        want.as_slice()
-    );
-    Ok(())
+    Ok(spans)
+}
+
+fn times_of_many(alloc: Global) -> Result<Vec<u64>, AllocError> {
+    let mut times = vec![in alloc; 1; 100_000]?;
+    times[0] = 2;
+    times[99_999] = 2;
+    Ok(times)
 }
 
 // Counts, for each span, the milliseconds at which it runs and no other one does.

@@ -17,7 +17,7 @@ pub type TimelineCase = (
 );
 
 /// In most of these, a unit is a millisecond.
-pub static TIMELINES: [TimelineCase; 20] = [
+pub static TIMELINES: &[TimelineCase] = &[
     // No spans, and one.
     (0, 10000, 4, &[], &[], 0),
     (
@@ -241,7 +241,7 @@ pub static TIMELINES: [TimelineCase; 20] = [
 ];
 
 /// Spans, and the greatest number of them that run at one time.
-pub static PARALLEL: [(&[SpanCase], usize); 8] = [
+pub static PARALLEL: &[(&[SpanCase], usize)] = &[
     (&[], 0),
     (&[(5, 9, 0, false)], 1),
     (&[(0, 10, 0, false), (10, 20, 1, false)], 1),
@@ -261,7 +261,7 @@ pub static PARALLEL: [(&[SpanCase], usize); 8] = [
 ];
 
 /// Spans, and how long each runs alone.
-pub static ALONE: [(&[SpanCase], &[u64]); 11] = [
+pub static ALONE: &[(&[SpanCase], &[u64])] = &[
     (&[], &[]),
     (&[(5, 9, 0, false)], &[4]),
     // Spans that touch, with a gap, and that overlap.
