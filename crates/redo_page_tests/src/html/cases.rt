@@ -56,8 +56,18 @@ const BOLD_YELLOW: Style = Style {
     hue: Hue::Yellow,
 };
 
-/// The text of a log, and its HTML.
-pub static LOGS: [(&[u8], &[u8]); 51] = [
+/// Returns the cases of texts of logs.
+pub fn logs() -> &'static [(&'static [u8], &'static [u8])] {
+    LOGS
+}
+
+/// Returns the cases of lines of logs.
+pub fn lines() -> &'static [(Style, &'static [u8], &'static [u8], Style)] {
+    LINES
+}
+
+// The text of a log, and its HTML. Proofs that name a table take long if it is large. So one function does.
+static LOGS: &[(&[u8], &[u8])] = &[
     (
         b"cc -c \"a.c\" <x>&y'\n\tok",
         b"cc -c \"a.c\" &lt;x&gt;&amp;y'\n\tok",
@@ -209,7 +219,7 @@ pub static LOGS: [(&[u8], &[u8]); 51] = [
 ];
 
 /// A name, and its HTML.
-pub static NAMES: [(&[u8], &[u8]); 11] = [
+pub static NAMES: &[(&[u8], &[u8])] = &[
     (
         b"\xef\xb7\x90\xef\xb7\xaf\xef\xbf\xbd\xef\xbf\xbe\xf0\x9b\xb2\xa0\xf0\x9d\x85\xba\xf0\x9f\xbf\xbf\xf4\x8f\xbf\xbe",
         b"<i>[U+FDD0][U+FDEF]</i>\xef\xbf\xbd<i>[U+FFFE][U+1BCA0][U+1D17A][U+1FFFF][U+10FFFE]</i>",
@@ -260,7 +270,7 @@ pub static NAMES: [(&[u8], &[u8]); 11] = [
 ];
 
 /// A title, and its HTML.
-pub static TITLES: [(&[u8], &[u8]); 5] = [
+pub static TITLES: &[(&[u8], &[u8])] = &[
     (b"<b>\x1b[1m&\xff", b"&lt;b&gt;^[[1m&amp;\\xff"),
     (b"", b""),
     (
@@ -288,8 +298,8 @@ pub static TITLES: [(&[u8], &[u8]); 5] = [
     (b"\x1b]8;;u\x07c", b"^[]8;;u^Gc"),
 ];
 
-/// The style at the start of lines, the lines, their HTML, and the style at their end.
-pub static LINES: [(Style, &[u8], &[u8], Style); 16] = [
+// The style at the start of lines, the lines, their HTML, and the style at their end.
+static LINES: &[(Style, &[u8], &[u8], Style)] = &[
     (Style::PLAIN, b"", b"", Style::PLAIN),
     (BOLD_CYAN, b"", b"", BOLD_CYAN),
     (Style::PLAIN, b"\n", b"\n", Style::PLAIN),
@@ -374,7 +384,7 @@ pub static LINES: [(Style, &[u8], &[u8], Style); 16] = [
 ];
 
 /// The style at the start of a text of a log, the text, and its HTML.
-pub static STYLED: [(Style, &[u8], &[u8]); 7] = [
+pub static STYLED: &[(Style, &[u8], &[u8])] = &[
     (RED, b"", b""),
     (RED, b"a\x1b[mb", b"<span class=\"r\">a</span>b"),
     (BOLD, b"\x00x", b"<b><i>^@</i>x</b>"),

@@ -1,4 +1,5 @@
 //! The HTML of charts. An independent program in Python computed the values.
+use crate::html::{expect_broken, expect_written};
 use redo_device::{Broken, Sink, Taker};
 use redo_html::{
     Anchor, Bar, Chart, ChartGroup, ChartItem, GroupKind, Markup, Piece, write_chart, write_meter,
@@ -7,7 +8,7 @@ use redo_html::{
 use std::process::Abort;
 use std::test::Fail;
 
-static AXIS: [ChartItem<'static>; 5] = [
+static AXIS: &[ChartItem<'static>] = &[
     ChartItem::Line { x: 0, bottom: 86 },
     ChartItem::Tick {
         x: 0,
@@ -30,7 +31,7 @@ static AXIS: [ChartItem<'static>; 5] = [
     },
 ];
 
-static CALLERS: [ChartItem<'static>; 2] = [
+static CALLERS: &[ChartItem<'static>] = &[
     ChartItem::Bar(Bar {
         target: 0,
         x: 0,
@@ -53,7 +54,7 @@ static CALLERS: [ChartItem<'static>; 2] = [
     }),
 ];
 
-static RECIPES: [ChartItem<'static>; 4] = [
+static RECIPES: &[ChartItem<'static>] = &[
     ChartItem::Bar(Bar {
         target: 7,
         x: 1234,
@@ -96,7 +97,7 @@ static RECIPES: [ChartItem<'static>; 4] = [
     }),
 ];
 
-static UNTIMED: [ChartItem<'static>; 2] = [
+static UNTIMED: &[ChartItem<'static>] = &[
     ChartItem::Bar(Bar {
         target: 18_446_744_073_709_551_615,
         x: 9999,
@@ -151,7 +152,7 @@ static HTML: &[u8] =
         <text x=\"4\" y=\"9\" fill=\"#fff\">f</text></svg></a></g></svg>";
 
 /// Widths of meters, and their HTML.
-static METERS: [(u64, &[u8]); 4] = [
+static METERS: &[(u64, &[u8])] = &[
     (
         0,
         b"<svg width=\"100%\" height=\"10\" aria-hidden=\"true\"><rect width=\"0.00%\" height=\"10\" fill=\"#3a6ea5\"></rect></svg>",
@@ -170,23 +171,39 @@ static METERS: [(u64, &[u8]); 4] = [
     ),
 ];
 
+static EMPTY_HTML: &[u8] =
+    b"<svg role=\"img\" aria-label=\"A bar for each target, from its start to its end, in 1 \
+        lane\" width=\"100%\" height=\"0\" font-size=\"11\"></svg>";
+
+static PIECES_HTML: &[u8] =
+    b"<td class=\"m\"><svg width=\"100%\" height=\"10\" aria-hidden=\"true\">\
+        <rect width=\"0.05%\" height=\"10\" fill=\"#3a6ea5\"></rect></svg></td>\
+        <div class=\"scroll\" tabindex=\"0\" role=\"region\" aria-labelledby=\"h-timeline\">\
+        <svg role=\"img\" aria-label=\"A bar for each target, from its start to its end, in 1 \
+        lane\" width=\"100%\" height=\"20\" font-size=\"11\"><g class=\"e\" fill=\"#8a6d3b\">\
+        <a href=\"#t18446744073709551615\" tabindex=\"-1\">\
+        <rect x=\"99.99%\" y=\"90\" width=\"0.10%\" height=\"14\"><title>e</title></rect></a>\
+        <a href=\"#t13\" tabindex=\"-1\"><svg x=\"0.00%\" y=\"90\" width=\"3.50%\" \
+        height=\"14\"><title>f</title><rect width=\"100%\" height=\"14\"></rect>\
+        <text x=\"4\" y=\"9\" fill=\"#fff\">f</text></svg></a></g></svg></div>";
+
 fn write_full<W: Sink>(out: &mut W) -> Result<(), Broken> {
     let groups = [
         ChartGroup {
             kind: GroupKind::Axis,
-            items: &AXIS,
+            items: AXIS,
         },
         ChartGroup {
             kind: GroupKind::Callers,
-            items: &CALLERS,
+            items: CALLERS,
         },
         ChartGroup {
             kind: GroupKind::Recipes,
-            items: &RECIPES,
+            items: RECIPES,
         },
         ChartGroup {
             kind: GroupKind::Untimed,
-            items: &UNTIMED,
+            items: UNTIMED,
         },
     ];
     let chart = Chart {
@@ -197,47 +214,10 @@ fn write_full<W: Sink>(out: &mut W) -> Result<(), Broken> {
     write_chart(chart, out)
 }
 
-#[test]
-fn chart_is_written(rt: HostRuntime) -> Result<(), Fail> {
-    let mut out = Taker::new(rt.alloc(), 8192, 8192)?;
-    assert_eq!(&rt; write_full(&mut out), Ok(()));
-    assert_eq!(&rt; out.bytes(), HTML);
-    Ok(())
-}
-
-#[test]
-fn empty_chart_is_written(rt: HostRuntime) -> Result<(), Fail> {
-    let mut out = Taker::new(rt.alloc(), 4096, 4096)?;
-    let chart = Chart {
-        height: 0,
-        lanes: 1,
-        groups: &[],
-    };
-    assert_eq!(&rt; write_chart(chart, &mut out), Ok(()));
-    assert_eq!(&rt;
-        out.bytes(),
-        b"<svg role=\"img\" aria-label=\"A bar for each target, from its start to its end, in 1 \
-            lane\" width=\"100%\" height=\"0\" font-size=\"11\"></svg>"
-            .as_slice()
-    );
-    Ok(())
-}
-
-#[test]
-fn meters_are_written(rt: HostRuntime) -> Result<(), Fail> {
-    for (width, want) in &METERS {
-        let mut out = Taker::new(rt.alloc(), 4096, 3)?;
-        assert_eq!(&rt; write_meter(*width, &mut out), Ok(()));
-        assert_eq!(&rt; out.bytes(), *want);
-    }
-    Ok(())
-}
-
-#[test]
-fn charts_are_pieces(rt: HostRuntime) -> Result<(), Fail> {
+fn write_as_pieces<W: Sink>(out: &mut W) -> Result<(), Broken> {
     let groups = [ChartGroup {
         kind: GroupKind::Untimed,
-        items: &UNTIMED,
+        items: UNTIMED,
     }];
     let pieces = [
         Piece::Markup(Markup::MeterCell),
@@ -251,22 +231,47 @@ fn charts_are_pieces(rt: HostRuntime) -> Result<(), Fail> {
         }),
         Piece::Markup(Markup::EndDiv),
     ];
+    write_pieces(&pieces, out)
+}
+
+fn write_empty<W: Sink>(out: &mut W) -> Result<(), Broken> {
+    let chart = Chart {
+        height: 0,
+        lanes: 1,
+        groups: &[],
+    };
+    write_chart(chart, out)
+}
+
+#[test]
+fn chart_is_written(rt: HostRuntime) -> Result<(), Fail> {
+    let mut out = Taker::new(rt.alloc(), 8192, 8192)?;
+    let written = write_full(&mut out);
+    expect_written(&rt, written, out.bytes(), HTML);
+    Ok(())
+}
+
+#[test]
+fn empty_chart_is_written(rt: HostRuntime) -> Result<(), Fail> {
     let mut out = Taker::new(rt.alloc(), 4096, 4096)?;
-    assert_eq!(&rt; write_pieces(&pieces, &mut out), Ok(()));
-    assert_eq!(&rt;
-        out.bytes(),
-        b"<td class=\"m\"><svg width=\"100%\" height=\"10\" aria-hidden=\"true\">\
-            <rect width=\"0.05%\" height=\"10\" fill=\"#3a6ea5\"></rect></svg></td>\
-            <div class=\"scroll\" tabindex=\"0\" role=\"region\" aria-labelledby=\"h-timeline\">\
-            <svg role=\"img\" aria-label=\"A bar for each target, from its start to its end, in 1 \
-            lane\" width=\"100%\" height=\"20\" font-size=\"11\"><g class=\"e\" fill=\"#8a6d3b\">\
-            <a href=\"#t18446744073709551615\" tabindex=\"-1\">\
-            <rect x=\"99.99%\" y=\"90\" width=\"0.10%\" height=\"14\"><title>e</title></rect></a>\
-            <a href=\"#t13\" tabindex=\"-1\"><svg x=\"0.00%\" y=\"90\" width=\"3.50%\" \
-            height=\"14\"><title>f</title><rect width=\"100%\" height=\"14\"></rect>\
-            <text x=\"4\" y=\"9\" fill=\"#fff\">f</text></svg></a></g></svg></div>"
-            .as_slice()
-    );
+    let written = write_empty(&mut out);
+    expect_written(&rt, written, out.bytes(), EMPTY_HTML);
+    Ok(())
+}
+
+#[test]
+fn meters_are_written(rt: HostRuntime) -> Result<(), Fail> {
+    for (width, want) in METERS {
+        expect_meter(&rt, *width, want)?;
+    }
+    Ok(())
+}
+
+#[test]
+fn charts_are_pieces(rt: HostRuntime) -> Result<(), Fail> {
+    let mut out = Taker::new(rt.alloc(), 4096, 4096)?;
+    let written = write_as_pieces(&mut out);
+    expect_written(&rt, written, out.bytes(), PIECES_HTML);
     Ok(())
 }
 
@@ -274,9 +279,22 @@ fn charts_are_pieces(rt: HostRuntime) -> Result<(), Fail> {
 #[test]
 fn failed_write_ends_chart(rt: HostRuntime) -> Result<(), Fail> {
     for room in 0..HTML.len() {
-        let mut out = Taker::new(rt.alloc(), room, 64)?;
-        assert_eq!(&rt; write_full(&mut out), Err(Broken));
-        assert_eq!(&rt; out.bytes(), &HTML[..room]);
+        expect_prefix(&rt, &HTML[..room])?;
     }
+    Ok(())
+}
+
+fn expect_meter(rt: &(impl Abort + AllocGlobal), width: u64, want: &[u8]) -> Result<(), Fail> {
+    let mut out = Taker::new(rt.alloc(), 4096, 3)?;
+    let written = write_meter(width, &mut out);
+    expect_written(rt, written, out.bytes(), want);
+    Ok(())
+}
+
+// The device has room for the prefix.
+fn expect_prefix(rt: &(impl Abort + AllocGlobal), prefix: &[u8]) -> Result<(), Fail> {
+    let mut out = Taker::new(rt.alloc(), prefix.len(), 64)?;
+    let written = write_full(&mut out);
+    expect_broken(rt, written, out.bytes(), prefix);
     Ok(())
 }

@@ -1,5 +1,6 @@
 //! The HTML of a page.
-use redo_device::{Broken, Taker};
+use crate::html::{expect_broken, expect_written};
+use redo_device::Taker;
 use redo_html::{Hue, Markup, Piece, Style, write_pieces};
 use std::process::Abort;
 use std::test::Fail;
@@ -9,7 +10,7 @@ const GREEN: Style = Style {
     hue: Hue::Green,
 };
 
-static PIECES: [Piece<'static>; 30] = [
+static PIECES: &[Piece<'static>] = &[
     Piece::Markup(Markup::Doctype),
     Piece::Markup(Markup::Html),
     Piece::Markup(Markup::Head),
@@ -52,8 +53,8 @@ static PAGE: &[u8] =
 #[test]
 fn pieces_are_written_in_order(rt: HostRuntime) -> Result<(), Fail> {
     let mut out = Taker::new(rt.alloc(), 4096, 4096)?;
-    assert_eq!(rt; write_pieces(&PIECES, &mut out), Ok(()));
-    assert_eq!(rt; out.bytes(), PAGE);
+    let written = write_pieces(PIECES, &mut out);
+    expect_written(&rt, written, out.bytes(), PAGE);
     Ok(())
 }
 
@@ -61,9 +62,7 @@ fn pieces_are_written_in_order(rt: HostRuntime) -> Result<(), Fail> {
 #[test]
 fn failed_write_ends_page(rt: HostRuntime) -> Result<(), Fail> {
     for room in 0..PAGE.len() {
-        let mut out = Taker::new(rt.alloc(), room, 9)?;
-        assert_eq!(rt; write_pieces(&PIECES, &mut out), Err(Broken));
-        assert_eq!(rt; out.bytes(), &PAGE[..room]);
+        expect_prefix(&rt, &PAGE[..room])?;
     }
     Ok(())
 }
@@ -71,11 +70,20 @@ fn failed_write_ends_page(rt: HostRuntime) -> Result<(), Fail> {
 #[test]
 fn style_sheet_is_one_element(rt: HostRuntime) -> Result<(), Fail> {
     let mut out = Taker::new(rt.alloc(), 10_000, 10_000)?;
-    assert_eq!(rt; write_pieces(&[Piece::StyleSheet], &mut out), Ok(()));
-    assert!(rt;
-        out.bytes()
-            .starts_with(b"<style>:root{color-scheme:light dark;")
-    );
-    assert!(rt; out.bytes().ends_with(b"}}\n</style>"));
+    assert_eq!(&rt; write_pieces(&[Piece::StyleSheet], &mut out), Ok(()));
+    expect_style_sheet(&rt, out.bytes());
     Ok(())
+}
+
+// The device has room for the prefix.
+fn expect_prefix(rt: &(impl Abort + AllocGlobal), prefix: &[u8]) -> Result<(), Fail> {
+    let mut out = Taker::new(rt.alloc(), prefix.len(), 9)?;
+    let written = write_pieces(PIECES, &mut out);
+    expect_broken(rt, written, out.bytes(), prefix);
+    Ok(())
+}
+
+fn expect_style_sheet(rt: &impl Abort, bytes: &[u8]) {
+    assert!(rt; bytes.starts_with(b"<style>:root{color-scheme:light dark;"));
+    assert!(rt; bytes.ends_with(b"}}\n</style>"));
 }

@@ -1,64 +1,91 @@
 //! The HTML of texts.
-use crate::html::cases::{LOGS, NAMES, STYLED, TITLES};
-use redo_device::{Broken, Taker};
+use crate::html::cases::{NAMES, STYLED, TITLES, logs};
+use crate::html::{expect_broken, expect_written};
+use redo_device::Taker;
 use redo_html::{Style, write_log_text, write_text, write_title_text};
 use std::process::Abort;
 use std::test::Fail;
 
 #[test]
 fn log_text_is_written(rt: HostRuntime) -> Result<(), Fail> {
-    for (text, want) in &LOGS {
-        let mut out = Taker::new(rt.alloc(), 4096, 4096)?;
-        let written = write_log_text(Style::PLAIN, text, &mut out);
-        expect_written(&rt, written, out.bytes(), want);
+    for (text, want) in logs() {
+        expect_log(&rt, Style::PLAIN, text, 4096, want)?;
     }
     Ok(())
 }
 
 #[test]
 fn text_begins_with_style(rt: HostRuntime) -> Result<(), Fail> {
-    for (style, text, want) in &STYLED {
-        let mut out = Taker::new(rt.alloc(), 4096, 7)?;
-        let written = write_log_text(*style, text, &mut out);
-        expect_written(&rt, written, out.bytes(), want);
+    for (style, text, want) in STYLED {
+        expect_log(&rt, *style, text, 7, want)?;
     }
     Ok(())
 }
 
 #[test]
 fn name_is_written(rt: HostRuntime) -> Result<(), Fail> {
-    for (name, want) in &NAMES {
-        let mut out = Taker::new(rt.alloc(), 4096, 3)?;
-        let written = write_text(name, &mut out);
-        expect_written(&rt, written, out.bytes(), want);
+    for (name, want) in NAMES {
+        expect_name(&rt, name, want)?;
     }
     Ok(())
 }
 
 #[test]
 fn title_text_is_written(rt: HostRuntime) -> Result<(), Fail> {
-    for (title, want) in &TITLES {
-        let mut out = Taker::new(rt.alloc(), 4096, 1)?;
-        let written = write_title_text(title, &mut out);
-        expect_written(&rt, written, out.bytes(), want);
+    for (title, want) in TITLES {
+        expect_title(&rt, title, want)?;
     }
     Ok(())
-}
-
-fn expect_written(rt: &impl Abort, written: Result<(), Broken>, bytes: &[u8], want: &[u8]) {
-    assert_eq!(rt; written, Ok(()));
-    assert_eq!(rt; bytes, want);
 }
 
 /// Wherever a write fails, the prefix before it was written.
 #[test]
 fn failed_write_leaves_prefix(rt: HostRuntime) -> Result<(), Fail> {
-    for (text, want) in &LOGS {
-        for room in 0..want.len().min(100) {
-            let mut out = Taker::new(rt.alloc(), room, 5)?;
-            assert_eq!(&rt; write_log_text(Style::PLAIN, text, &mut out), Err(Broken));
-            assert_eq!(&rt; out.bytes(), &want[..room]);
-        }
+    for (text, want) in logs() {
+        expect_prefixes(&rt, text, want)?;
     }
+    Ok(())
+}
+
+// The device takes this many bytes per call.
+fn expect_log(
+    rt: &(impl Abort + AllocGlobal),
+    style: Style,
+    text: &[u8],
+    per_call: usize,
+    want: &[u8],
+) -> Result<(), Fail> {
+    let mut out = Taker::new(rt.alloc(), 4096, per_call)?;
+    let written = write_log_text(style, text, &mut out);
+    expect_written(rt, written, out.bytes(), want);
+    Ok(())
+}
+
+fn expect_name(rt: &(impl Abort + AllocGlobal), name: &[u8], want: &[u8]) -> Result<(), Fail> {
+    let mut out = Taker::new(rt.alloc(), 4096, 3)?;
+    let written = write_text(name, &mut out);
+    expect_written(rt, written, out.bytes(), want);
+    Ok(())
+}
+
+fn expect_title(rt: &(impl Abort + AllocGlobal), title: &[u8], want: &[u8]) -> Result<(), Fail> {
+    let mut out = Taker::new(rt.alloc(), 4096, 1)?;
+    let written = write_title_text(title, &mut out);
+    expect_written(rt, written, out.bytes(), want);
+    Ok(())
+}
+
+fn expect_prefixes(rt: &(impl Abort + AllocGlobal), text: &[u8], want: &[u8]) -> Result<(), Fail> {
+    for room in 0..want.len().min(100) {
+        expect_prefix(rt, text, &want[..room])?;
+    }
+    Ok(())
+}
+
+// The device has room for the prefix.
+fn expect_prefix(rt: &(impl Abort + AllocGlobal), text: &[u8], prefix: &[u8]) -> Result<(), Fail> {
+    let mut out = Taker::new(rt.alloc(), prefix.len(), 5)?;
+    let written = write_log_text(Style::PLAIN, text, &mut out);
+    expect_broken(rt, written, out.bytes(), prefix);
     Ok(())
 }
