@@ -2,7 +2,9 @@
 mod cases;
 
 use crate::diagnostics::cases::{CHOSEN, Case, LINKED};
-use redo_diagnostics::{Diagnostic, KeyCounts, Severity, read_diagnostic};
+use crate::expect::expect_bytes_of;
+use crate::texts::extend_by_number;
+use redo_diagnostics::{Diagnostic, KeyCounts, Place, Severity, read_diagnostic};
 use redo_line::HashKeys;
 use std::alloc::{AllocError, Global};
 use std::process::Abort;
@@ -15,44 +17,67 @@ static OF_LINKED: &[Case] = &LINKED;
 
 #[test]
 fn diagnostics_of_chosen_lines(rt: HostRuntime) -> Result<(), Fail> {
-    for cases in &[OF_CHOSEN, OF_LINKED] {
-        for (line, want) in *cases {
-            let text = told(rt.alloc(), line.as_bytes())?;
-            assert_eq!(rt; text.as_slice(), want.as_bytes(), "{line}");
-        }
+    expect_diagnostics(&rt, OF_CHOSEN)?;
+    expect_diagnostics(&rt, OF_LINKED)
+}
+
+fn expect_diagnostics(rt: &(impl Abort + AllocGlobal), cases: &[Case]) -> Result<(), Fail> {
+    for (line, want) in cases {
+        expect_diagnostic(rt, line, want)?;
     }
     Ok(())
 }
 
-fn told(alloc: Global, line: &[u8]) -> Result<Vec<u8>, AllocError> {
+fn expect_diagnostic(rt: &(impl Abort + AllocGlobal), line: &str, want: &str) -> Result<(), Fail> {
+    let mut text = Vec::new(rt.alloc());
+    add_line(rt.alloc(), &mut text, line.as_bytes())?;
+    expect_bytes_of(rt, line, &text, want.as_bytes());
+    Ok(())
+}
+
+fn add_line(alloc: Global, text: &mut Vec<u8>, line: &[u8]) -> Result<(), AllocError> {
     let mut plain = b"of another line".to_vec(alloc)?;
     match read_diagnostic(alloc, line, &mut plain)? {
-        Some(diagnostic) => fields(alloc, &diagnostic),
-        None => b"none".to_vec(alloc),
+        Some(diagnostic) => add_fields(alloc, text, &diagnostic),
+        None => text.extend_from_slice(b"none"),
     }
 }
 
-fn fields(alloc: Global, diagnostic: &Diagnostic<'_>) -> Result<Vec<u8>, AllocError> {
-    let mut text = Vec::new(alloc);
+fn add_fields(
+    alloc: Global,
+    text: &mut Vec<u8>,
+    diagnostic: &Diagnostic<'_>,
+) -> Result<(), AllocError> {
     text.extend_from_slice(word(diagnostic.severity()))?;
-    match diagnostic.place() {
+    add_place(alloc, text, diagnostic.place())?;
+    add(text, diagnostic.message())?;
+    add(text, diagnostic.flag().unwrap_or(b"-".as_slice()))?;
+    add(text, diagnostic.key())
+}
+
+fn add_place(
+    alloc: Global,
+    text: &mut Vec<u8>,
+    place: Option<&Place<'_>>,
+) -> Result<(), AllocError> {
+    match place {
         Some(place) => {
-            add(&mut text, place.file())?;
-            add(&mut text, format!(in alloc; "{}", place.row())?.as_bytes())?;
-            match place.column() {
-                Some(column) => add(&mut text, format!(in alloc; "{column}")?.as_bytes())?,
-                None => add(&mut text, b"-")?,
-            }
+            add(text, place.file())?;
+            add_number(alloc, text, Some(place.row()))?;
+            add_number(alloc, text, place.column())
         }
-        None => text.extend_from_slice(b"|-|-|-")?,
+        None => add(text, b"-|-|-"),
     }
-    add(&mut text, diagnostic.message())?;
-    match diagnostic.flag() {
-        Some(flag) => add(&mut text, flag)?,
-        None => add(&mut text, b"-")?,
+}
+
+fn add_number(alloc: Global, text: &mut Vec<u8>, number: Option<u32>) -> Result<(), AllocError> {
+    match number {
+        Some(number) => {
+            text.push(b'|')?;
+            extend_by_number(alloc, text, u64::from(number))
+        }
+        None => add(text, b"-"),
     }
-    add(&mut text, diagnostic.key())?;
-    Ok(text)
 }
 
 fn word(severity: Severity) -> &'static [u8] {
@@ -99,31 +124,40 @@ fn repeated(alloc: Global, part: &[u8]) -> Result<Vec<u8>, AllocError> {
 #[test]
 fn long_lines(rt: HostRuntime) -> Result<(), Fail> {
     for (part, is_diagnostic) in REPEATED {
-        let line = repeated(rt.alloc(), part.as_bytes())?;
-        let mut plain = Vec::new(rt.alloc());
-        let found = read_diagnostic(rt.alloc(), &line, &mut plain)?.is_some();
+        let found = is_found(rt.alloc(), part)?;
         assert_eq!(rt; found, *is_diagnostic, "{part}");
     }
     Ok(())
 }
 
+// Returns whether the line that repeats the part is a diagnostic.
+fn is_found(alloc: Global, part: &str) -> Result<bool, AllocError> {
+    let line = repeated(alloc, part.as_bytes())?;
+    is_diagnostic(alloc, &line)
+}
+
+fn is_diagnostic(alloc: Global, line: &[u8]) -> Result<bool, AllocError> {
+    let mut plain = Vec::new(alloc);
+    Ok(read_diagnostic(alloc, line, &mut plain)?.is_some())
+}
+
+// Keys, and how often each occurred before.
+static KEYS: &[(&str, u64)] = &[
+    ("a", 0),
+    ("b", 0),
+    ("a", 1),
+    ("", 0),
+    ("a", 2),
+    ("b", 1),
+    ("", 1),
+];
+
 #[test]
 fn keys_are_counted(rt: HostRuntime) -> Result<(), Fail> {
     let mut counts = KeyCounts::new(rt.alloc(), HashKeys::fixed());
-    for (key, before) in [
-        ("a", 0),
-        ("b", 0),
-        ("a", 1),
-        ("", 0),
-        ("a", 2),
-        ("b", 1),
-        ("", 1),
-    ] {
-        assert_eq!(rt;
-            counts.add(key.as_bytes().to_vec(rt.alloc())?)?,
-            before,
-            "{key}"
-        );
+    for (key, before) in KEYS {
+        let key_before = counts.add(key.as_bytes().to_vec(rt.alloc())?)?;
+        assert_eq!(rt; key_before, *before, "{key}");
     }
     Ok(())
 }
