@@ -6,8 +6,10 @@ ghost use Rattle.std.specs.List.{list_all};
 ghost use Rattle.redo_logs.specs.Logs.{has_ended};
 ghost use Rattle.redo_view.specs.View.{find_unknown};
 
-use crate::gathered::logs_of;
+use crate::expect::expect_text;
+use crate::gathered::{logs_of, resolved};
 use crate::outline::cases::{CHOSEN, Case, RANDOM_0, RANDOM_1, RANDOM_2, RANDOM_3};
+use crate::texts::push_number;
 use redo_line::TargetName;
 use redo_logs::LogTable;
 use redo_outline::{Node, Outline};
@@ -34,10 +36,22 @@ fn outlines_of_chosen_logs(rt: HostRuntime) -> Result<(), Fail> {
 }
 
 #[test]
-fn outlines_of_random_logs(rt: HostRuntime) -> Result<(), Fail> {
-    expect_outlines(&rt, OF_RANDOM_0)?;
-    expect_outlines(&rt, OF_RANDOM_1)?;
-    expect_outlines(&rt, OF_RANDOM_2)?;
+fn outlines_of_random_logs_0(rt: HostRuntime) -> Result<(), Fail> {
+    expect_outlines(&rt, OF_RANDOM_0)
+}
+
+#[test]
+fn outlines_of_random_logs_1(rt: HostRuntime) -> Result<(), Fail> {
+    expect_outlines(&rt, OF_RANDOM_1)
+}
+
+#[test]
+fn outlines_of_random_logs_2(rt: HostRuntime) -> Result<(), Fail> {
+    expect_outlines(&rt, OF_RANDOM_2)
+}
+
+#[test]
+fn outlines_of_random_logs_3(rt: HostRuntime) -> Result<(), Fail> {
     expect_outlines(&rt, OF_RANDOM_3)
 }
 
@@ -49,67 +63,94 @@ fn expect_outlines(rt: &(impl Abort + AllocGlobal), cases: &[Case]) -> Result<()
 }
 
 fn expect_outline(rt: &(impl Abort + AllocGlobal), case: &Case) -> Result<(), Fail> {
-    let (given, options, requested, want) = case;
-    let table = logs_of(rt.alloc(), given)?;
-    let Some(outline) = outline_of(rt.alloc(), &table, options, requested)? else {
-        return Err("unknown target".into());
-    };
-    let text = outline_text(rt.alloc(), &table, &outline)?;
-    assert_eq!(rt; text.as_str(), *want);
+    let table = logs_of(rt.alloc(), case.0)?;
+    let mut text = String::new(rt.alloc());
+    add_requested(rt.alloc(), &mut text, &table, case)?;
+    expect_text(rt, &text, case.3);
     Ok(())
 }
 
-/// Makes the outline, if each target has a log.
-fn outline_of(
+fn add_requested(
     alloc: Global,
+    text: &mut String,
     table: &LogTable,
-    options: &Options,
-    requested: &[&str],
-) -> Result<Option<Outline>, Fail>
+    case: &Case,
+) -> Result<(), Fail>
     requires { list_all has_ended table.now ≡ true }
 {
-    let mut names = Vec::new(alloc);
-    for name in requested {
-        names.push(TargetName::resolve(alloc, None, name.as_bytes())?)?;
+    let names = resolved(alloc, case.2)?;
+    if !are_known(alloc, table, &case.1, &names) {
+        return Err("unknown target".into());
     }
-    let mut counter = Counter { bytes: 0 };
-    match view(alloc, table, options, &names, &mut counter) {
-        Ok(()) => Ok(Some(Outline::new(alloc, table, options, &names)?)),
-        Err(_) => Ok(None),
-    }
+    Ok(add_outline(alloc, text, table, &case.1, &names)?)
 }
 
-// Returns the fields of each node in a line, and a line with the position of each log, and of a log that doesn't exist.
-fn outline_text(alloc: Global, table: &LogTable, outline: &Outline) -> Result<String, AllocError> {
-    let mut text = String::new(alloc);
-    for node in outline.nodes() {
-        add_log(alloc, &mut text, node)?;
-        add_contents(alloc, &mut text, node)?;
+// Returns whether the targets can be viewed: each has a log.
+fn are_known(alloc: Global, table: &LogTable, options: &Options, names: &[TargetName]) -> bool
+    requires { list_all has_ended table.now ≡ true }
+    ensures { result ≡ true → find_unknown table.now names.now ≡ None }
+{
+    let mut counter = Counter { bytes: 0 };
+    view(alloc, table, options, names, &mut counter).is_ok()
+}
+
+fn add_outline(
+    alloc: Global,
+    text: &mut String,
+    table: &LogTable,
+    options: &Options,
+    names: &[TargetName],
+) -> Result<(), AllocError>
+    requires ended { list_all has_ended table.now ≡ true }
+    requires known { find_unknown table.now names.now ≡ None }
+{
+    let outline = Outline::new(alloc, table, options, names)?;
+    add_nodes(alloc, text, outline.nodes())?;
+    add_positions(alloc, text, &outline, table.len())
+}
+
+// Adds a line with the fields of each node.
+fn add_nodes(alloc: Global, text: &mut String, nodes: &[Node]) -> Result<(), AllocError> {
+    for node in nodes {
+        add_log(alloc, text, node)?;
+        add_contents(alloc, text, node)?;
     }
-    for number in 0..table.len() + 1 {
-        if number > 0 {
-            text.push_str(" ")?;
-        }
-        add_position(alloc, &mut text, outline.position_of(number))?;
+    Ok(())
+}
+
+// Adds a line with the position of each log, and of a log that doesn't exist.
+fn add_positions(
+    alloc: Global,
+    text: &mut String,
+    outline: &Outline,
+    len: u32,
+) -> Result<(), AllocError> {
+    for number in 0..len {
+        add_position(alloc, text, outline.position_of(number))?;
+        text.push_str(" ")?;
     }
-    text.push_str("\n")?;
-    Ok(text)
+    add_position(alloc, text, outline.position_of(len))?;
+    text.push_str("\n")
 }
 
 fn add_log(alloc: Global, text: &mut String, node: &Node) -> Result<(), AllocError> {
-    text.push_str(&format!(in alloc; "{} ", node.number)?)?;
+    push_number(alloc, text, u64::from(node.number))?;
+    text.push_str(" ")?;
     add_position(alloc, text, node.parent)?;
-    match node.status {
-        Some(status) => text.push_str(&format!(in alloc; " {status}")?)?,
-        None => text.push_str(" -")?,
-    }
-    text.push_str(&format!(in alloc; " {} {} {}", node.lines, node.bytes, node.warnings)?)
+    add_status(alloc, text, node.status)?;
+    add_field(alloc, text, node.lines)?;
+    add_field(alloc, text, node.bytes)?;
+    add_field(alloc, text, node.warnings)
 }
 
 fn add_contents(alloc: Global, text: &mut String, node: &Node) -> Result<(), AllocError> {
-    let (others, fails) = (truth(node.others), truth(node.fails_below));
-    text.push_str(&format!(in alloc; " {} {} {others}", node.below, node.children)?)?;
-    text.push_str(&format!(in alloc; " {} {fails} {}\n", node.warnings_below, node.silent)?)
+    add_field(alloc, text, node.below as u64)?;
+    add_field(alloc, text, node.children as u64)?;
+    text.push_str(truth(node.others))?;
+    add_field(alloc, text, node.warnings_below)?;
+    text.push_str(truth(node.fails_below))?;
+    add_field(alloc, text, node.silent as u64)?;
+    text.push_str("\n")
 }
 
 fn add_position(
@@ -118,11 +159,24 @@ fn add_position(
     position: Option<usize>,
 ) -> Result<(), AllocError> {
     match position {
-        Some(position) => text.push_str(&format!(in alloc; "{position}")?),
+        Some(position) => push_number(alloc, text, position as u64),
         None => text.push_str("-"),
     }
 }
 
+fn add_status(alloc: Global, text: &mut String, status: Option<i32>) -> Result<(), AllocError> {
+    match status {
+        Some(status) => text.push_str(&format!(in alloc; " {status}")?),
+        None => text.push_str(" -"),
+    }
+}
+
+fn add_field(alloc: Global, text: &mut String, number: u64) -> Result<(), AllocError> {
+    text.push_str(" ")?;
+    push_number(alloc, text, number)
+}
+
+// Returns a field.
 fn truth(value: bool) -> &'static str {
-    if value { "yes" } else { "no" }
+    if value { " yes" } else { " no" }
 }

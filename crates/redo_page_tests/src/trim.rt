@@ -9,7 +9,8 @@ ghost use Rattle.redo_view.specs.Form.{bytes_of, state_after};
 ghost use Rattle.redo_view.specs.Written.{WroteAll};
 ghost use Rattle.redo_trim.specs.Trim.{trimmed};
 
-use crate::gathered::logs_of;
+use crate::expect::expect_bytes;
+use crate::gathered::{logs_of, resolved};
 use crate::trim::cases::{CASES, Case};
 use redo_line::{Sink, Taker, TargetName};
 use redo_logs::LogTable;
@@ -39,32 +40,28 @@ fn long_logs_lose_their_middle(rt: HostRuntime) -> Result<(), Fail> {
 }
 
 fn expect_text(rt: &(impl Abort + AllocGlobal), case: &Case) -> Result<(), Fail> {
-    let (given, limits, requested, want) = case;
-    let table = logs_of(rt.alloc(), given)?;
-    let text = text_of(rt.alloc(), &table, limits, requested)?;
-    assert_eq!(rt; text.as_slice(), want.as_bytes());
-    Ok(())
+    let table = logs_of(rt.alloc(), case.0)?;
+    let names = resolved(rt.alloc(), case.2)?;
+    expect_view(rt, &table, case.1, &names, case.3)
 }
 
 /// Views the requested targets in plain text through the adapter.
-fn text_of(
-    alloc: Global,
+fn expect_view(
+    rt: &(impl Abort + AllocGlobal),
     table: &LogTable,
     limits: &[Limit],
-    requested: &[&str],
-) -> Result<Vec<u8>, Fail>
+    names: &[TargetName],
+    want: &str,
+) -> Result<(), Fail>
     requires { list_all has_ended table.now ≡ true }
 {
-    let mut names = Vec::new(alloc);
-    for name in requested {
-        names.push(TargetName::resolve(alloc, None, name.as_bytes())?)?;
-    }
     let form = PlainText { options: OPTIONS };
-    let mut out = Taker::new(alloc, 1000, 7)?;
-    match view_trimmed(alloc, table, &OPTIONS, limits, form, &names, &mut out) {
-        Ok(_) => Ok(out.bytes().to_vec(alloc)?),
-        Err(_) => Err("nothing was written, or not all".into()),
+    let mut out = Taker::new(rt.alloc(), 1000, 7)?;
+    if view_trimmed(rt.alloc(), table, &OPTIONS, limits, form, names, &mut out).is_err() {
+        return Err("nothing was written, or not all".into());
     }
+    expect_bytes(rt, out.bytes(), want.as_bytes());
+    Ok(())
 }
 
 /// Views the requested targets in a form through the adapter, and returns the form. Its clauses follow from the adapter's

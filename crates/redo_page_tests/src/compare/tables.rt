@@ -1,6 +1,8 @@
 //! What changed in the logs of small builds, by the rules at the head of `redo_compare`.
+use crate::expect::expect_text;
 use crate::gathered::logs_of;
-use redo_compare::{LogDiagnostics, compare_log};
+use crate::texts::push_number;
+use redo_compare::{LogDiagnostics, Occurrence, compare_log};
 use redo_line::HashKeys;
 use redo_logs::LogTable;
 use std::alloc::{AllocError, Global};
@@ -63,34 +65,46 @@ static CHOSEN: &[Case] = &[
 #[test]
 fn changes_of_chosen_builds(rt: HostRuntime) -> Result<(), Fail> {
     for (before, now, want) in CHOSEN {
-        let earlier = logs_of(rt.alloc(), before)?;
-        let table = logs_of(rt.alloc(), now)?;
-        let text = changes_text(rt.alloc(), &earlier, &table)?;
-        assert_eq!(rt; text.as_str(), *want);
+        expect_changes(&rt, *before, *now, want)?;
     }
     Ok(())
 }
 
-#[test]
-fn positions_count_text_lines(rt: HostRuntime) -> Result<(), Fail> {
-    let stream =
-        "ok\n@@REDO:do:7:1@@ b\nok\n@@REDO:do:7:1@@ b\nerror: x\n@@REDO:do:7:1@@ b\nok\nerror: y\n";
-    let table = logs_of(rt.alloc(), &[("a", stream)])?;
-    let found = LogDiagnostics::of_log(rt.alloc(), &table, 0)?;
-    let mut lines = Vec::new(rt.alloc());
-    for one in found.occurrences() {
-        lines.push(one.line())?;
-    }
-    assert_eq!(rt; lines.as_slice(), [2, 4].as_slice());
+fn expect_changes(
+    rt: &(impl Abort + AllocGlobal),
+    before: Build,
+    now: Build,
+    want: &str,
+) -> Result<(), Fail> {
+    let earlier = logs_of(rt.alloc(), before)?;
+    let table = logs_of(rt.alloc(), now)?;
+    expect_all_changes(rt, &earlier, &table, want)
+}
+
+fn expect_all_changes(
+    rt: &(impl Abort + AllocGlobal),
+    earlier: &LogTable,
+    table: &LogTable,
+    want: &str,
+) -> Result<(), Fail> {
+    let mut text = String::new(rt.alloc());
+    add_all_changes(rt.alloc(), &mut text, earlier, table)?;
+    expect_text(rt, &text, want);
     Ok(())
 }
 
-fn changes_text(alloc: Global, earlier: &LogTable, table: &LogTable) -> Result<String, AllocError> {
-    let mut text = String::new(alloc);
-    for number in 0..table.len() + 1 {
-        add_changes(alloc, &mut text, earlier, table, number)?;
+// Adds a line for each log, and for a log that doesn't exist.
+fn add_all_changes(
+    alloc: Global,
+    text: &mut String,
+    earlier: &LogTable,
+    table: &LogTable,
+) -> Result<(), AllocError> {
+    let len = table.len();
+    for number in 0..len {
+        add_changes(alloc, text, earlier, table, number)?;
     }
-    Ok(text)
+    add_changes(alloc, text, earlier, table, len)
 }
 
 fn add_changes(
@@ -101,12 +115,49 @@ fn add_changes(
     number: u32,
 ) -> Result<(), AllocError> {
     let changes = compare_log(alloc, HashKeys::fixed(), earlier, table, number)?;
-    match changes.earlier {
-        Some(other) => text.push_str(&format!(in alloc; "{other} ")?)?,
-        None => text.push_str("- ")?,
+    add_earlier(alloc, text, changes.earlier)?;
+    add_flags(text, &changes.new)?;
+    text.push_str(" ")?;
+    push_number(alloc, text, changes.gone as u64)?;
+    text.push_str("\n")
+}
+
+fn add_earlier(alloc: Global, text: &mut String, earlier: Option<u32>) -> Result<(), AllocError> {
+    match earlier {
+        Some(other) => push_number(alloc, text, u64::from(other))?,
+        None => text.push_str("-")?,
     }
-    for is_new in &changes.new {
+    text.push_str(" ")
+}
+
+fn add_flags(text: &mut String, flags: &[bool]) -> Result<(), AllocError> {
+    for is_new in flags {
         text.push_str(if *is_new { "N" } else { "-" })?;
     }
-    text.push_str(&format!(in alloc; " {}\n", changes.gone)?)
+    Ok(())
+}
+
+#[test]
+fn positions_count_text_lines(rt: HostRuntime) -> Result<(), Fail> {
+    let stream =
+        "ok\n@@REDO:do:7:1@@ b\nok\n@@REDO:do:7:1@@ b\nerror: x\n@@REDO:do:7:1@@ b\nok\nerror: y\n";
+    let table = logs_of(rt.alloc(), &[("a", stream)])?;
+    expect_lines(&rt, &table, "2 4 ")
+}
+
+// Expects the positions of the diagnostics of the first log.
+fn expect_lines(rt: &(impl Abort + AllocGlobal), table: &LogTable, want: &str) -> Result<(), Fail> {
+    let found = LogDiagnostics::of_log(rt.alloc(), table, 0)?;
+    let mut text = String::new(rt.alloc());
+    add_lines(rt.alloc(), &mut text, found.occurrences())?;
+    expect_text(rt, &text, want);
+    Ok(())
+}
+
+fn add_lines(alloc: Global, text: &mut String, found: &[Occurrence]) -> Result<(), AllocError> {
+    for one in found {
+        push_number(alloc, text, one.line() as u64)?;
+        text.push_str(" ")?;
+    }
+    Ok(())
 }
