@@ -1,14 +1,17 @@
 //! The chart of a small build. Its HTML is worked out by hand.
+use crate::expect::expect_bytes;
 use redo_chart::write_timeline;
 use redo_device::Taker;
 use redo_line::TargetName;
 use redo_logs::LogTable;
 use redo_outline::Node;
 use redo_timeline::{Span, Window};
+use std::alloc::{AllocError, Global};
+use std::process::Abort;
 use std::test::Fail;
 
 // The targets by position, and their statuses.
-static TARGETS: [(&[u8], Option<i32>); 6] = [
+static TARGETS: &[(&[u8], Option<i32>)] = &[
     (b"all", None),
     (b"out/a.o", Some(0)),
     (b"out/b.o", Some(-1)),
@@ -23,7 +26,7 @@ const WINDOW: Window = Window {
     width: 10_000,
 };
 
-static CALLERS: [Span; 1] = [Span {
+static CALLERS: &[Span] = &[Span {
     began: 1_000_000,
     position: 0,
     ended: 1_010_000,
@@ -31,7 +34,7 @@ static CALLERS: [Span; 1] = [Span {
 }];
 
 // The last two are narrow, and in one bar.
-static RECIPES: [Span; 4] = [
+static RECIPES: &[Span] = &[
     Span {
         began: 1_000_000,
         position: 1,
@@ -58,7 +61,7 @@ static RECIPES: [Span; 4] = [
     },
 ];
 
-static MARKS: [Span; 1] = [Span {
+static MARKS: &[Span] = &[Span {
     began: 1_010_000,
     position: 5,
     ended: 1_010_000,
@@ -108,26 +111,49 @@ static HTML: &[u8] =
 
 #[test]
 fn chart_is_written(rt: HostRuntime) -> Result<(), Fail> {
-    let mut table = LogTable::new(rt.alloc());
-    let mut nodes = Vec::new(rt.alloc());
-    for (name, status) in &TARGETS {
-        let number = table.enter(TargetName::resolve(rt.alloc(), None, name)?)?;
-        nodes.push(node(number, *status))?;
-    }
+    let table = table_of_targets(rt.alloc())?;
+    let nodes = nodes_of_targets(rt.alloc())?;
+    expect_chart(&rt, &table, &nodes)
+}
+
+fn expect_chart(
+    rt: &(impl Abort + AllocGlobal),
+    table: &LogTable,
+    nodes: &[Node],
+) -> Result<(), Fail> {
     let mut out = Taker::new(rt.alloc(), 8192, 100)?;
     let written = write_timeline(
         rt.alloc(),
-        &table,
-        &nodes,
+        table,
+        nodes,
         WINDOW,
-        &CALLERS,
-        &RECIPES,
-        &MARKS,
+        CALLERS,
+        RECIPES,
+        MARKS,
         &mut out,
     );
-    assert_eq!(&rt; written, Ok(()));
-    assert_eq!(&rt; out.bytes(), HTML);
+    assert_eq!(rt; written, Ok(()));
+    expect_bytes(rt, out.bytes(), HTML);
     Ok(())
+}
+
+fn table_of_targets(alloc: Global) -> Result<LogTable, Fail> {
+    let mut table = LogTable::new(alloc);
+    for (name, _) in TARGETS {
+        table.enter(TargetName::resolve(alloc, None, name)?)?;
+    }
+    Ok(table)
+}
+
+// A target's log has the number that is its position.
+fn nodes_of_targets(alloc: Global) -> Result<Vec<Node>, AllocError> {
+    let mut nodes = Vec::new(alloc);
+    let mut number = 0u32;
+    for (_, status) in TARGETS {
+        nodes.push(node(number, *status))?;
+        number = number.saturating_add(1);
+    }
+    Ok(nodes)
 }
 
 fn node(number: u32, status: Option<i32>) -> Node {
