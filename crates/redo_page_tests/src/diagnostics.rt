@@ -1,7 +1,7 @@
 //! The diagnostics of single lines, and of hostile ones.
 mod cases;
 
-use crate::diagnostics::cases::{CHOSEN, Case, LINKED};
+use crate::diagnostics::cases::{CHOSEN_0, CHOSEN_1, CHOSEN_2, CHOSEN_3, CHOSEN_4, Case, LINKED};
 use crate::expect::expect_bytes_of;
 use crate::texts::extend_by_number;
 use redo_diagnostics::{Diagnostic, KeyCounts, Place, Severity, read_diagnostic};
@@ -10,15 +10,34 @@ use std::alloc::{AllocError, Global};
 use std::process::Abort;
 use std::test::Fail;
 
-// Statics, because a constant is written out wherever it is named.
-static OF_CHOSEN: &[Case] = &CHOSEN;
-
-static OF_LINKED: &[Case] = &LINKED;
+#[test]
+fn diagnostics_of_chosen_lines_0(rt: HostRuntime) -> Result<(), Fail> {
+    expect_diagnostics(&rt, CHOSEN_0)
+}
 
 #[test]
-fn diagnostics_of_chosen_lines(rt: HostRuntime) -> Result<(), Fail> {
-    expect_diagnostics(&rt, OF_CHOSEN)?;
-    expect_diagnostics(&rt, OF_LINKED)
+fn diagnostics_of_chosen_lines_1(rt: HostRuntime) -> Result<(), Fail> {
+    expect_diagnostics(&rt, CHOSEN_1)
+}
+
+#[test]
+fn diagnostics_of_chosen_lines_2(rt: HostRuntime) -> Result<(), Fail> {
+    expect_diagnostics(&rt, CHOSEN_2)
+}
+
+#[test]
+fn diagnostics_of_chosen_lines_3(rt: HostRuntime) -> Result<(), Fail> {
+    expect_diagnostics(&rt, CHOSEN_3)
+}
+
+#[test]
+fn diagnostics_of_chosen_lines_4(rt: HostRuntime) -> Result<(), Fail> {
+    expect_diagnostics(&rt, CHOSEN_4)
+}
+
+#[test]
+fn diagnostics_of_linked_lines(rt: HostRuntime) -> Result<(), Fail> {
+    expect_diagnostics(&rt, LINKED)
 }
 
 fn expect_diagnostics(rt: &(impl Abort + AllocGlobal), cases: &[Case]) -> Result<(), Fail> {

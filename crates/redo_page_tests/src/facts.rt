@@ -2,7 +2,7 @@
 mod cases;
 
 use crate::expect::expect_bytes_in_reads;
-use crate::facts::cases::{CHOSEN, Case};
+use crate::facts::cases::{Case, EXAMPLES, OTHERS};
 use crate::texts::extend_by_number;
 use redo_facts::{Command, Facts, Usage, read_facts};
 use redo_index::{Index, read_index};
@@ -12,14 +12,16 @@ use std::alloc::{AllocError, Global};
 use std::process::Abort;
 use std::test::Fail;
 
-// A static, because a constant is written out wherever it is named.
-static OF_CHOSEN: &[Case] = &CHOSEN;
-
 #[test]
 fn facts_of_chosen_files(rt: HostRuntime) -> Result<(), Fail> {
-    expect_all(&rt, OF_CHOSEN, 1)?;
-    expect_all(&rt, OF_CHOSEN, 7)?;
-    expect_all(&rt, OF_CHOSEN, 65_536)
+    expect_in_all_sizes(&rt, EXAMPLES)?;
+    expect_in_all_sizes(&rt, OTHERS)
+}
+
+fn expect_in_all_sizes(rt: &(impl Abort + AllocGlobal), cases: &[Case]) -> Result<(), Fail> {
+    expect_all(rt, cases, 1)?;
+    expect_all(rt, cases, 7)?;
+    expect_all(rt, cases, 65_536)
 }
 
 // Reads the files in reads of this many bytes.

@@ -17,10 +17,14 @@ static OF_CHOSEN: &[Case] = &CHOSEN;
 
 #[test]
 fn times_of_chosen_logs(rt: HostRuntime) -> Result<(), Fail> {
-    expect_all(&rt, OF_CHOSEN, 1)?;
-    expect_all(&rt, OF_CHOSEN, 2)?;
-    expect_all(&rt, OF_CHOSEN, 7)?;
-    expect_all(&rt, OF_CHOSEN, 65_536)
+    expect_in_all_sizes(&rt, OF_CHOSEN)
+}
+
+fn expect_in_all_sizes(rt: &(impl Abort + AllocGlobal), cases: &[Case]) -> Result<(), Fail> {
+    expect_all(rt, cases, 1)?;
+    expect_all(rt, cases, 2)?;
+    expect_all(rt, cases, 7)?;
+    expect_all(rt, cases, 65_536)
 }
 
 // Reads the streams in reads of this many bytes.

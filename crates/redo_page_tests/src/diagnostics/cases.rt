@@ -3,7 +3,8 @@
 /// A line, and its severity, file, row, column, message, flag and key; `none` if it is no diagnostic.
 pub type Case = (&'static str, &'static str);
 
-pub const CHOSEN: [Case; 75] = [
+// Each table is small, because a proof that names one takes a time that grows faster than the table.
+pub static CHOSEN_0: &[Case] = &[
     (
         "a.c:1:10: fatal error: missing.h: No such file or directory",
         "fatal error|a.c|1|10|missing.h: No such file or directory|-|a.c: fatal error: missing.h: No such file or directory",
@@ -64,6 +65,9 @@ pub const CHOSEN: [Case; 75] = [
         "\x1b[01m\x1b[Kb.c:2:29:\x1b[m\x1b[K \x1b[01;31m\x1b[Kerror: \x1b[m\x1b[Kexpected ‘\x1b[01m\x1b[K;\x1b[m\x1b[K’ before ‘\x1b[01m\x1b[K}\x1b[m\x1b[K’ token",
         "error|b.c|2|29|expected ‘;’ before ‘}’ token|-|b.c: error: expected ‘;’ before ‘}’ token",
     ),
+];
+
+pub static CHOSEN_1: &[Case] = &[
     (
         "\x1b[01m\x1b[Kb.c:1:92:\x1b[m\x1b[K \x1b[01;35m\x1b[Kwarning: \x1b[m\x1b[Kcontrol reaches end of non-void function [\x1b[01;35m\x1b[K-Wreturn-type\x1b[m\x1b[K]",
         "warning|b.c|1|92|control reaches end of non-void function|-Wreturn-type|b.c: warning: control reaches end of non-void function [-Wreturn-type]",
@@ -124,6 +128,9 @@ pub const CHOSEN: [Case; 75] = [
         "clang: error: linker command failed with exit code 1 (use -v to see invocation)",
         "error|-|-|-|linker command failed with exit code 1 (use -v to see invocation)|-|clang: error: linker command failed with exit code 1 (use -v to see invocation)",
     ),
+];
+
+pub static CHOSEN_2: &[Case] = &[
     (
         "Makefile:3: warning: overriding recipe for target 'a'",
         "warning|Makefile|3|-|overriding recipe for target 'a'|-|Makefile: warning: overriding recipe for target 'a'",
@@ -157,6 +164,9 @@ pub const CHOSEN: [Case; 75] = [
         "warning|-|-|-|/tmp/cc12345.o /tmp/cc123456.o /cc1234567. /ccabcdef.s|-|/usr/bin/ld: warning: /tmp/cc12345.o /tmp/cc*.o /cc1234567. /cc*.s",
     ),
     ("xwarning: y", "none"),
+];
+
+pub static CHOSEN_3: &[Case] = &[
     (
         "warning:y warning: z",
         "warning|-|-|-|z|-|warning: warning: z",
@@ -193,6 +203,9 @@ pub const CHOSEN: [Case; 75] = [
     ("\x1b[xa: error: m", "error|-|-|-|m|-|\x1b[xa: error: m"),
     ("note: x", "none"),
     ("", "none"),
+];
+
+pub static CHOSEN_4: &[Case] = &[
     ("error:x", "none"),
     ("a:  warning: b", "warning|-|-|-|b|-|a: warning: b"),
     (
@@ -229,7 +242,7 @@ pub const CHOSEN: [Case; 75] = [
 ];
 
 /// Lines with links, and with what looks like a link.
-pub const LINKED: [Case; 17] = [
+pub static LINKED: &[Case] = &[
     ("\x1b]8;;u\x1b\\a: error: m", "error|-|-|-|m|-|a: error: m"),
     (
         "\x1b]8;;file://host/src/b.c\x07b.c\x1b]8;;\x07:1:2: error: m",

@@ -4,8 +4,8 @@
 /// and a line for each fact.
 pub type Case = (&'static str, &'static str, bool, u64, &'static str);
 
-pub const CHOSEN: [Case; 31] = [
-    // The examples of docs/format.md.
+/// The examples of docs/format.md.
+pub static EXAMPLES: &[Case] = &[
     ("7 a\n", "", false, 1000, "no log\n"),
     (
         "7 a\n",
@@ -106,6 +106,10 @@ pub const CHOSEN: [Case; 31] = [
         1000,
         "log\ncommand x\n",
     ),
+];
+
+/// Other files.
+pub static OTHERS: &[Case] = &[
     // Targets of an index, whose numbers are in any order.
     (
         "9 b/c\n!7 a\n100 ./d\n",

@@ -56,9 +56,23 @@ const BOLD_YELLOW: Style = Style {
     hue: Hue::Yellow,
 };
 
-/// Returns the cases of texts of logs.
-pub fn logs() -> &'static [(&'static [u8], &'static [u8])] {
-    LOGS
+/// The text of a log, and its HTML.
+pub type LogCase = (&'static [u8], &'static [u8]);
+
+pub fn logs_0() -> &'static [LogCase] {
+    LOGS_0
+}
+
+pub fn logs_1() -> &'static [LogCase] {
+    LOGS_1
+}
+
+pub fn logs_2() -> &'static [LogCase] {
+    LOGS_2
+}
+
+pub fn logs_3() -> &'static [LogCase] {
+    LOGS_3
 }
 
 /// Returns the cases of lines of logs.
@@ -66,8 +80,8 @@ pub fn lines() -> &'static [(Style, &'static [u8], &'static [u8], Style)] {
     LINES
 }
 
-// The text of a log, and its HTML. Proofs that name a table take long if it is large. So one function does.
-static LOGS: &[(&[u8], &[u8])] = &[
+// A proof that names a table takes a time that grows faster than the table. So tables are small, and one function names each.
+static LOGS_0: &[LogCase] = &[
     (
         b"cc -c \"a.c\" <x>&y'\n\tok",
         b"cc -c \"a.c\" &lt;x&gt;&amp;y'\n\tok",
@@ -105,6 +119,9 @@ static LOGS: &[(&[u8], &[u8])] = &[
         b"<i>^G</i><span class=\"r\"><i>^G^G</i></span>",
     ),
     (b"\x1b[3;1", b"<i>^[</i>[3;1"),
+];
+
+static LOGS_1: &[LogCase] = &[
     (b"\x1b]0;t\x07", b"<i>^[</i>]0;t<i>^G</i>"),
     (b"", b""),
     (b"\n", b"\n"),
@@ -161,6 +178,9 @@ static LOGS: &[(&[u8], &[u8])] = &[
         b"\xe6\x97\xa5\xe6\x9c\xac\xe8\xaa\x9e \xd1\x80\xd1\x83\xd1\x81 <i>[U+202E]\xc3\x976 </i> \
             x \xef\xb8\x8f <i>[U+FE0E]</i> \xed\x9f\xbf \xee\x80\x80 <i>[U+10FFFF]</i>",
     ),
+];
+
+static LOGS_2: &[LogCase] = &[
     (
         b"\xf4\x90\x80\x80\xf0\x80\x80\x80\xf5\xe0\x80\x80\xc2",
         b"<i>\\xf4\\x90\\x80\\x80\\xf0\\x80\\x80\\x80\\xf5\\xe0\\x80\\x80\\xc2</i>",
@@ -195,6 +215,9 @@ static LOGS: &[(&[u8], &[u8])] = &[
     (b"\x1b]8;;\xc3\xa4\x07c", b"<i>^[</i>]8;;\xc3\xa4<i>^G</i>c"),
     (b"\x1b]8;u\x07c", b"<i>^[</i>]8;u<i>^G</i>c"),
     (b"\x1b]8;\x07c", b"<i>^[</i>]8;<i>^G</i>c"),
+];
+
+static LOGS_3: &[LogCase] = &[
     (b"\x1b]8\x07;;c", b"<i>^[</i>]8<i>^G</i>;;c"),
     (b"\x1b]9;;u\x07c", b"<i>^[</i>]9;;u<i>^G</i>c"),
     (b"\x1b]8:;u\x07c", b"<i>^[</i>]8:;u<i>^G</i>c"),
