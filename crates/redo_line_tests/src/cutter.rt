@@ -1,63 +1,82 @@
 //! Tests of a cutter over chunks, call by call.
-use redo_line::{Cut, Cutter};
+use crate::expect::expect_eq;
+use redo_line::{Cut, Cutter, LineText};
 use std::process::Abort;
 use std::test::Fail;
 
-fn expect_more(rt: &impl Abort, cut: Cut) {
-    assert!(rt; matches!(&cut, Cut::More), "a line was found");
+/// A chunk, an offset in it, and the line found from there and the offset after it, or none.
+type Call = (&'static str, usize, Option<(&'static str, usize)>);
+
+/// What is tested, the calls of a cutter, and the bytes left at the end.
+type Case = (&'static str, &'static [Call], Option<&'static str>);
+
+static CASES: &[Case] = &[
+    (
+        "cutter joins line across chunks",
+        &[
+            ("ab", 0, None),
+            ("c\nd", 0, Some(("abc", 2))),
+            ("c\nd", 2, None),
+        ],
+        Some("d"),
+    ),
+    ("new cutter is empty", &[], None),
+    ("empty chunk has no line", &[("", 0, None)], None),
+    (
+        "cutter returns empty lines",
+        &[
+            ("\n\n", 0, Some(("", 1))),
+            ("\n\n", 1, Some(("", 2))),
+            ("\n\n", 2, None),
+        ],
+        None,
+    ),
+    (
+        "cutter keeps trailing whitespace",
+        &[(" a \t\r\n", 0, Some((" a \t\r", 6)))],
+        None,
+    ),
+];
+
+#[test]
+fn cutter_returns_lines(rt: HostRuntime) -> Result<(), Fail> {
+    for (case, calls, left) in CASES {
+        expect_left(&rt, expect_calls(&rt, case, calls)?, *left, case);
+    }
+    Ok(())
 }
 
-fn expect_line(rt: &impl Abort, cut: Cut, want: &[u8], place: usize) {
-    match cut {
-        Cut::Line { bytes, upto } => expect_bytes(rt, bytes.bytes(), upto, want, place),
-        Cut::More => panic!(rt; "no line was found"),
+fn expect_calls(
+    rt: &(impl Abort + AllocGlobal),
+    case: &str,
+    calls: &[Call],
+) -> Result<Option<LineText>, Fail> {
+    let mut cutter = Cutter::new(rt.alloc());
+    for (chunk, from, want) in calls {
+        expect_cut(rt, cut(&mut cutter, chunk.as_bytes(), *from)?, *want, case);
+    }
+    Ok(cutter.finish())
+}
+
+fn cut(cutter: &mut Cutter, chunk: &[u8], from: usize) -> Result<Cut, Fail> {
+    if from > chunk.len() {
+        return Err("a place past the chunk".into());
+    }
+    Ok(cutter.next(chunk, from)?)
+}
+
+fn expect_cut(rt: &impl Abort, cut: Cut, want: Option<(&str, usize)>, case: &str) {
+    match (&cut, want) {
+        (Cut::Line { bytes, upto }, Some((line, place))) => {
+            expect_eq(rt, (bytes.bytes(), *upto), (line.as_bytes(), place), case);
+        }
+        (Cut::Line { .. }, None) => panic!(rt; "{case}: a line was found"),
+        (Cut::More, None) => {}
+        (Cut::More, Some(_)) => panic!(rt; "{case}: no line was found"),
     }
 }
 
-fn expect_bytes(rt: &impl Abort, bytes: &[u8], upto: usize, want: &[u8], place: usize) {
-    assert_eq!(rt; (bytes, upto), (want, place));
-}
-
-#[test]
-fn cutter_joins_line_across_chunks(rt: HostRuntime) -> Result<(), Fail> {
-    let mut cutter = Cutter::new(rt.alloc());
-    expect_more(&rt, cutter.next(b"ab", 0)?);
-    expect_line(&rt, cutter.next(b"c\nd", 0)?, b"abc", 2);
-    expect_more(&rt, cutter.next(b"c\nd", 2)?);
-    expect_left(&rt, cutter, b"d")
-}
-
-fn expect_left(rt: &impl Abort, cutter: Cutter, want: &[u8]) -> Result<(), Fail> {
-    let last = cutter.finish().ok_or("nothing was left")?;
-    assert_eq!(rt; last.bytes(), want);
-    Ok(())
-}
-
-#[test]
-fn new_cutter_is_empty(rt: HostRuntime) {
-    assert!(rt; Cutter::new(rt.alloc()).finish().is_none());
-}
-
-#[test]
-fn empty_chunk_has_no_line(rt: HostRuntime) -> Result<(), Fail> {
-    let mut cutter = Cutter::new(rt.alloc());
-    expect_more(&rt, cutter.next(b"", 0)?);
-    Ok(())
-}
-
-#[test]
-fn cutter_returns_empty_lines(rt: HostRuntime) -> Result<(), Fail> {
-    let mut cutter = Cutter::new(rt.alloc());
-    expect_line(&rt, cutter.next(b"\n\n", 0)?, b"", 1);
-    expect_line(&rt, cutter.next(b"\n\n", 1)?, b"", 2);
-    expect_more(&rt, cutter.next(b"\n\n", 2)?);
-    assert!(rt; cutter.finish().is_none());
-    Ok(())
-}
-
-#[test]
-fn cutter_keeps_trailing_whitespace(rt: HostRuntime) -> Result<(), Fail> {
-    let mut cutter = Cutter::new(rt.alloc());
-    expect_line(&rt, cutter.next(b" a \t\r\n", 0)?, b" a \t\r", 6);
-    Ok(())
+fn expect_left(rt: &impl Abort, left: Option<LineText>, want: Option<&str>, case: &str) {
+    let left = left.as_ref().map(|line| line.bytes());
+    expect_eq(rt, left, want.map(|line| line.as_bytes()), case);
 }

@@ -1,6 +1,7 @@
 //! Tests of the readers and writers in memory, and of the wrappers of std's readers and writers.
 ghost use Rattle.std.specs.Prelude.{◌<◌, length};
 
+use crate::expect::expect_eq;
 use redo_line::{Broken, Feed, Pieces, Reading, Sink, Taker, Writing};
 use std::alloc::{AllocError, Global};
 use std::io;
@@ -21,13 +22,9 @@ fn two_reads(alloc: Global, fails: bool) -> Result<Pieces, AllocError> {
 
 fn expect_read(rt: &impl Abort, reader: &mut impl Feed, want: &[u8]) {
     let mut buf = [0u8; 3];
-    let n = reader.pull(&mut buf).ok();
-    assert_eq!(rt; n, Some(want.len()));
-    expect_front(rt, &buf, want);
-}
-
-fn expect_front(rt: &impl Abort, bytes: &[u8], want: &[u8]) {
-    assert!(rt; bytes.starts_with(want));
+    let pulled = reader.pull(&mut buf);
+    expect_eq(rt, pulled, Ok(want.len()), want);
+    assert!(rt; buf.starts_with(want), "{want:?}");
 }
 
 #[test]
@@ -56,7 +53,7 @@ fn expect_two_reads(rt: &impl Abort, reader: &mut impl Feed) {
 
 fn expect_pulled(rt: &impl Abort, reader: &mut impl Feed, want: Result<usize, Broken>) {
     let mut buf = [0u8; 3];
-    assert_eq!(rt; reader.pull(&mut buf), want);
+    expect_eq(rt, reader.pull(&mut buf), want, "a read");
 }
 
 #[test]
@@ -65,25 +62,21 @@ fn taker_accepts_bytes_up_to_room(rt: HostRuntime) -> Result<(), Fail> {
     expect_pushed(&rt, &mut writer, b"abcd", Ok(3));
     expect_pushed(&rt, &mut writer, b"abcd", Ok(2));
     expect_pushed(&rt, &mut writer, b"abcd", Err(Broken));
-    expect_taken(&rt, &writer, b"abcab");
+    expect_eq(&rt, writer.bytes(), b"abcab".as_slice(), "taken");
     Ok(())
 }
 
 fn expect_pushed(rt: &impl Abort, writer: &mut impl Sink, bytes: &[u8], want: Result<usize, Broken>)
     requires { 0 < length bytes.now }
 {
-    assert_eq!(rt; writer.push(bytes), want);
-}
-
-fn expect_taken(rt: &impl Abort, writer: &Taker, bytes: &[u8]) {
-    assert_eq!(rt; writer.bytes(), bytes);
+    expect_eq(rt, writer.push(bytes), want, bytes);
 }
 
 #[test]
 fn taker_may_accept_nothing(rt: HostRuntime) -> Result<(), Fail> {
     let mut writer = Taker::new(rt.alloc(), 5, 0)?;
     expect_pushed(&rt, &mut writer, b"a", Ok(0));
-    expect_taken(&rt, &writer, b"");
+    expect_eq(&rt, writer.bytes(), b"".as_slice(), "taken");
     Ok(())
 }
 

@@ -1,8 +1,9 @@
 //! Tests of the lines of a log and their entries.
-use redo_line::{LineFault, TargetName, read_line};
+use crate::expect::expect_eq;
+use redo_line::{LineFault, LineText, TargetName, read_line};
 use redo_logs::EntryRef;
 use redo_test_support::{entry_text, line};
-use std::alloc::Global;
+use std::alloc::{AllocError, Global};
 use std::process::Abort;
 use std::test::Fail;
 
@@ -72,56 +73,59 @@ fn read_in(
     ended: bool,
 ) -> Result<Result<String, LineFault>, Fail> {
     let line = line(alloc, bytes)?.ok_or("no line")?;
+    Ok(read_text(alloc, target, line, ended)?)
+}
+
+fn read_text(
+    alloc: Global,
+    target: &TargetName,
+    line: LineText,
+    ended: bool,
+) -> Result<Result<String, LineFault>, AllocError> {
     match read_line(alloc, target, line, ended) {
         Ok(entry) => Ok(Ok(entry_text(alloc, EntryRef::of(&entry))?)),
         Err(fault) => Ok(Err(fault)),
     }
 }
 
+/// Expects these entries of lines in the log of a target.
 fn expect(
     rt: &(impl Abort + AllocGlobal),
     target: &str,
-    bytes: &str,
     ended: bool,
-    want: &str,
+    entries: &[(&str, &str)],
 ) -> Result<(), Fail> {
-    let entry = read(rt.alloc(), target, bytes, ended)??;
-    expect_text(rt, &entry, want, bytes);
+    for (bytes, want) in entries {
+        let entry = read(rt.alloc(), target, bytes, ended)??;
+        expect_eq(rt, entry.as_str(), *want, bytes);
+    }
     Ok(())
-}
-
-fn expect_text(rt: &impl Abort, entry: &str, want: &str, bytes: &str) {
-    assert_eq!(rt; entry, want, "{bytes:?}");
 }
 
 #[test]
 fn read_line_returns_entry(rt: HostRuntime) -> Result<(), Fail> {
-    for (bytes, want) in &ENTRIES {
-        expect(&rt, "all", bytes, true, want)?;
-    }
-    Ok(())
+    expect(&rt, "all", true, &ENTRIES)
 }
 
 #[test]
 fn read_line_rejects_bad_record(rt: HostRuntime) -> Result<(), Fail> {
     for bytes in &BAD {
         let fault = read(rt.alloc(), "all", bytes, true)?.err();
-        assert_eq!(rt; fault, Some(LineFault::BadRecord), "{bytes:?}");
+        expect_eq(&rt, fault, Some(LineFault::BadRecord), bytes);
     }
     Ok(())
 }
 
+/// A line without a line feed in the log of `all`, and its entry.
+static UNENDED: [(&str, &str); 3] = [
+    ("@@REDO:do:7:1.0000@@ a", "text|@@REDO:do:7:1.0000@@ a"),
+    ("@@REDO:do:7", "text|@@REDO:do:7"),
+    ("x", "text|x"),
+];
+
 #[test]
 fn unended_line_is_text(rt: HostRuntime) -> Result<(), Fail> {
-    expect(
-        &rt,
-        "all",
-        "@@REDO:do:7:1.0000@@ a",
-        false,
-        "text|@@REDO:do:7:1.0000@@ a",
-    )?;
-    expect(&rt, "all", "@@REDO:do:7", false, "text|@@REDO:do:7")?;
-    expect(&rt, "all", "x", false, "text|x")
+    expect(&rt, "all", false, &UNENDED)
 }
 
 /// A line in the log of `d/a`, and its entry.
@@ -136,8 +140,5 @@ static OF_D_A: [(&str, &str); 6] = [
 
 #[test]
 fn names_resolve_in_target_directory(rt: HostRuntime) -> Result<(), Fail> {
-    for (bytes, want) in &OF_D_A {
-        expect(&rt, "d/./a", bytes, true, want)?;
-    }
-    Ok(())
+    expect(&rt, "d/./a", true, &OF_D_A)
 }

@@ -9,6 +9,8 @@ mod devices;
 #[cfg(test)]
 mod entries;
 #[cfg(test)]
+mod expect;
+#[cfg(test)]
 mod names;
 #[cfg(test)]
 mod scan;

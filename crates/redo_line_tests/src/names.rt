@@ -1,4 +1,5 @@
 //! Tests of normal forms of names, and of names as keys of a map.
+use crate::expect::expect_eq;
 use indexmap::IndexMap;
 use redo_line::{NameFault, TargetName};
 use std::alloc::Global;
@@ -46,23 +47,19 @@ fn expect_form(
     normal: &str,
 ) -> Result<(), Fail> {
     let target = resolved(rt.alloc(), of, name)?;
-    expect_bytes(rt, target.bytes(), normal.as_bytes(), name);
+    expect_eq(rt, target.bytes(), normal.as_bytes(), name);
     expect_copy(rt, &target)
-}
-
-fn expect_bytes(rt: &impl Abort, bytes: &[u8], normal: &[u8], name: &str) {
-    assert_eq!(rt; bytes, normal, "{name:?}");
 }
 
 fn expect_copy(rt: &(impl Abort + AllocGlobal), target: &TargetName) -> Result<(), Fail> {
     let copy = target.copy(rt.alloc())?;
-    expect_same(rt, &copy, target);
+    expect_eq(
+        rt,
+        (copy.same(target), copy.bytes()),
+        (true, target.bytes()),
+        "copy",
+    );
     Ok(())
-}
-
-fn expect_same(rt: &impl Abort, copy: &TargetName, target: &TargetName) {
-    assert!(rt; copy.same(target));
-    assert_eq!(rt; copy.bytes(), target.bytes());
 }
 
 #[test]
@@ -73,23 +70,21 @@ fn resolve_normalizes_name(rt: HostRuntime) -> Result<(), Fail> {
     Ok(())
 }
 
+/// Targets in whose logs an empty name is rejected.
+static OF_EMPTY: [Option<&str>; 2] = [None, Some("a")];
+
 #[test]
-fn resolve_rejects_empty_name(rt: HostRuntime) -> Result<(), Fail> {
-    assert_eq!(rt;
-        resolved(rt.alloc(), None, "").err(),
-        Some(NameFault::Empty)
-    );
-    assert_eq!(rt;
-        resolved(rt.alloc(), Some("a"), "").err(),
-        Some(NameFault::Empty)
-    );
-    Ok(())
+fn resolve_rejects_empty_name(rt: HostRuntime) {
+    for of in &OF_EMPTY {
+        let fault = resolved(rt.alloc(), *of, "").err();
+        expect_eq(&rt, fault, Some(NameFault::Empty), *of);
+    }
 }
 
 #[test]
 fn resolve_keeps_non_utf8_bytes(rt: HostRuntime) -> Result<(), Fail> {
     let target = TargetName::resolve(rt.alloc(), None, b"\xff/./\n\x00".as_slice())?;
-    assert_eq!(rt; target.bytes(), b"\xff/\n\x00".as_slice());
+    expect_eq(&rt, target.bytes(), b"\xff/\n\x00".as_slice(), "non-UTF-8");
     Ok(())
 }
 
@@ -101,12 +96,34 @@ fn relative_and_absolute_names_differ(rt: HostRuntime) -> Result<(), Fail> {
     Ok(())
 }
 
-/// Returns a map from `d/a` to 1 and from `e` to 2.
-fn map_of_two(alloc: Global) -> Result<IndexMap<TargetName, u32>, Fail> {
-    let mut map = IndexMap::new(alloc);
-    insert(alloc, &mut map, "d/a", 1)?;
-    insert(alloc, &mut map, "e", 2)?;
-    Ok(map)
+/// A name, the target in whose log it is, or none, and the place and the value of its normal form in the map.
+static FOUND: [(Option<&str>, &str, Option<usize>, Option<u32>); 2] = [
+    (Some("d/x"), "./q/../a", Some(0), Some(1)),
+    (None, "d", None, None),
+];
+
+#[test]
+fn map_finds_name_by_normal_form(rt: HostRuntime) -> Result<(), Fail> {
+    expect_map(&rt, &mut IndexMap::new(rt.alloc()))
+}
+
+/// Fills an empty map with `d/a` and `e`, and looks names up.
+fn expect_map(
+    rt: &(impl Abort + AllocGlobal),
+    map: &mut IndexMap<TargetName, u32>,
+) -> Result<(), Fail> {
+    insert(rt.alloc(), map, "d/a", 1)?;
+    insert(rt.alloc(), map, "e", 2)?;
+    for (of, name, place, value) in &FOUND {
+        let target = resolved(rt.alloc(), *of, name)?;
+        expect_eq(rt, found(map, &target), (*place, *value), name);
+    }
+    Ok(())
+}
+
+/// Returns the place and the value of a name in the map.
+fn found(map: &IndexMap<TargetName, u32>, name: &TargetName) -> (Option<usize>, Option<u32>) {
+    (map.get_index_of(name), map.get(name).copied())
 }
 
 fn insert(
@@ -117,41 +134,4 @@ fn insert(
 ) -> Result<(), Fail> {
     map.insert(resolved(alloc, None, name)?, value)?;
     Ok(())
-}
-
-#[test]
-fn map_finds_name_by_normal_form(rt: HostRuntime) -> Result<(), Fail> {
-    let map = map_of_two(rt.alloc())?;
-    expect_found(&rt, &map)
-}
-
-fn expect_found(
-    rt: &(impl Abort + AllocGlobal),
-    map: &IndexMap<TargetName, u32>,
-) -> Result<(), Fail> {
-    let same = resolved(rt.alloc(), Some("d/x"), "./q/../a")?;
-    expect_at(rt, map, &same, Some(0), Some(1));
-    expect_other(rt, map)
-}
-
-fn expect_other(
-    rt: &(impl Abort + AllocGlobal),
-    map: &IndexMap<TargetName, u32>,
-) -> Result<(), Fail> {
-    let other = resolved(rt.alloc(), None, "d")?;
-    expect_at(rt, map, &other, None, None);
-    Ok(())
-}
-
-fn expect_at(
-    rt: &impl Abort,
-    map: &IndexMap<TargetName, u32>,
-    name: &TargetName,
-    place: Option<usize>,
-    value: Option<u32>,
-) {
-    assert_eq!(rt;
-        (map.get_index_of(name), map.get(name).copied()),
-        (place, value)
-    );
 }

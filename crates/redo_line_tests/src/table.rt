@@ -1,13 +1,19 @@
 //! Tests of the table of logs: the results of its calls, and the logs after them.
-use redo_line::{Entries, Scan, StreamFault, TargetName, read_line};
+ghost use Rattle.std.specs.Prelude.{◌≡◌, Some, OnOk, slice_get};
+ghost use Rattle.redo_logs.specs.Logs.{states_of};
+ghost use Rattle.redo_logs.specs.declared.log_state.LogState.TheVariants.{Running};
+
+use crate::expect::expect_eq;
+use crate::scan::entries_of;
+use redo_line::{Entries, Entry, NameFault, StreamFault, TargetName, read_line};
 use redo_logs::{LogState, LogTable, Numbered, NumberedEntry, TableFault};
 use redo_test_support::{entry_text, line, logs_text};
 use std::alloc::Global;
 use std::process::Abort;
 use std::test::Fail;
 
-fn name(alloc: Global, text: &str) -> Result<TargetName, Fail> {
-    Ok(TargetName::resolve(alloc, None, text.as_bytes())?)
+fn name(alloc: Global, text: &str) -> Result<TargetName, NameFault> {
+    TargetName::resolve(alloc, None, text.as_bytes())
 }
 
 /// Enters the logs of `a` and `b`.
@@ -19,26 +25,52 @@ fn enter_both(alloc: Global, table: &mut LogTable) -> Result<(), Fail> {
 
 /// Adds the entry of a line to a log.
 fn add(alloc: Global, table: &mut LogTable, number: u32, text: &str) -> Result<(), Fail> {
-    if number >= table.len() {
-        return Err("no such log".into());
-    }
-    let LogState::Running = table.state(number) else {
-        return Err("the log doesn't run".into());
-    };
+    let entry = entry_in(alloc, target(table, number)?, text)?;
+    add_entry(table, number, entry)
+}
+
+fn entry_in(alloc: Global, target: &TargetName, text: &str) -> Result<Entry, Fail> {
     let line = line(alloc, text)?.ok_or("no line")?;
-    let entry = read_line(alloc, table.name(number), line, true)?;
+    Ok(read_line(alloc, target, line, true)?)
+}
+
+fn target(table: &LogTable, number: u32) -> Result<&TargetName, &'static str> {
+    if number >= table.len() {
+        return Err("no such log");
+    }
+    Ok(table.name(number))
+}
+
+fn add_entry(table: &mut LogTable, number: u32, entry: Entry) -> Result<(), Fail> {
+    check_runs(table, number)?;
     Ok(table.add(number, entry)?)
+}
+
+/// Adds entries together to a log.
+pub fn add_read(table: &mut LogTable, number: u32, read: Entries) -> Result<(), Fail> {
+    check_runs(table, number)?;
+    Ok(table.add_all(number, read)?)
+}
+
+/// Fails if there is no such log, or it doesn't run.
+fn check_runs(table: &LogTable, number: u32) -> Result<(), &'static str>
+    ensures { OnOk result (slice_get (states_of table.now) number ≡ Some Running) }
+{
+    if number >= table.len() {
+        return Err("no such log");
+    }
+    match table.state(number) {
+        LogState::Running => Ok(()),
+        _ => Err("the log doesn't run"),
+    }
 }
 
 /// Ends a log, or fails it if there is a fault.
 fn close(table: &mut LogTable, number: u32, fault: Option<StreamFault>) -> Result<(), Fail> {
-    if number >= table.len() {
-        return Err("no such log".into());
-    }
-    match (table.state(number), fault) {
-        (LogState::Running, None) => table.end(number),
-        (LogState::Running, Some(fault)) => table.fail(number, fault),
-        _ => return Err("the log doesn't run".into()),
+    check_runs(table, number)?;
+    match fault {
+        None => table.end(number),
+        Some(fault) => table.fail(number, fault),
     }
     Ok(())
 }
@@ -52,12 +84,8 @@ fn add_all(alloc: Global, table: &mut LogTable, number: u32, texts: &[&str]) -> 
 }
 
 fn expect(rt: &(impl Abort + AllocGlobal), table: &LogTable, text: &str) -> Result<(), Fail> {
-    expect_text(rt, logs_text(rt.alloc(), table)?.as_str(), text);
+    expect_eq(rt, logs_text(rt.alloc(), table)?.as_str(), text, "logs");
     Ok(())
-}
-
-fn expect_text(rt: &impl Abort, text: &str, want: &str) {
-    assert_eq!(rt; text, want);
 }
 
 /// Expects this first fault, and whether all logs have ended.
@@ -67,9 +95,11 @@ fn expect_ends(
     first: Option<(u32, StreamFault)>,
     all_ended: bool,
 ) {
-    assert_eq!(rt;
+    expect_eq(
+        rt,
         (table.first_fault(), table.all_ended()),
-        (first, all_ended)
+        (first, all_ended),
+        "ends",
     );
 }
 
@@ -80,12 +110,8 @@ fn expect_entered(
     answer: Result<u32, TableFault>,
 ) -> Result<(), Fail> {
     let target = name(rt.alloc(), text)?;
-    expect_answer(rt, table.enter(target), answer);
+    expect_eq(rt, table.enter(target), answer, text);
     Ok(())
-}
-
-fn expect_answer(rt: &impl Abort, answer: Result<u32, TableFault>, want: Result<u32, TableFault>) {
-    assert_eq!(rt; answer, want);
 }
 
 fn expect_found(
@@ -95,12 +121,8 @@ fn expect_found(
     place: Option<u32>,
 ) -> Result<(), Fail> {
     let target = name(rt.alloc(), text)?;
-    expect_place(rt, table.find(&target), place, text);
+    expect_eq(rt, table.find(&target), place, text);
     Ok(())
-}
-
-fn expect_place(rt: &impl Abort, found: Option<u32>, place: Option<u32>, text: &str) {
-    assert_eq!(rt; found, place, "{text}");
 }
 
 /// Targets that are entered into a table, and the results.
@@ -117,17 +139,13 @@ fn enter_numbers_logs_in_order(rt: HostRuntime) -> Result<(), Fail> {
 }
 
 fn enter_in_order(rt: &(impl Abort + AllocGlobal), table: &mut LogTable) -> Result<(), Fail> {
-    expect_len(rt, table, 0);
+    expect_eq(rt, table.len(), 0, "empty");
     for (text, answer) in &ENTERED {
         expect_entered(rt, table, text, *answer)?;
     }
-    expect_len(rt, table, 2);
+    expect_eq(rt, table.len(), 2, "entered");
     find_all(rt, table)?;
     expect(rt, table, "a: Running\nb: Running\n")
-}
-
-fn expect_len(rt: &impl Abort, table: &LogTable, len: u32) {
-    assert_eq!(rt; table.len(), len);
 }
 
 /// Targets that are looked up in the table, and the numbers of their logs.
@@ -186,7 +204,12 @@ fn expect_no_entry(rt: &impl Abort, table: &LogTable, i: u32, k: usize) {
 
 fn expect_entry(rt: &(impl Abort + AllocGlobal), table: &LogTable) -> Result<(), Fail> {
     let first = table.entry(0, 0).ok_or("no entry")?;
-    expect_text(rt, entry_text(rt.alloc(), first)?.as_str(), "text|x");
+    expect_eq(
+        rt,
+        entry_text(rt.alloc(), first)?.as_str(),
+        "text|x",
+        "entry",
+    );
     Ok(())
 }
 
@@ -240,16 +263,8 @@ fn all_ended_is_true_for_empty_table(rt: HostRuntime) {
 
 /// Adds the entries of a chunk of text lines together to a log.
 fn add_together(alloc: Global, table: &mut LogTable, number: u32, piece: &str) -> Result<(), Fail> {
-    if number >= table.len() {
-        return Err("no such log".into());
-    }
-    let LogState::Running = table.state(number) else {
-        return Err("the log doesn't run".into());
-    };
-    let mut scan = Scan::new(alloc, table.name(number).copy(alloc)?, 1_000, false);
-    let mut read = Entries::new(alloc);
-    scan.step_into(piece.as_bytes(), 0, 10, &mut read)?;
-    Ok(table.add_all(number, read)?)
+    let read = entries_of(alloc, target(table, number)?, piece.as_bytes())?;
+    add_read(table, number, read)
 }
 
 /// Enters both logs. The first log gets two texts together; after the second log's text it gets one more text, a mention
@@ -283,13 +298,9 @@ fn expect_lines(rt: &(impl Abort + AllocGlobal), table: &mut LogTable) -> Result
     enter_lines(rt.alloc(), table)?;
     let logs = table.numbered();
     for (i, k, lines, count) in &LINES {
-        expect_these(rt, logs.lines(*i, *k), (lines.as_bytes(), *count));
+        expect_eq(rt, logs.lines(*i, *k), (lines.as_bytes(), *count), (*i, *k));
     }
     Ok(())
-}
-
-fn expect_these(rt: &impl Abort, found: (&[u8], usize), want: (&[u8], usize)) {
-    assert_eq!(rt; found, want);
 }
 
 #[test]
@@ -309,7 +320,12 @@ fn expect_numbers(rt: &impl Abort, logs: &Numbered<'_>) -> Result<(), Fail> {
     if name >= logs.names() || logs.len() < 2 {
         return Err("no name of this number".into());
     }
-    expect_these(rt, (logs.name(name).bytes(), logs.target(1)), (b"b", name));
-    expect_place(rt, logs.log_of(name), Some(1), "b");
+    expect_eq(
+        rt,
+        (logs.name(name).bytes(), logs.target(1)),
+        (b"b".as_slice(), name),
+        "b",
+    );
+    expect_eq(rt, logs.log_of(name), Some(1), "b");
     Ok(())
 }
