@@ -27,7 +27,11 @@ fn add_name(
     number: usize,
     name: &str,
 ) -> Result<(), AllocError> {
-    names.push_str(&format!(in alloc; "{number} {name}\n")?)
+    names.push_str(&line_of(alloc, number, name)?)
+}
+
+fn line_of(alloc: Global, number: usize, name: &str) -> Result<String, AllocError> {
+    format!(in alloc; "{number} {name}\n")
 }
 
 /// Returns a reader for each target of the index.

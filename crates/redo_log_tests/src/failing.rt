@@ -2,7 +2,8 @@
 //! read.
 ghost use Rattle.std.specs.Prelude.{None};
 
-use crate::run::{Outcome, Want, expect_planned, outcome_of, ran, stream};
+use crate::expect::expect_eq;
+use crate::run::{Outcome, Want, expect_outcome, expect_planned, ran, stream};
 use redo_gather::Plan;
 use redo_gather_tests::cases::{BUILD, BUILD_TEXT, DEEP, MAX_BYTES};
 use redo_line::{Broken, Sink, StreamFault, Taker};
@@ -26,13 +27,8 @@ fn expect_room(
 ) -> Result<(), Fail> {
     let mut out = Taker::new(rt.alloc(), room, per_call)?;
     expect_build(rt, want, &mut out)?;
-    expect_bytes(rt, out.bytes(), text, room);
+    expect_eq(rt, out.bytes(), text, room);
     Ok(())
-}
-
-/// Checks the bytes written. `case` is the room of the writer, or the number of the call that fails.
-fn expect_bytes(rt: &impl Abort, bytes: &[u8], text: &[u8], case: usize) {
-    assert_eq!(rt; bytes, text, "{case}");
 }
 
 /// Checks the result of a run that writes the text of the build to this writer.
@@ -42,7 +38,8 @@ fn expect_build(
     out: &mut impl Sink,
 ) -> Result<(), Fail> {
     let ran = ran_build(rt, out)?;
-    expect_ran(rt, &ran, want)
+    expect_outcome(rt, &ran, want);
+    Ok(())
 }
 
 fn ran_build(
@@ -54,19 +51,19 @@ fn ran_build(
     ran(rt, &given, Cut::InReadsOf(1), &plan, &DEEP, &["all"], out)
 }
 
-fn expect_ran(rt: &(impl Abort + AllocGlobal), ran: &Outcome, want: Want<'_>) -> Result<(), Fail> {
-    let (outcome, _) = outcome_of(rt.alloc(), want)?;
-    assert_eq!(rt; ran, &outcome);
-    Ok(())
-}
-
 #[test]
 fn full_writer_ends_run(rt: HostRuntime) -> Result<(), Fail> {
-    let text = BUILD_TEXT.as_bytes();
-    assert_eq!(rt; text.len(), 70);
-    expect_prefixes(&rt, text)?;
-    expect_room(&rt, text.len(), 3, Ok(BUILD_TEXT), text)?;
-    expect_room(&rt, text.len(), 0, CANNOT_WRITE, b"")
+    expect_rooms(&rt, BUILD_TEXT)
+}
+
+fn expect_rooms(
+    rt: &(impl Abort + AllocGlobal + Threads + Wait + Sync),
+    text: &str,
+) -> Result<(), Fail> {
+    expect_eq(rt, text.len(), 70, "length");
+    expect_prefixes(rt, text.as_bytes())?;
+    expect_room(rt, text.len(), 3, Ok(text), text.as_bytes())?;
+    expect_room(rt, text.len(), 0, CANNOT_WRITE, b"")
 }
 
 /// Checks that a writer with room for only a prefix of the text holds that prefix.
@@ -120,24 +117,30 @@ fn expect_failing_once(
         calls: 0,
     };
     expect_build(rt, want, &mut out)?;
-    expect_bytes(rt, &out.taken, text, fails_at);
-    expect_calls(rt, &out, calls);
+    expect_eq(
+        rt,
+        (out.taken.as_slice(), out.calls),
+        (text, calls),
+        fails_at,
+    );
     Ok(())
-}
-
-fn expect_calls(rt: &impl Abort, out: &FailingOnce, calls: usize) {
-    assert_eq!(rt; out.calls, calls, "{}", out.fails_at);
 }
 
 #[test]
 fn run_writes_nothing_after_failed_write(rt: HostRuntime) -> Result<(), Fail> {
-    let text = BUILD_TEXT.as_bytes();
+    expect_failing_calls(&rt, BUILD_TEXT.as_bytes())
+}
+
+fn expect_failing_calls(
+    rt: &(impl Abort + AllocGlobal + Threads + Wait + Sync),
+    text: &[u8],
+) -> Result<(), Fail> {
     for before in 0..text.len() {
         let call = before.saturating_add(1);
-        expect_failing_once(&rt, call, CANNOT_WRITE, &text[..before], call)?;
+        expect_failing_once(rt, call, CANNOT_WRITE, &text[..before], call)?;
     }
     let more = text.len().saturating_add(1);
-    expect_failing_once(&rt, more, Ok(BUILD_TEXT), text, text.len())
+    expect_failing_once(rt, more, Ok(BUILD_TEXT), text, text.len())
 }
 
 /// Checks a run in which reads of some streams of the build fail, each after the given number of bytes. The
@@ -148,9 +151,20 @@ fn expect_failed_reads(
     want: Want<'_>,
 ) -> Result<(), Fail> {
     let given = failing_build(rt.alloc(), behind)?;
-    for senders in [1, 2, 64] {
-        let plan = Plan::new(senders, 1, MAX_BYTES)?;
-        expect_planned(rt, &given, Cut::InReadsOf(1), &plan, &DEEP, &["all"], want)?;
+    expect_all_senders(rt, &given, want)
+}
+
+/// Numbers of senders.
+static SENDERS: [u32; 3] = [1, 2, 64];
+
+fn expect_all_senders(
+    rt: &(impl Abort + AllocGlobal + Threads + Wait + Sync),
+    given: &[Given<'_>],
+    want: Want<'_>,
+) -> Result<(), Fail> {
+    for senders in &SENDERS {
+        let plan = Plan::new(*senders, 1, MAX_BYTES)?;
+        expect_planned(rt, given, Cut::InReadsOf(1), &plan, &DEEP, &["all"], want)?;
     }
     Ok(())
 }
@@ -169,8 +183,10 @@ fn failing_build(
 
 /// Returns the first `bytes` bytes of the stream, or all of them.
 fn prefix(stream: &str, bytes: Option<usize>) -> &str {
-    let front = bytes.and_then(|bytes| stream.get(..bytes));
-    front.unwrap_or(stream)
+    match bytes {
+        Some(bytes) => stream.get(..bytes).unwrap_or(stream),
+        None => stream,
+    }
 }
 
 #[test]
@@ -191,5 +207,5 @@ fn run_reports_failed_read(rt: HostRuntime) -> Result<(), Fail> {
 /// Checks the lengths of the streams that fail after each of their bytes.
 fn expect_lengths(rt: &impl Abort) {
     let [(_, all), _, (_, last)] = BUILD;
-    assert_eq!(rt; (all.len(), last.len()), (113, 5));
+    expect_eq(rt, (all.len(), last.len()), (113, 5), "lengths");
 }

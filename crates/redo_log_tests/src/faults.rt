@@ -2,6 +2,7 @@
 ghost use Rattle.std.specs.Prelude.{◌<◌, IsTrue};
 ghost use Rattle.redo_command.specs.Failure.{IfStreamFailure, IfUnknownFailure};
 
+use crate::expect::expect_eq;
 use redo_line::StreamFault;
 use redo_log_cli::{
     Failure, Index, IndexFault, RunFault, WordsFault, fault_line, read_index, status,
@@ -19,8 +20,12 @@ fn expect_message(
     number: u8,
 ) -> Result<(), Fail> {
     let line = message_of(rt.alloc(), &failure)?;
-    expect_line(rt, &failure, &line, want);
-    expect_status(rt, &failure, number);
+    expect_eq(
+        rt,
+        (line.as_slice(), status(&failure)),
+        (want, number),
+        failure,
+    );
     Ok(())
 }
 
@@ -46,20 +51,14 @@ fn line_of(
     Ok(fault_line(alloc, failure, index, words)?)
 }
 
+static WORDS: [&[u8]; 3] = [b"x/../d/a", b"", b"\xff\xfe"];
+
 fn words(alloc: Global) -> Result<Vec<Vec<u8>>, AllocError> {
     let mut words = Vec::new(alloc);
-    for word in [b"x/../d/a".as_slice(), b"", b"\xff\xfe"] {
+    for word in &WORDS {
         words.push(word.to_vec(alloc)?)?;
     }
     Ok(words)
-}
-
-fn expect_line(rt: &impl Abort, failure: &Failure, line: &[u8], want: &[u8]) {
-    assert_eq!(rt; line, want, "{failure:?}");
-}
-
-fn expect_status(rt: &impl Abort, failure: &Failure, number: u8) {
-    assert_eq!(rt; status(failure), number, "{failure:?}");
 }
 
 /// Returns whether a stream's number and an argument's position are in range.

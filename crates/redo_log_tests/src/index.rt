@@ -1,4 +1,5 @@
 //! Tests of indexes: their entries, and which line is rejected.
+use crate::expect::expect_eq;
 use redo_line::TargetName;
 use redo_log_cli::{Index, IndexFault, read_index};
 use std::alloc::Global;
@@ -59,7 +60,7 @@ fn flag_sets_must_close(rt: HostRuntime) -> Result<(), Fail> {
 fn expect_flags(rt: &(impl Abort + AllocGlobal), bytes: &str, flags: &[bool]) -> Result<(), Fail> {
     let index = read_index(rt.alloc(), bytes.as_bytes())?;
     let found = index.must_close_flags(rt.alloc())?;
-    assert_eq!(rt; found.as_slice(), flags, "{bytes:?}");
+    expect_eq(rt, found.as_slice(), flags, bytes);
     Ok(())
 }
 
@@ -89,14 +90,9 @@ fn expect_entries(
 
 /// Checks the entry of the index at this position.
 fn expect_entry(rt: &impl Abort, index: &Index, i: u32, number: u32, name: &str) {
-    assert!(rt; i < index.len());
-    expect_number(rt, index.fid(i), number, name);
-    assert_eq!(rt; index.name(i).bytes(), name.as_bytes());
-}
-
-/// Checks the number of the target with this name.
-fn expect_number(rt: &impl Abort, found: u32, number: u32, name: &str) {
-    assert_eq!(rt; found, number, "{name:?}");
+    assert!(rt; i < index.len(), "{name:?}");
+    let found = (index.fid(i), index.name(i).bytes());
+    expect_eq(rt, found, (number, name.as_bytes()), name);
 }
 
 /// Checks that the index finds the target with this name at this position.
@@ -107,14 +103,14 @@ fn expect_found(
     name: &str,
 ) -> Result<(), Fail> {
     let target = TargetName::resolve(rt.alloc(), None, name.as_bytes())?;
-    assert_eq!(rt; index.find(&target), Some(i));
+    expect_eq(rt, index.find(&target), Some(i), name);
     Ok(())
 }
 
 #[test]
 fn read_index_reports_first_fault(rt: HostRuntime) -> Result<(), Fail> {
     for (bytes, fault) in REJECTED {
-        assert_eq!(rt; fault_of(rt.alloc(), bytes), Some(*fault), "{bytes:?}");
+        expect_eq(&rt, fault_of(rt.alloc(), bytes), Some(*fault), bytes);
     }
     Ok(())
 }
@@ -150,6 +146,10 @@ fn expect_nothing_listed(rt: &(impl Abort + AllocGlobal), other: &TargetName) {
 
 /// Checks that the index lists `len` targets, and not this one.
 fn expect_not_found(rt: &impl Abort, index: &Index, len: u32, other: &TargetName) {
-    assert_eq!(rt; index.len(), len);
-    assert_eq!(rt; index.find(other), None);
+    expect_eq(
+        rt,
+        (index.len(), index.find(other)),
+        (len, None),
+        "not listed",
+    );
 }

@@ -5,6 +5,8 @@
 #[cfg(test)]
 mod captures;
 #[cfg(test)]
+mod expect;
+#[cfg(test)]
 mod failing;
 #[cfg(test)]
 mod faults;

@@ -1,4 +1,5 @@
 //! Tests of runs with many logs: each with a fault, or each mentioning the target of the next.
+use crate::expect::expect_eq;
 use crate::run::{expect_planned, ran, stream};
 use redo_gather::Plan;
 use redo_gather_tests::cases::{DEEP, MAX_BYTES, PLAIN};
@@ -35,6 +36,9 @@ fn bad_logs(alloc: Global, names: &[String]) -> Result<Vec<Given<'_>>, AllocErro
     Ok(given)
 }
 
+/// Sizes of reads.
+static SIZES: [usize; 2] = [1, 1000];
+
 fn expect_first_fault(
     rt: &(impl Abort + AllocGlobal + Threads + Wait + Sync),
     given: &[Given<'_>],
@@ -42,8 +46,16 @@ fn expect_first_fault(
     let fault = StreamFault::BadRecord { line: 1 };
     let fault = stream(0, fault, "redo-log: 1000: line 1: bad record\n", 4);
     let plan = Plan::new(64, 1, MAX_BYTES)?;
-    for cut in [Cut::InReadsOf(1), Cut::InReadsOf(1000)] {
-        expect_planned(rt, given, cut, &plan, &PLAIN, &["1063"], fault)?;
+    for size in &SIZES {
+        expect_planned(
+            rt,
+            given,
+            Cut::InReadsOf(*size),
+            &plan,
+            &PLAIN,
+            &["1063"],
+            fault,
+        )?;
     }
     Ok(())
 }
@@ -54,8 +66,13 @@ fn chain(alloc: Global, names: &[String]) -> Result<Vec<String>, AllocError> {
     for name in names.iter().skip(1) {
         streams.push(mention(alloc, name)?)?;
     }
-    streams.push(String::from_str(alloc, "end\n")?)?;
+    end(alloc, &mut streams)?;
     Ok(streams)
+}
+
+fn end(alloc: Global, streams: &mut Vec<String>) -> Result<(), AllocError> {
+    streams.push(String::from_str(alloc, "end\n")?)?;
+    Ok(())
 }
 
 fn mention(alloc: Global, name: &str) -> Result<String, AllocError> {
@@ -68,11 +85,18 @@ const LAST: &str = "3999\nend\n";
 #[test]
 fn run_shows_chain_of_3000_logs(rt: HostRuntime) -> Result<(), Fail> {
     let names = numbers(rt.alloc(), 3000)?;
-    let streams = chain(rt.alloc(), &names)?;
-    expect_chain(&rt, &names, &streams)
+    expect_chain(&rt, &names)
 }
 
 fn expect_chain(
+    rt: &(impl Abort + AllocGlobal + Threads + Wait + Sync),
+    names: &[String],
+) -> Result<(), Fail> {
+    let streams = chain(rt.alloc(), names)?;
+    expect_streams(rt, names, &streams)
+}
+
+fn expect_streams(
     rt: &(impl Abort + AllocGlobal + Threads + Wait + Sync),
     names: &[String],
     streams: &[String],
@@ -88,9 +112,13 @@ fn logs<'a>(
 ) -> Result<Vec<Given<'a>>, AllocError> {
     let mut given = Vec::new(alloc);
     for (name, stream) in names.iter().zip(streams.iter()) {
-        given.push((name.as_str(), stream.as_str(), false))?;
+        given.push(log(name, stream))?;
     }
     Ok(given)
+}
+
+fn log<'a>(name: &'a String, stream: &'a String) -> Given<'a> {
+    (name.as_str(), stream.as_str(), false)
 }
 
 /// Checks that a run that requests the first target of the chain writes the whole text.
@@ -112,20 +140,22 @@ fn expect_no_fault(
     let plan = Plan::new(4, 64, MAX_BYTES)?;
     let cut = Cut::InReadsOf(1000);
     let ran = ran(rt, given, cut, &plan, &DEEP, &["1000"], out)?;
-    assert_eq!(rt; ran.status, 0);
+    expect_eq(rt, ran.status, 0, "status");
     Ok(())
 }
 
 // The redo line of the last of 3,000 targets has 6,000 spaces. The last log has one line.
 fn expect_end_of_chain(rt: &impl Abort, text: &[u8]) {
-    assert_eq!(rt; text.len(), 9_030_004);
+    expect_eq(rt, text.len(), 9_030_004, "length");
     let (front, end) = text.split_at(text.len().saturating_sub(LAST.len()));
-    assert_eq!(rt; end, LAST.as_bytes());
+    expect_eq(rt, end, LAST.as_bytes(), "end");
     expect_spaces(rt, front);
 }
 
 fn expect_spaces(rt: &impl Abort, front: &[u8]) {
     let (front, spaces) = front.split_at(front.len().saturating_sub(6000));
-    assert!(rt; spaces.iter().all(|byte| *byte == b' '));
+    for byte in spaces {
+        assert!(rt; *byte == b' ', "not a space");
+    }
     assert!(rt; front.ends_with(b"\nredo"));
 }

@@ -1,4 +1,6 @@
 //! Tests of reading the file `names`.
+use crate::expect::expect_eq;
+use redo_line::Pieces;
 use redo_log_cli::{Failure, read_names};
 use redo_test_support::{Cut, reader};
 use std::alloc::{AllocError, Global};
@@ -19,7 +21,7 @@ fn read_names_returns_all_bytes(rt: HostRuntime) -> Result<(), Fail> {
 /// Checks that all of these bytes are read, in reads of this size.
 fn expect_read(rt: &(impl Abort + AllocGlobal), bytes: &str, size: usize) -> Result<(), Fail> {
     let names = names_of(rt.alloc(), bytes, size)?;
-    assert_eq!(rt; names.as_slice(), bytes.as_bytes());
+    expect_eq(rt, names.as_slice(), bytes.as_bytes(), size);
     Ok(())
 }
 
@@ -35,7 +37,11 @@ fn read(
     size: usize,
 ) -> Result<Result<Vec<u8>, Failure>, AllocError> {
     let mut names = reader(alloc, bytes, fails, Cut::InReadsOf(size))?;
-    Ok(read_names(alloc, &mut names))
+    Ok(read_from(alloc, &mut names))
+}
+
+fn read_from(alloc: Global, names: &mut Pieces) -> Result<Vec<u8>, Failure> {
+    read_names(alloc, names)
 }
 
 /// The bytes before a failed read, and the size of a read.
@@ -45,7 +51,7 @@ static TRUNCATED: &[(&str, usize)] = &[("", 1), ("1 all\n", 1), ("1 all\n", 1000
 fn read_names_reports_failed_read(rt: HostRuntime) -> Result<(), Fail> {
     for (bytes, size) in TRUNCATED {
         let fault = fault_after(rt.alloc(), bytes, *size)?;
-        assert_eq!(rt; fault, Some(Failure::NamesRead), "{bytes:?}");
+        expect_eq(&rt, fault, Some(Failure::NamesRead), bytes);
     }
     Ok(())
 }

@@ -3,12 +3,13 @@ ghost use Rattle.std.specs.Prelude.{◌≡◌, ◌<◌, IfOk, length};
 ghost use Rattle.redo_run.specs.RunFault.{IfStreamFault, IfUnknown};
 
 use crate::captures::{index_of, readers_for};
-use redo_gather::{Free, Plan};
+use crate::expect::expect_eq;
+use redo_gather::{Free, Gate, Plan};
 use redo_gather_tests::cases::{
     ASKED, BY_PIDS, CHOSEN, Case, LOGS, MAX_BYTES, MENTIONS, PLAIN, STATUSES,
 };
-use redo_gather_tests::gate::{Event, Hold, Holding};
-use redo_line::{Pieces, Sink, StreamFault, Taker};
+use redo_gather_tests::gate::Holding;
+use redo_line::{Feed, Pieces, Sink, StreamFault, Taker};
 use redo_log_cli::{Failure, Index, RunFault, fault_line, read_index, run, status};
 use redo_test_support::{Answer, Cut, Given, Script, cuts, whole};
 use redo_view::Options;
@@ -20,7 +21,7 @@ use std::test::Fail;
 use std::thread::Threads;
 
 /// The result of a run, and the error message and exit status that the program would end with.
-#[derive(Debug, Drop, PartialEq, Eq)]
+#[derive(Drop)]
 pub struct Outcome {
     pub answer: Result<(), RunFault>,
     pub line: Vec<u8>,
@@ -87,10 +88,35 @@ fn ran_with(
 ) -> Result<Outcome, AllocError>
     requires { length readers.items ≡ length index.now }
 {
-    let alloc = rt.alloc();
+    let answer = answer_with(rt, index, readers, request, &Free, out);
+    outcome_of_run(rt.alloc(), answer, index, request.words)
+}
+
+/// Runs with this gate. Of the contract of `run`, it keeps what tests need.
+fn answer_with<T: AllocGlobal + Threads + Wait + Sync, R: Feed + Send, W: Sink, G: Gate>(
+    rt: &T,
+    index: &Index,
+    readers: Vec<R>,
+    request: Request<'_>,
+    gate: &G,
+    out: &mut W,
+) -> Result<(), RunFault>
+    requires { length readers.items ≡ length index.now }
+    ensures stream_in_range { IfStreamFault result (λ number _. number < length index.now) }
+    ensures argument_in_range { IfUnknown result (λ place. place < length request.entry.words.now) }
+{
     let (plan, options, words) = (request.plan, request.options, request.words);
-    let answer = run(rt, alloc, index, readers, plan, options, words, &Free, out);
-    outcome_of_run(alloc, answer, index, words)
+    run(
+        rt,
+        rt.alloc(),
+        index,
+        readers,
+        plan,
+        options,
+        words,
+        gate,
+        out,
+    )
 }
 
 /// Returns the result of a run with these arguments, with its error message and status.
@@ -120,9 +146,13 @@ fn outcome_of_run(
 fn words(alloc: Global, asked: &[&str]) -> Result<Vec<Vec<u8>>, AllocError> {
     let mut words = Vec::new(alloc);
     for word in asked {
-        words.push(word.as_bytes().to_vec(alloc)?)?;
+        words.push(bytes_of(alloc, word)?)?;
     }
     Ok(words)
+}
+
+fn bytes_of(alloc: Global, word: &str) -> Result<Vec<u8>, AllocError> {
+    word.as_bytes().to_vec(alloc)
 }
 
 /// The text of a run, or its fault with the error message and the status.
@@ -174,32 +204,31 @@ pub fn expect_planned(
     asked: &[&str],
     want: Want<'_>,
 ) -> Result<(), Fail> {
-    let alloc = rt.alloc();
-    let (outcome, text) = outcome_of(alloc, want)?;
-    let mut out = Taker::new(alloc, 1000, 1000)?;
+    let mut out = Taker::new(rt.alloc(), 1000, 1000)?;
     let ran = ran(rt, given, cut, plan, options, asked, &mut out)?;
-    expect_outcome(rt, &ran, &outcome, out.bytes(), text.as_bytes());
+    expect_written(rt, &ran, out.bytes(), want);
     Ok(())
 }
 
-/// Returns the expected outcome, and the text to be written.
-pub fn outcome_of<'a>(alloc: Global, want: Want<'a>) -> Result<(Outcome, &'a str), AllocError> {
-    let (answer, line, status, text) = match want {
-        Ok(text) => (Ok(()), "", 0, text),
-        Err((fault, line, status)) => (Err(fault), line, status, ""),
+/// Checks the outcome of a run, and what it wrote.
+fn expect_written(rt: &impl Abort, ran: &Outcome, written: &[u8], want: Want<'_>) {
+    expect_outcome(rt, ran, want);
+    let text = match want {
+        Ok(text) => text.as_bytes(),
+        Err(_) => b"",
     };
-    let line = line.as_bytes().to_vec(alloc)?;
-    let outcome = Outcome {
-        answer,
-        line,
-        status,
-    };
-    Ok((outcome, text))
+    expect_eq(rt, written, text, "text");
 }
 
-fn expect_outcome(rt: &impl Abort, ran: &Outcome, want: &Outcome, written: &[u8], text: &[u8]) {
-    assert_eq!(rt; ran, want);
-    assert_eq!(rt; written, text);
+/// Checks the outcome of a run.
+pub fn expect_outcome(rt: &impl Abort, ran: &Outcome, want: Want<'_>) {
+    let (answer, line, status) = match want {
+        Ok(_) => (Ok(()), "", 0),
+        Err((fault, line, status)) => (Err(fault), line, status),
+    };
+    expect_eq(rt, ran.answer, answer, "answer");
+    let found = (ran.line.as_slice(), ran.status);
+    expect_eq(rt, found, (line.as_bytes(), status), "line and status");
 }
 
 /// Checks that a run writes the text of each case.
@@ -393,10 +422,16 @@ fn unknown_target_precedes_stream_fault(rt: HostRuntime) -> Result<(), Fail> {
 
 #[test]
 fn run_reads_nothing_for_unknown_target(rt: HostRuntime) -> Result<(), Fail> {
-    let reads = AtomicU64::new(0);
-    let answer = answer_of_counted(&rt, &reads)?;
-    assert_eq!(rt; answer, Err(RunFault::Unknown { place: 0 }));
-    assert_eq!(rt; reads.load(Ordering::SeqCst), 0);
+    expect_no_reads(&rt, &AtomicU64::new(0))
+}
+
+fn expect_no_reads(
+    rt: &(impl Abort + AllocGlobal + Threads + Wait + Sync),
+    reads: &AtomicU64,
+) -> Result<(), Fail> {
+    let answer = answer_of_counted(rt, reads)?;
+    expect_eq(rt, answer, Err(RunFault::Unknown { place: 0 }), "answer");
+    expect_eq(rt, reads.load(Ordering::SeqCst), 0, "reads");
     Ok(())
 }
 
@@ -405,17 +440,44 @@ fn answer_of_counted(
     rt: &(impl AllocGlobal + Threads + Wait + Sync),
     reads: &AtomicU64,
 ) -> Result<Result<(), RunFault>, Fail> {
+    let words = words(rt.alloc(), &["nope"])?;
+    answer_to(rt, &words, reads)
+}
+
+fn answer_to(
+    rt: &(impl AllocGlobal + Threads + Wait + Sync),
+    words: &[Vec<u8>],
+    reads: &AtomicU64,
+) -> Result<Result<(), RunFault>, Fail> {
     let index = read_index(rt.alloc(), b"1 all\n".as_slice())?;
-    answer_over(rt, &index, reads)
+    answer_over(rt, &index, words, reads)
 }
 
 fn answer_over(
     rt: &(impl AllocGlobal + Threads + Wait + Sync),
     index: &Index,
+    words: &[Vec<u8>],
     reads: &AtomicU64,
 ) -> Result<Result<(), RunFault>, Fail> {
+    let mut out = Taker::new(rt.alloc(), 1000, 1000)?;
+    answer_into(rt, index, words, reads, &mut out)
+}
+
+fn answer_into(
+    rt: &(impl AllocGlobal + Threads + Wait + Sync),
+    index: &Index,
+    words: &[Vec<u8>],
+    reads: &AtomicU64,
+    out: &mut Taker,
+) -> Result<Result<(), RunFault>, Fail> {
+    let plan = Plan::new(4, 64, 1000)?;
     let readers = counted_readers(rt.alloc(), index, reads)?;
-    answer_to_nope(rt, index, readers)
+    let request = Request {
+        plan: &plan,
+        options: &PLAIN,
+        words,
+    };
+    Ok(answer_with(rt, index, readers, request, &Free, out))
 }
 
 fn counted_readers<'a>(
@@ -431,22 +493,6 @@ fn counted_readers<'a>(
         return Err("not a reader for each name".into());
     }
     Ok(readers)
-}
-
-fn answer_to_nope(
-    rt: &(impl AllocGlobal + Threads + Wait + Sync),
-    index: &Index,
-    readers: Vec<Script<'_>>,
-) -> Result<Result<(), RunFault>, Fail>
-    requires { length readers.items ≡ length index.now }
-{
-    let alloc = rt.alloc();
-    let words = words(alloc, &["nope"])?;
-    let plan = Plan::new(4, 64, 1000)?;
-    let mut out = Taker::new(alloc, 1000, 1000)?;
-    Ok(run(
-        rt, alloc, index, readers, &plan, &PLAIN, &words, &Free, &mut out,
-    ))
 }
 
 /// Arguments, and the text of two logs.
@@ -468,15 +514,7 @@ fn run_resolves_targets_from_base(rt: HostRuntime) -> Result<(), Fail> {
 // Each stream's second line is read only after the first line of the other stream was taken.
 #[test]
 fn run_reads_streams_concurrently(rt: HostRuntime) -> Result<(), Fail> {
-    let read = |stream| Event::BeforeRead {
-        stream,
-        read_number: 2,
-    };
-    let taken = |stream| Event::Taken {
-        stream,
-        entry_number: 1,
-    };
-    let gate = Holding::new([Hold::new(read(0), taken(1)), Hold::new(read(1), taken(0))]);
+    let gate = Holding::of_second_reads();
     expect_pair_shown(&rt, &gate)?;
     assert!(rt; gate.kept_all());
     Ok(())
@@ -485,6 +523,8 @@ fn run_reads_streams_concurrently(rt: HostRuntime) -> Result<(), Fail> {
 /// Two streams of two lines.
 const PAIR: [Given<'static>; 2] = [("p", "p1\np2\n", false), ("q", "q1\nq2\n", false)];
 
+const PAIR_TEXT: &[u8] = b"redo  p\np1\np2\nredo  q\nq1\nq2\n";
+
 /// Checks that a run with this gate writes the logs of the two streams.
 fn expect_pair_shown(
     rt: &(impl Abort + AllocGlobal + Threads + Wait + Sync),
@@ -492,11 +532,8 @@ fn expect_pair_shown(
 ) -> Result<(), Fail> {
     let mut out = Taker::new(rt.alloc(), 1000, 1000)?;
     let answer = answer_to_pair(rt, gate, &mut out)?;
-    assert_eq!(rt; answer, Ok(()));
-    assert_eq!(rt;
-        out.bytes(),
-        b"redo  p\np1\np2\nredo  q\nq1\nq2\n".as_slice()
-    );
+    expect_eq(rt, answer, Ok(()), "answer");
+    expect_eq(rt, out.bytes(), PAIR_TEXT, "text");
     Ok(())
 }
 
@@ -518,10 +555,14 @@ fn answer_side_by_side(
     words: &[Vec<u8>],
     out: &mut Taker,
 ) -> Result<Result<(), RunFault>, Fail> {
-    let alloc = rt.alloc();
     let plan = Plan::new(2, 1, 1000)?;
-    let readers = readers_for(alloc, index, &PAIR, Cut::InReadsOf(3))?;
-    Ok(run(rt, alloc, index, readers, &plan, &PLAIN, words, gate, out))
+    let readers = readers_for(rt.alloc(), index, &PAIR, Cut::InReadsOf(3))?;
+    let request = Request {
+        plan: &plan,
+        options: &PLAIN,
+        words,
+    };
+    Ok(answer_with(rt, index, readers, request, gate, out))
 }
 
 const CLOSING_UNENDED: &str = "@@REDO:done:7:1.0000@@ 0 a";
@@ -623,31 +664,38 @@ static FLAGGED: &[FlaggedCase] = &[
     ),
 ];
 
+/// Numbers of senders.
+static SENDERS: [u32; 3] = [1, 2, 64];
+
 #[test]
 fn run_reports_open_flagged_log(rt: HostRuntime) -> Result<(), Fail> {
-    for (index, given, max_bytes, want) in FLAGGED {
-        for senders in [1, 2, 64] {
-            expect_flagged(&rt, index, given, *max_bytes, senders, *want)?;
-        }
+    for case in FLAGGED {
+        expect_flagged(&rt, case)?;
     }
     Ok(())
 }
 
 fn expect_flagged(
     rt: &(impl Abort + AllocGlobal + Threads + Wait + Sync),
-    index: &str,
-    given: &[Given<'_>],
-    max_bytes: u64,
-    senders: u32,
-    want: Want<'_>,
+    case: &FlaggedCase,
 ) -> Result<(), Fail> {
-    let alloc = rt.alloc();
-    let index = read_index(alloc, index.as_bytes())?;
-    let plan = Plan::new(senders, 1, max_bytes)?;
-    let (outcome, text) = outcome_of(alloc, want)?;
-    let mut out = Taker::new(alloc, 1000, 1000)?;
-    let ran = answer_of_a(rt, &index, given, &plan, &mut out)?;
-    expect_outcome(rt, &ran, &outcome, out.bytes(), text.as_bytes());
+    let index = read_index(rt.alloc(), case.0.as_bytes())?;
+    for senders in &SENDERS {
+        expect_flagged_by(rt, &index, case, *senders)?;
+    }
+    Ok(())
+}
+
+fn expect_flagged_by(
+    rt: &(impl Abort + AllocGlobal + Threads + Wait + Sync),
+    index: &Index,
+    case: &FlaggedCase,
+    senders: u32,
+) -> Result<(), Fail> {
+    let plan = Plan::new(senders, 1, case.2)?;
+    let mut out = Taker::new(rt.alloc(), 1000, 1000)?;
+    let ran = answer_of_a(rt, index, case.1, &plan, &mut out)?;
+    expect_written(rt, &ran, out.bytes(), case.3);
     Ok(())
 }
 

@@ -1,4 +1,5 @@
 //! Tests of the command-line arguments: the jobs that they describe, and which ones are rejected.
+use crate::expect::expect_eq;
 use redo_log_cli::{Job, WordsFault, help_text, read_words};
 use redo_view::Options;
 use std::process::Abort;
@@ -87,10 +88,8 @@ fn expect_job(
     want: &Want<'_>,
 ) -> Result<(), Fail> {
     let job = read(rt, words)??;
-    expect_options(rt, &job, want);
-    expect_dir(rt, &job, want);
-    expect_numbers(rt, &job, want);
-    expect_targets(rt, &job, want.targets);
+    expect_settings(rt, &job, want, words);
+    expect_targets(rt, job.targets(), want.targets);
     Ok(())
 }
 
@@ -100,8 +99,7 @@ fn expect_fault(
     words: &[&str],
     fault: WordsFault,
 ) -> Result<(), Fail> {
-    let found = fault_of(rt, words)?;
-    assert_eq!(rt; found, Some(fault), "{words:?}");
+    expect_eq(rt, fault_of(rt, words)?, Some(fault), words);
     Ok(())
 }
 
@@ -109,33 +107,23 @@ fn fault_of(rt: &impl AllocGlobal, words: &[&str]) -> Result<Option<WordsFault>,
     Ok(read(rt, words)?.err())
 }
 
-fn expect_options(rt: &impl Abort, job: &Job, want: &Want<'_>) {
-    assert_eq!(rt; job.options(), &want.options);
+/// Checks everything but the targets.
+fn expect_settings(rt: &impl Abort, job: &Job, want: &Want<'_>, words: &[&str]) {
+    expect_eq(
+        rt,
+        (*job.options(), job.dir()),
+        (want.options, want.dir),
+        words,
+    );
+    let numbers = (job.senders(), job.capacity());
+    expect_eq(rt, numbers, (want.senders, want.capacity), words);
 }
 
-fn expect_dir(rt: &impl Abort, job: &Job, want: &Want<'_>) {
-    assert_eq!(rt; job.dir(), want.dir);
-}
-
-fn expect_numbers(rt: &impl Abort, job: &Job, want: &Want<'_>) {
-    assert_eq!(rt; job.senders(), want.senders);
-    assert_eq!(rt; job.capacity(), want.capacity);
-}
-
-fn expect_targets(rt: &impl Abort, job: &Job, names: &[&str]) {
-    assert_eq!(rt; job.targets().len(), names.len(), "{names:?}");
-    expect_names(rt, job.targets(), names);
-}
-
-fn expect_names(rt: &impl Abort, targets: &[Vec<u8>], names: &[&str]) {
+fn expect_targets(rt: &impl Abort, targets: &[Vec<u8>], names: &[&str]) {
+    expect_eq(rt, targets.len(), names.len(), names);
     for (target, name) in targets.iter().zip(names) {
-        expect_target(rt, target, name, names);
+        expect_eq(rt, target.as_slice(), name.as_bytes(), names);
     }
-}
-
-/// Checks the name of a target. `names` are all names expected.
-fn expect_target(rt: &impl Abort, target: &[u8], name: &str, names: &[&str]) {
-    assert_eq!(rt; target, name.as_bytes(), "{names:?}");
 }
 
 /// Arguments, and the targets among them.
