@@ -1,4 +1,4 @@
-//! Tests of gatherings and views, with the cases of texts and the gate that the tests of runs use too.
+//! Tests of the mailbox, gatherings and views, with the cases of texts and the gate that the tests of runs use too.
 //! They are in a separate crate so that no crate below is proved a second time.
 #![tactic(auto)]
 
@@ -12,6 +12,8 @@ mod gather;
 mod gathered;
 #[cfg(test)]
 mod held;
+#[cfg(test)]
+mod mailbox;
 #[cfg(test)]
 mod plan;
 #[cfg(test)]

@@ -1,5 +1,0 @@
-//! Tests of the mailbox.
-#![tactic(auto)]
-
-#[cfg(test)]
-mod mailbox;
