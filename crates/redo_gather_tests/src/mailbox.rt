@@ -32,7 +32,7 @@ fn item(rt: &(impl Abort + AllocGlobal), sender: u32, text: &str) -> Item
     }
 }
 
-/// The text that stands for no item.
+/// The text that is expected if there is no item.
 const NONE: &str = "none";
 
 /// Checks the text of an item that was taken or that a post returned.
