@@ -1,5 +1,14 @@
 pub mod CommandLine
+pub mod HtmlCommandLine
+pub mod HtmlJob
+pub mod HtmlWords
 pub mod Job
+pub mod JsonCommandLine
+pub mod JsonJob
+pub mod JsonWords
+pub mod NewCommandLine
+pub mod NewJob
+pub mod NewWords
 pub mod Private
 pub mod Rejection
 pub mod Words

@@ -1,7 +1,7 @@
-//! Options of a command line for `clap`, which programs share.
+//! Options of a command line for `clap`, which the programs share.
 //!
-//! This module, `parse`, and the proofs `ParseLemmas`, `OneKind` and `Getters` are for any command without subcommands: `redo_html_args`
-//! and `redo_json_args` use them, too. `clap` checks the range of numbers, so a number out of range is rejected like any bad argument.
+//! This module, `parse`, and the proofs `ParseLemmas`, `OneKind` and `Getters` are for any command without subcommands. `clap` checks
+//! the range of numbers, so a number out of range is rejected like any bad argument.
 ghost use Rattle.std.specs.Prelude.{◌≡◌, codes, false, IfOk, map, option_map};
 ghost use Rattle.std.specs.List.{AllByRecursion};
 ghost use Rattle.std.specs.String.{string_bytes};

@@ -1,5 +1,5 @@
-//! Tests of the command: its arguments, its index, its runs and its failures. They are in a crate of
-//! their own so that the crates that they use are not proved a second time.
+//! Tests of runs, and of the command's files and failures. They are in a separate crate so that no crate below is proved a second
+//! time.
 #![tactic(auto)]
 
 #[cfg(test)]
@@ -11,12 +11,8 @@ mod failing;
 #[cfg(test)]
 mod faults;
 #[cfg(test)]
-mod index;
-#[cfg(test)]
 mod many;
 #[cfg(test)]
 mod names_file;
 #[cfg(test)]
 mod run;
-#[cfg(test)]
-mod words;

@@ -2,8 +2,8 @@
 use crate::expect::expect_eq;
 use crate::run::{expect_planned, ran, stream};
 use redo_gather::Plan;
-use redo_gather_tests::cases::{DEEP, MAX_BYTES, PLAIN};
 use redo_line::{StreamFault, Taker};
+use redo_test_support::cases::{DEEP, MAX_BYTES, PLAIN};
 use redo_test_support::{Cut, Given};
 use std::alloc::{AllocError, Global};
 use std::process::Abort;

@@ -5,12 +5,12 @@ ghost use Rattle.redo_run.specs.RunFault.{IfStreamFault, IfUnknown};
 use crate::captures::{index_of, readers_for};
 use crate::expect::expect_eq;
 use redo_gather::{Free, Gate, Plan};
-use redo_gather_tests::cases::{
-    ASKED, BY_PIDS, CHOSEN, Case, LOGS, MAX_BYTES, MENTIONS, PLAIN, STATUSES,
-};
-use redo_gather_tests::gate::Holding;
 use redo_line::{Feed, Pieces, Sink, StreamFault, Taker};
 use redo_log_cli::{Failure, Index, RunFault, fault_line, read_index, run, status};
+use redo_test_support::cases::{
+    ASKED, BY_PIDS, CHOSEN, Case, LOGS, MAX_BYTES, MENTIONS, PLAIN, STATUSES,
+};
+use redo_test_support::gate::Holding;
 use redo_test_support::{Answer, Cut, Given, Script, cuts, whole};
 use redo_view::Options;
 use std::alloc::{AllocError, Global};

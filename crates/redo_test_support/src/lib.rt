@@ -1,6 +1,6 @@
 //! Fixtures of tests, measurements and single calls: targets, their streams, readers that cut the
-//! streams, and a writer that counts bytes; senders and a collector that drive a mailbox; and the
-//! text forms of entries, logs and items.
+//! streams, and a writer that counts bytes; senders and a collector that drive a mailbox; the
+//! text forms of entries, logs and items; cases of logs with their texts; and a gate that holds threads.
 //!
 //! A test iterates over a `static` table by reference and passes each case to a short function, because proofs grow faster
 //! than functions. A `const` is rebuilt wherever it is named. Functions that own a table or readers, also outside tests,
@@ -8,7 +8,9 @@
 //! `LogTable` and `Index` implement `Drop` by hand.
 #![tactic(auto)]
 
+pub mod cases;
 mod counter;
+pub mod gate;
 mod items;
 mod lines;
 mod pair;

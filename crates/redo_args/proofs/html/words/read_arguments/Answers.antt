@@ -1,0 +1,5 @@
+use Rattle.redo_args.proofs.HtmlSound.{sound}
+use Rattle.redo_args.proofs.html.words.read_arguments.Goals as goal
+
+pub job_from_matches-requires : goal.job_from_matches-requires
+job_from_matches-requires c = sound c.in_ok-matches.matches c.in_ok-matches.ensures.parsed

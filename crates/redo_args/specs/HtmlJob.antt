@@ -1,0 +1,33 @@
+-- A job: what the command-line arguments ask for, computed from the values that `clap` found.
+--
+-- The values are a list of rows, one for each argument of the command line that has a value, given or by default. A row is
+-- looked up by the id of its argument.
+use Rattle.std.specs.Prelude.{ℕ, Bool, List, Option, codes}
+use Rattle.clap.specs.Walk.{Row, first_of}
+use Rattle.redo_args.specs.Job.{dir_of, is_on, number_or, targets_or_all}
+
+-- The capture directory, the baseline's directory, the output file and the title of the page, the options, the number of bytes of text lines
+-- that may be shown, the number of senders, and the arguments that name the requested targets.
+pub record PageParts : Type 0 where
+  pub dir : List ℕ
+  pub baseline : Option (List ℕ)
+  pub output : Option (List ℕ)
+  pub title : Option (List ℕ)
+  pub unchanged : Bool
+  pub debug_locks : Bool
+  pub max_bytes : ℕ
+  pub senders : ℕ
+  pub targets : List (List ℕ)
+
+abbrev pub html_parts_of : List Row → PageParts
+html_parts_of rows = record {
+  dir = dir_of rows;
+  baseline = first_of (codes "baseline") rows;
+  output = first_of (codes "output") rows;
+  title = first_of (codes "title") rows;
+  unchanged = is_on (codes "unchanged") rows;
+  debug_locks = is_on (codes "debug_locks") rows;
+  max_bytes = number_or 16000000 (codes "max-bytes") rows;
+  senders = number_or 4 (codes "senders") rows;
+  targets = targets_or_all rows;
+}

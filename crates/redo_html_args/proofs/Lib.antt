@@ -1,4 +1,0 @@
-mod Getters
-mod RejectionRows
-mod Sound
-mod WordsRows

@@ -1,3 +1,0 @@
-mod RejectionRows
-mod Sound
-mod WordsRows

@@ -1,5 +1,0 @@
-use Rattle.redo_new_args.proofs.Sound.{sound}
-use Rattle.redo_new_args.proofs.words.read_arguments.Goals as goal
-
-pub job_from_matches-requires : goal.job_from_matches-requires
-job_from_matches-requires c = sound c.in_ok-matches.matches c.in_ok-matches.ensures.parsed

@@ -1,4 +1,0 @@
-pub mod CommandLine
-pub mod Job
-pub mod Private
-pub mod Words
