@@ -255,9 +255,18 @@ class Trial:
         for library in theirs:
             words += ["--extern", f"{library}={KIT}/rlibs/{library}.rlib"]
         for crate in own:
-            words += ["--lib", f"{crate}:{','.join(dict.fromkeys(['core', 'std', *below[crate]]))}={TOP}/crates/{crate}/src/lib.rt"]
+            words += ["--lib", f"{crate}:{','.join(dict.fromkeys(['core', 'std', *below[crate]]))}={self.root_of(crate)}"]
         logic = ["--antt-project", f"{KIT}/rattle/logic/antt-project.json", "--logic-built", f"{KIT}/logic_built"]
         return words + logic + ["--links", "wrong=", "--jobs", "1", "--only", "tried"]
+
+    def root_of(self, crate):
+        """Returns the root file of a library. For a program, writes a library that has only its definitions."""
+        folder = os.path.join(TOP, "crates", crate)
+        if not os.path.exists(os.path.join(folder, "src/lib.rt")):
+            shutil.copytree(os.path.join(folder, "specs"), os.path.join(self.folder, "programs", crate, "specs"), dirs_exist_ok=True)
+            self.put(f"programs/{crate}/src/lib.rt", "//! The definitions of a program.\n")
+            folder = os.path.join(self.folder, "programs", crate)
+        return os.path.join(folder, "src/lib.rt")
 
     def run(self):
         """Runs the check. Returns, for each mutant, whether it was killed, and how; before them, what else failed."""

@@ -47,9 +47,14 @@ def libraries_of(program):
 
 
 def libraries():
-    """Returns the libraries of the programs, and those that no program uses yet, each after its own dependencies."""
-    used = [library for program in ("redo_log", "redo_log_html", "redo_log_json", "redo_log_new") for library in libraries_of(program)]
-    return list(dict.fromkeys([*used, *libraries_of("redo_compare"), "redo_compare"]))
+    """Returns the crates of the programs, each after its own dependencies."""
+    programs = ("redo_log", "redo_log_html", "redo_log_json", "redo_log_new")
+    return list(dict.fromkeys(crate for program in programs for crate in [*libraries_of(program), program]))
+
+
+def root_of(crate):
+    """Returns the root file of a crate, which is a library or a program."""
+    return "lib.rt" if os.path.exists(os.path.join(TOP, "crates", crate, "src/lib.rt")) else "main.rt"
 
 
 def title_of(line):
@@ -134,9 +139,11 @@ def contracts(crate):
 def clauses(crate):
     """Yields each part of a public contract: its file, whether it is part of a model, what it cites, the type or trait of its block, and its
     place in the file: where its item begins, where the braces open, and where they close."""
-    root = NO_CODE.sub("", read("crates", crate, "src/lib.rt"))
+    file = root_of(crate)
+    root = NO_CODE.sub("", read("crates", crate, "src", file))
     handed_out = {name for used in re.findall(r"\bpub use ([^;]+);", root) for name in WORD.findall(re.sub(r"\b\w+ as ", "", used))}
-    modules = set(re.findall(r"\bpub mod (\w+)", root)) | {"lib"}
+    # The modules of a program count as public.
+    modules = set(re.findall(r"\bpub mod (\w+)" if file == "lib.rt" else r"\bmod (\w+)", root)) | {"lib"}
     for path in files(f"crates/{crate}/src", ".rt"):
         text = NO_CODE.sub(lambda found: re.sub(r"[^\n]", " ", found[0]), read("crates", crate, "src", path))
         public = path.split(os.sep)[0].removesuffix(".rt") in modules
