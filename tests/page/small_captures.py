@@ -1,6 +1,5 @@
 """Small captures that a test makes, and parts of the pages that the built program writes of them."""
 import os
-import re
 import subprocess
 import tempfile
 
