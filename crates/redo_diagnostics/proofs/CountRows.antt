@@ -15,6 +15,9 @@ keys = a ∷ b ∷ a ∷ [] ∷ codes "ab" ∷ a ∷ []
 these_numbers : numbered_keys keys ≡ (a, 0) ∷ (b, 0) ∷ (a, 1) ∷ ([], 0) ∷ (codes "ab", 0) ∷ (a, 2) ∷ []
 these_numbers = refl
 
+more_numbers : numbered_keys (a ∷ b ∷ a ∷ [] ∷ a ∷ b ∷ [] ∷ []) ≡ (a, 0) ∷ (b, 0) ∷ (a, 1) ∷ ([], 0) ∷ (a, 2) ∷ (b, 1) ∷ ([], 1) ∷ []
+more_numbers = refl
+
 these_times : (times_of a keys ≡ 3) × (times_of b keys ≡ 1) × (times_of (codes "c") keys ≡ 0)
 these_times = (refl, refl, refl)
 

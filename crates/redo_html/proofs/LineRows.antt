@@ -1,13 +1,14 @@
--- Rows of lines: the style at their start, the lines, their HTML, and the style at their end. An independent program in Python computed the
--- values.
+-- Rows of lines: the style at their start, the lines, their HTML, and the style at their end. Rows of texts that begin with a style. An
+-- independent program in Python computed the values.
 use Rattle.std.proofs.Common.{◌≡◌, ℕ, Bool, true, false, List, [], ◌∷◌, ◌++◌, refl}
 use Rattle.std.specs.Char.{encode_utf8}
 use Rattle.std.specs.Prelude.{codes}
 use Rattle.std.specs.Fmt.{digits}
 use Rattle.std.specs.List.{AllByRecursion}
 use Rattle.redo_html.specs.declared.style.Hue.{Hue}
-use Rattle.redo_html.specs.declared.style.Hue.TheVariants.{Red, Green, Cyan}
+use Rattle.redo_html.specs.declared.style.Hue.TheVariants.{Plain, Red, Green, Yellow, Blue, Cyan}
 use Rattle.redo_html.specs.declared.style.Style.{Style}
+use Rattle.redo_html.specs.declared.text_kind.TextKind.TheVariants.{Log}
 use Rattle.redo_html.specs.Lines.{style_after_lines, lines_html}
 use Rattle.redo_html.specs.Passage.{passage_html}
 use Rattle.redo_html.specs.Shown.{is_unprintable, notation, number_text, unprintable_text}
@@ -60,3 +61,29 @@ written_are = (refl, (refl, (refl, (refl, (refl, (refl, (refl, (refl, (refl, tt)
 styles_are : AllByRecursion (λ r. style_after_lines r.style r.lines ≡ r.last) rows
 unfolding symbols_after first_symbol symbol_len is_sequence sequence_len sequence_numbers first_code_point code_point_len
 styles_are = (refl, (refl, (refl, (refl, (refl, (refl, (refl, (refl, (refl, tt)))))))))
+
+-- ---- texts
+
+record TextRow : Type 0 where
+  style : Style
+  text : List ℕ
+  html : List ℕ
+
+abbrev text_row : Style → List ℕ → List ℕ → TextRow
+text_row style text html = record { style = style; text = text; html = html }
+
+abbrev text_rows : List TextRow
+text_rows =
+    text_row (styled false Red) [] [] ∷
+    text_row (styled false Red) (codes "a" ++ (27 ∷ []) ++ codes "[mb") (codes "<span class=\"r\">a</span>b") ∷
+    text_row (styled true Plain) ((0 ∷ []) ++ codes "x") (codes "<b><i>^@</i>x</b>") ∷
+    text_row (styled true Blue) ((27 ∷ []) ++ codes "[31m") [] ∷
+    text_row (styled false Green) ((27 ∷ []) ++ codes "[m x") (codes " x") ∷
+    text_row (styled false Cyan) (codes "one" ++ (10 ∷ []) ++ codes "two" ++ (27 ∷ []) ++ codes "[22m <three>")
+    (codes "<span class=\"c\">one" ++ (10 ∷ []) ++ codes "two &lt;three&gt;</span>") ∷
+    text_row (styled true Yellow) ((27 ∷ []) ++ codes "[22m" ++ (27 ∷ []) ++ codes "[1m&") (codes "<b class=\"y\">&amp;</b>") ∷
+    []
+
+texts_are : AllByRecursion (λ r. passage_html Log r.style r.text ≡ r.html) text_rows
+unfolding symbols_after first_symbol symbol_len is_sequence sequence_len sequence_numbers first_code_point code_point_len is_unprintable notation unprintable_text number_text encode_utf8 digits passage_html
+texts_are = (refl, (refl, (refl, (refl, (refl, (refl, (refl, tt)))))))

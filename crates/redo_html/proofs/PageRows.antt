@@ -4,8 +4,9 @@ use Rattle.std.specs.Char.{encode_utf8}
 use Rattle.std.specs.Prelude.{codes, nat_lt, true}
 use Rattle.std.specs.Fmt.{digits}
 use Rattle.std.specs.List.{AllByRecursion, flat_map, list_all}
-use Rattle.redo_html.specs.declared.markup.Markup.TheVariants.{TargetLink, EndLink, Article, OpenDetails, Policy, Pre, EndPre}
-use Rattle.redo_html.specs.declared.style.Hue.TheVariants.{Blue}
+use Rattle.redo_html.specs.declared.markup.Markup.TheVariants.{Doctype, Html, EndHtml, Head, EndHead, BodyBad, EndBody, Title1, EndTitle1, Summary, EndSummary, Bdi, EndBdi}
+use Rattle.redo_html.specs.declared.markup.Markup.TheVariants.{TargetLink, EndLink, Article, EndArticle, OpenDetails, EndDetails, Policy, Pre, EndPre}
+use Rattle.redo_html.specs.declared.style.Hue.TheVariants.{Green, Blue}
 use Rattle.redo_html.specs.Passage.{passage_html}
 use Rattle.redo_html.specs.Parts.{Part, part_html, part_of}
 use Rattle.redo_html.specs.declared.piece.Piece.TheVariants as piece
@@ -34,11 +35,24 @@ rows =
     ∷ row (TitlePart (codes "</title>" ++ 1 ∷ []) ∷ []) (codes "<title>&lt;/title&gt;^A</title>")
     ∷ row (MarkupPart Policy ∷ []) (codes
     "<meta http-equiv=\"Content-Security-Policy\" content=\"default-src 'none'; style-src 'unsafe-inline'\">")
+    ∷ row
+    (MarkupPart Doctype ∷ MarkupPart Html ∷ MarkupPart Head ∷ TitlePart (codes "a < b" ++ (255 ∷ []) ++ codes "</title>") ∷ MarkupPart EndHead
+    ∷ MarkupPart BodyBad ∷ MarkupPart Title1 ∷ NumberPart 2 ∷ TextPart (codes " of ") ∷ NumberPart 0xFFFFFFFFFFFFFFFF
+    ∷ TextPart (codes " failed") ∷ MarkupPart EndTitle1 ∷ MarkupPart (OpenDetails 0) ∷ MarkupPart Summary ∷ MarkupPart Bdi
+    ∷ TextPart (codes "<a.o>") ∷ MarkupPart EndBdi ∷ MarkupPart EndSummary ∷ MarkupPart Pre
+    ∷ LogPart plain_style ((10 ∷ 27 ∷ []) ++ codes "[31ma&b") ∷ MarkupPart EndPre
+    ∷ LogPart (record { bold = false; hue = Green }) ((27 ∷ []) ++ codes "[1") ∷ LogPart plain_style (codes "c") ∷ MarkupPart EndDetails
+    ∷ MarkupPart (TargetLink 12) ∷ MarkupPart EndLink ∷ MarkupPart (Article 7) ∷ MarkupPart EndArticle ∷ MarkupPart EndBody
+    ∷ MarkupPart EndHtml ∷ [])
+    (codes "<!doctype html><html lang=\"en\"><head><title>a &lt; b\\xff&lt;/title&gt;</title></head><body class=\"bad\">"
+    ++ codes "<h1>2 of 18446744073709551615 failed</h1><details open id=\"t0\"><summary><bdi>&lt;a.o&gt;</bdi></summary><pre>\n\n"
+    ++ codes "<span class=\"r\">a&amp;b</span></pre><span class=\"g\"><i>^[</i>[1</span>c</details><a href=\"#t12\"></a>"
+    ++ codes "<article id=\"f7\"></article></body></html>")
     ∷ []
 
 written_are : AllByRecursion (λ r. flat_map part_html r.parts ≡ r.html) rows
 unfolding symbols_after first_symbol symbol_len is_sequence sequence_len sequence_numbers first_code_point code_point_len is_unprintable notation unprintable_text number_text encode_utf8 digits passage_html
-written_are = (refl, (refl, (refl, (refl, (refl, (refl, (refl, tt)))))))
+written_are = (refl, (refl, (refl, (refl, (refl, (refl, (refl, (refl, tt))))))))
 
 style_is_an_element : take 7 (part_html StylePart) ≡ codes "<style>"
 unfolding style_sheet

@@ -1,9 +1,5 @@
-//! The HTML of texts and of pages.
-mod cases;
+//! The HTML of charts.
 mod chart;
-mod lines;
-mod page;
-mod text;
 
 use crate::expect::expect_bytes;
 use redo_device::Broken;

@@ -7,8 +7,6 @@ mod chart;
 #[cfg(test)]
 mod compare;
 #[cfg(test)]
-mod diagnostics;
-#[cfg(test)]
 mod expect;
 #[cfg(test)]
 mod facts;
@@ -26,7 +24,3 @@ mod texts;
 mod timeline;
 #[cfg(test)]
 mod times;
-#[cfg(test)]
-mod trim;
-#[cfg(test)]
-mod units;

@@ -1,5 +1,5 @@
 -- Rows of trimmed events, of gauges, and of the form that writes the events.
-use Rattle.std.proofs.Common.{◌≡◌, ℕ, ◌+◌, List, [], ◌∷◌, None, Some, Bor, pos, refl}
+use Rattle.std.proofs.Common.{◌≡◌, ℕ, ◌+◌, List, [], ◌∷◌, ◌++◌, map, None, Some, Bor, pos, refl}
 use Rattle.std.specs.Prelude.{codes}
 use Rattle.redo_line.specs.declared.entry.Entry.TheVariants.{Text, Closing, Note}
 use Rattle.redo_line.specs.declared.entry.How.TheVariants.{Made}
@@ -127,6 +127,23 @@ one_log : trimmed (limit 6 20 ∷ []) [] events
     ∷ text (codes "a four") ∷ LogEnds 1 ∷ []
 one_log = refl
 
+-- There is no head, and the second log has no limit.
+no_head : trimmed (limit 0 20 ∷ []) [] events
+    ≡ Requested (codes "a") (OpensHere 0) ∷ marker 1 ∷ Mentioned 1 9 Made (codes "b") (OpensHere 1) ∷ lines (codes "b one")
+    ∷ lines (codes "b two")
+    ∷ EntryShown 2 (Note 9 (codes "check") (codes "n")) ∷ lines (codes "b three") ∷ lines (codes "b four") ∷ LogEnds 2
+    ∷ text (codes "a four") ∷ LogEnds 1 ∷ []
+no_head = refl
+
+-- Logs are requested in another order. Each has the limit of its number.
+other_order :
+    trimmed (limit 5 12 ∷ limit 6 13 ∷ []) []
+    (Requested (codes "b") (OpensHere 1) ∷ text (codes "b one") ∷ text (codes "b two") ∷ text (codes "b") ∷ LogEnds 1
+    ∷ Requested (codes "a") (OpensHere 0) ∷ text (codes "a one") ∷ text (codes "a two") ∷ text (codes "a") ∷ LogEnds 1 ∷ [])
+    ≡ Requested (codes "b") (OpensHere 1) ∷ text (codes "b one") ∷ marker 1 ∷ LogEnds 1
+    ∷ Requested (codes "a") (OpensHere 0) ∷ marker 1 ∷ text (codes "a") ∷ LogEnds 1 ∷ []
+other_order = refl
+
 tree :
     trim limits [] (contents_of events)
     ≡ Opened (Requested (codes "a") (OpensHere 0)) 0
@@ -166,6 +183,32 @@ parts :
     × (tail_lines (limit 8 15) five ≡ codes "five" ∷ []) × (tail_lines (limit 8 25) five ≡ []) × (left_out (limit 8 8) five ≡ [])
     × (tail_lines (limit 8 4) five ≡ codes "three" ∷ codes "four" ∷ codes "five" ∷ [])
 parts = (refl, refl, refl, refl, refl, refl, refl, refl, refl, refl, refl)
+
+-- ---- one log whose lines are these
+
+abbrev log_with : List Event → List Event
+log_with shown = Requested (codes "a") (OpensHere 0) ∷ (shown ++ LogEnds 1 ∷ [])
+
+abbrev whole : List Event
+whole = log_with (map text five)
+
+abbrev trimmed_to : ℕ → ℕ → List Event
+trimmed_to head tail = trimmed (limit head tail ∷ []) [] whole
+
+-- The head ends and the tail begins with a line; they end and begin in a line; one line is left out; there is no head; there is no tail.
+cut_logs :
+    (trimmed_to 8 19 ≡ log_with (text (codes "one") ∷ text (codes "two") ∷ marker 1 ∷ text (codes "five") ∷ []))
+    × (trimmed_to 7 15 ≡ log_with (text (codes "one") ∷ marker 1 ∷ text (codes "five") ∷ []))
+    × (trimmed_to 8 14 ≡ log_with (text (codes "one") ∷ text (codes "two") ∷ marker 1 ∷ text (codes "four") ∷ text (codes "five") ∷ []))
+    × (trimmed_to 0 19 ≡ log_with (marker 1 ∷ text (codes "five") ∷ []))
+    × (trimmed_to 8 24 ≡ log_with (text (codes "one") ∷ text (codes "two") ∷ marker 1 ∷ []))
+cut_logs = (refl, refl, refl, refl, refl)
+
+-- Nothing is left out: there are no bytes between them, the head has all lines, or there is no limit.
+whole_logs :
+    (trimmed_to 8 8 ≡ whole) × (trimmed_to 8 4 ≡ whole) × (trimmed_to 24 24 ≡ whole)
+    × (trimmed_to 0xFFFFFFFFFFFFFFFF 0xFFFFFFFFFFFFFFFF ≡ whole) × (trimmed_to 0 0 ≡ whole) × (trimmed [] [] whole ≡ whole)
+whole_logs = (refl, refl, refl, refl, refl, refl)
 
 lines_of_logs : lines_in (contents_of
     (text (codes "x") ∷ Mentioned 1 9 Made [] (OpensHere 1) ∷ lines (codes "y") ∷ LogEnds 2 ∷ EntryShown 1 (Closing 9 (pos 0))

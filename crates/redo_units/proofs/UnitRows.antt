@@ -25,8 +25,9 @@ words :
     × (words_text (NumberWord 0 ∷ NumberWord 5 ∷ TextWord (codes " s") ∷ []) ≡ codes "05 s")
     × (words_text (NumberWord 18446744073709551615 ∷ []) ≡ codes "18446744073709551615")
     × (words_text (NumberWord 18446744073709551616 ∷ []) ≡ [])
+    × (words_text (NumberWord 18446744073709551615 ∷ TextWord (codes " x") ∷ []) ≡ codes "18446744073709551615 x")
 unfolding decimal_text digits
-words = (refl, refl, refl, refl, refl)
+words = (refl, refl, refl, refl, refl, refl)
 
 abbrev durations : List Row
 durations =
