@@ -4,6 +4,7 @@ import re
 import tempfile
 
 import json_reading
+from checks import contents
 from command import run, write
 from facts_model import Facts, facts_of
 from model import index_of
@@ -63,6 +64,14 @@ FACTS = [
         ],
     ),
 ]
+
+
+def rows_of_document():
+    """The rows of the table of docs/format.md, each with the bytes of a file and the facts of the target `a`, which has number 7."""
+    heading = r"^Contents \| Facts of the target `a`, which has number 7\n---\|---\n"
+    for row in re.search(heading + r"((?:.+\n)+)", contents("docs/format.md"), re.M)[1].splitlines():
+        data, wanted = row.split(" | ")
+        yield row, b"" if data == "none" else data.strip("`").replace("\\n", "\n").encode(), wanted
 
 
 def files_of(names, data):

@@ -10,9 +10,9 @@ TIMES = [
     (
         "a build, with the output of its recipes",
         [
-            (b"all", b"@@REDO:do:7:1700000000.0001@@ all\n@@REDO:do:7:1700000000.5@@ d/a\nmake: text\n@@REDO:unchanged:7:1700000000.6@@ d/x\n"
-             b"@@REDO:done:7:1700000003.0199@@ 0 d/a\n@@REDO:do:7:1700000003.25@@ b\n@@REDO:done:7:1700000005@@ 2 b\n"
-             b"@@REDO:done:7:1700000005.123456789@@ 1 all\n"),
+            (b"all", b"@@REDO:do:7:1700000000.0001@@ all\n@@REDO:do:7:1700000000.5@@ d/a\nmake: text\n"
+             b"@@REDO:unchanged:7:1700000000.6@@ d/x\n@@REDO:done:7:1700000003.0199@@ 0 d/a\n@@REDO:do:7:1700000003.25@@ b\n"
+             b"@@REDO:done:7:1700000005@@ 2 b\n@@REDO:done:7:1700000005.123456789@@ 1 all\n"),
             (b"d/a", b"a.c:1: warning\n@@REDO:do:8:1700000001@@ ../b\n@@REDO:do:8:1700000001.75@@ x\n@@REDO:done:8:1700000002.9@@ 0 a\n"),
             (b"b", b"b.c:1: error\n"),
             (b"d/x", b""),
@@ -65,15 +65,20 @@ def words_for(logs):
 
 
 def told_times(out):
-    """When each target began and ended, as the JSON says."""
+    """When each target began and ended, as its object says."""
     return {one["target"]: (one["start_ms"], one["end_ms"]) for one in json_reading.read(out)}
+
+
+def times_of(logs, times):
+    """The times by the targets."""
+    return dict(zip((target for target, _ in logs), times))
 
 
 def expect_times(checks, program):
     for what, logs, times in TIMES:
         with tempfile.TemporaryDirectory() as folder:
             write(folder, files_of(logs))
-            words, wanted = words_for(logs), dict(zip((target for target, _ in logs), times))
+            words, wanted = words_for(logs), times_of(logs, times)
             results = ("the model", json_model.expected(folder, words)), ("the program", run(program, folder, words))
             for who, (status, out, message) in results:
                 checks.expect(f"{who}: times: {what}", (status, told_times(out), message), (0, wanted, b""))
