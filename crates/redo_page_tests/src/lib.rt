@@ -5,13 +5,9 @@
 #[cfg(test)]
 mod chart;
 #[cfg(test)]
-mod compare;
-#[cfg(test)]
 mod diagnostics;
 #[cfg(test)]
 mod expect;
-#[cfg(test)]
-mod facts;
 #[cfg(test)]
 mod gathered;
 #[cfg(test)]
@@ -24,8 +20,6 @@ mod summary;
 mod texts;
 #[cfg(test)]
 mod timeline;
-#[cfg(test)]
-mod times;
 #[cfg(test)]
 mod trim;
 #[cfg(test)]
