@@ -2,6 +2,8 @@
 import errno
 import os
 import re
+import resource
+import signal
 import stat
 import subprocess
 import tempfile
@@ -138,6 +140,29 @@ def expect_devices(checks, program, html_program):
             found = way(program, folder)
             checks.expect(what, found, like(way(html_program, folder)))
             checks.expect(f"{what}: status and message", (found[0], found[2][: len(CANNOT_WRITE)]), (6, CANNOT_WRITE))
+
+
+def into_limited_file(program, folder, words, most):
+    """Runs the program with a file as standard output that may have so many bytes. Returns the status, the bytes and the message."""
+
+    def limit():
+        signal.signal(signal.SIGXFSZ, signal.SIG_IGN)
+        resource.setrlimit(resource.RLIMIT_FSIZE, (most, most))
+
+    with tempfile.TemporaryFile() as out:
+        done = subprocess.run([program, *words], cwd=folder, stdout=out, stderr=subprocess.PIPE, timeout=MOST_SECONDS, preexec_fn=limit)
+        out.seek(0)
+        return done.returncode, out.read(), done.stderr
+
+
+def expect_prefixes(checks, program, files, words, text):
+    """Wherever a write fails, the bytes before it are written. `text` is the JSON of these files."""
+    with tempfile.TemporaryDirectory() as folder:
+        write(folder, files)
+        for most in range(len(text)):
+            found = into_limited_file(program, folder, words, most)
+            checks.expect(f"room for {most} bytes", found, (6, text[:most], CANNOT_WRITE))
+        checks.expect("room for all bytes", into_limited_file(program, folder, words, len(text)), (0, text, b""))
 
 
 # ---- output files ----------------------------------------------------------------------------------------------------

@@ -1,8 +1,8 @@
 """Captures whose JSON was written by hand, and diagnostics that were worked out by hand, from the rules alone."""
 
 
-def record(kind, text, time="1"):
-    return b"@@REDO:%s:7:%s@@ %s\n" % (kind.encode(), time.encode(), text if isinstance(text, bytes) else text.encode())
+def record(kind, text, time="1", pid=7):
+    return b"@@REDO:%s:%d:%s@@ %s\n" % (kind.encode(), pid, time.encode(), text if isinstance(text, bytes) else text.encode())
 
 
 def json(text):
@@ -12,6 +12,30 @@ def json(text):
     return joined.encode() + b"\n"
 
 
+# Since the earlier build, a warning moved, an equal one before it is new, and another one is gone. `a` fails, `b` is fixed, `c` is new.
+REBUILT = {
+    "names": b"1 all\n2 a\n3 b\n4 c\n",
+    "log.1": record("do", "a", pid=5) + record("do", "b", pid=5) + record("do", "c", pid=5) + record("done", "2 all", pid=5),
+    "log.2": b"a.c:1:5: warning: x\n    1 | int h;\na.c:7:5: warning: x\n    7 | int i;\n" + record("done", "1 a", pid=6),
+    "log.3": record("done", "0 b"),
+    "log.4": b"error: \xff\n",
+}
+# A build whose JSON is short, in the form of the table below.
+SMALL = (
+    "a beginning without an end, names that are no UTF-8, and facts of another log",
+    {
+        "names": b"1 all\n",
+        "log.1": b"caf\xe9\n" + record("do", b"x\xff") + record("unchanged", "y", pid=8) + record("waiting", b"x\xff")
+        + record("locked", "y") + record("done", "0 z") + record("do", "all", "1000000000"),
+        "facts": b"1 log other\n1 directory /d\n",
+    },
+    [b"--", b"all"],
+    json("""
+{"target":"all","parent":null,"status":null,"start_ms":1000000000000,"end_ms":null,"cpu_ms":null,"peak_kb":null,"directory":null,
+ "commands":[],"needs":["x\ufffd","y"],"needs_base64":{"0":"eP8="},"lines":["caf\ufffd"],"lines_base64":{"0":"Y2Fm6Q=="},"diagnostics":[],
+ "baseline":null}
+"""),
+)
 # What it shows, the files, the words, and the JSON.
 BUILDS = [
     (
@@ -269,6 +293,121 @@ BUILDS = [
 {"target":"all","parent":null,"status":1,UNKNOWN,"needs":[],"lines":["error: y","error: y"],"diagnostics":[
  {"line":0,"severity":"error","file":null,"row":null,"column":null,"message":"y","flag":null,"key":": error: y","nth":0,"new":false},
  {"line":1,"severity":"error","file":null,"row":null,"column":null,"message":"y","flag":null,"key":": error: y","nth":1,"new":false}],
+ "baseline":{"built":true,"gone":0,"newly_fails":false,"fixed":false}}
+"""),
+    ),
+    (
+        "a compiler's error below a target without times",
+        {
+            "names": b"1 all\n2 file.o\n",
+            "log.1": record("do", "file.o") + record("done", "1 file.o") + record("done", "1 all"),
+            "log.2": record("do", "file.o", "1795869824.764")
+            + "file.c: In function ‘f’:\nfile.c:870:38: error: expected ‘;’ before ‘}’ token\n".encode()
+            + record("done", "1 file.o", "1795869826.162"),
+            "facts": b"2 log file.o\n2 directory .\n2 command gcc .. -c -o file.o file.c\n2 usage 60 20 28228\n",
+        },
+        [b"--", b"all"],
+        json("""
+{"target":"all","parent":null,"status":1,UNKNOWN,"needs":["file.o"],EMPTY}
+{"target":"file.o","parent":"all","status":1,"start_ms":1795869824764,"end_ms":1795869826162,"cpu_ms":80,"peak_kb":28228,"directory":".",
+ "commands":["gcc .. -c -o file.o file.c"],"needs":[],"lines":["file.c: In function ‘f’:",
+ "file.c:870:38: error: expected ‘;’ before ‘}’ token"],"diagnostics":[
+ {"line":1,"severity":"error","file":"file.c","row":870,"column":38,"message":"expected ‘;’ before ‘}’ token","flag":null,
+ "key":"file.c: error: expected ‘;’ before ‘}’ token","nth":0,"new":null}],"baseline":null}
+"""),
+    ),
+    SMALL,
+    (
+        "several requested targets, logs in logs, an empty line, a flag that is no UTF-8, and a command that is cut",
+        {
+            "names": b"1 c\n2 a\n3 b\n4 d\n5 e\n",
+            "log.1": record("done", "-2 c", pid=3),
+            "log.2": b"one\n" + record("do", "b") + b"a.c:1:2: warning: x [-Wx]\na.c:9:9: warning: x [-Wx]\nb.c:9: warning: y\n"
+            + b"a.c:3: warning: x [-Wx]\n" + record("do", "c") + record("do", "b"),
+            "log.3": record("do", "d") + record("done", "3 d") + record("do", "a") + record("done", "0 b"),
+            "log.4": b"\xffa: warning: \xfe [\xfd]\nwarning: b\n\n",
+            "log.5": b"fatal error: all is lost\n",
+            "facts": b"2 log a\n2 directory x\n2 usage 1 2 3\n2 command cc\n2 more x\n2 truncated cut\n2 command \n"
+            b"2 usage 999999999999998 1 7\n2 directory d e\n",
+        },
+        [b"--", b"d", b"a", b"b", b"e"],
+        json("""
+{"target":"d","parent":null,"status":3,UNKNOWN,"needs":[],"lines":["\ufffda: warning: \ufffd [\ufffd]","warning: b",""],
+ "lines_base64":{"0":"/2E6IHdhcm5pbmc6IP4gW/1d"},"diagnostics":[
+ {"line":0,"severity":"warning","file":null,"row":null,"column":null,"message":"\ufffd","message_base64":"/g==","flag":"\ufffd",
+ "flag_base64":"/Q==","key":"\ufffda: warning: \ufffd [\ufffd]","key_base64":"/2E6IHdhcm5pbmc6IP4gW/1d","nth":0,"new":null},
+ {"line":1,"severity":"warning","file":null,"row":null,"column":null,"message":"b","flag":null,"key":": warning: b","nth":0,"new":null}],
+ "baseline":null}
+{"target":"a","parent":null,"status":null,"start_ms":null,"end_ms":null,"cpu_ms":999999999999999,"peak_kb":7,"directory":"d e",
+ "commands":["cc\\nx",""],"needs":["b","c"],"lines":["one","a.c:1:2: warning: x [-Wx]","a.c:9:9: warning: x [-Wx]","b.c:9: warning: y",
+ "a.c:3: warning: x [-Wx]"],"diagnostics":[
+ {"line":1,"severity":"warning","file":"a.c","row":1,"column":2,"message":"x","flag":"-Wx","key":"a.c: warning: x [-Wx]","nth":0,
+ "new":null},
+ {"line":2,"severity":"warning","file":"a.c","row":9,"column":9,"message":"x","flag":"-Wx","key":"a.c: warning: x [-Wx]","nth":1,
+ "new":null},
+ {"line":3,"severity":"warning","file":"b.c","row":9,"column":null,"message":"y","flag":null,"key":"b.c: warning: y","nth":0,"new":null},
+ {"line":4,"severity":"warning","file":"a.c","row":3,"column":null,"message":"x","flag":"-Wx","key":"a.c: warning: x [-Wx]","nth":2,
+ "new":null}],"baseline":null}
+{"target":"b","parent":"a","status":0,UNKNOWN,"needs":["d","a"],EMPTY}
+{"target":"c","parent":"a","status":-2,UNKNOWN,"needs":[],EMPTY}
+{"target":"e","parent":null,"status":null,UNKNOWN,"needs":[],"lines":["fatal error: all is lost"],"diagnostics":[
+ {"line":0,"severity":"fatal error","file":null,"row":null,"column":null,"message":"all is lost","flag":null,
+ "key":": fatal error: all is lost","nth":0,"new":null}],"baseline":null}
+"""),
+    ),
+    (
+        "a carriage return and a tab in a target that needed no rebuild",
+        {"names": b"1 a\n2 b\n", "log.1": record("unchanged", "b"), "log.2": b"x\r\n\ty\n"},
+        [b"--", b"a"],
+        json('{"target":"a","parent":null,"status":null,UNKNOWN,"needs":["b"],EMPTY}'),
+    ),
+    (
+        "the same with -u",
+        {"names": b"1 a\n2 b\n", "log.1": record("unchanged", "b"), "log.2": b"x\r\n\ty\n"},
+        [b"-u", b"--", b"a"],
+        json("""
+{"target":"a","parent":null,"status":null,UNKNOWN,"needs":["b"],EMPTY}
+{"target":"b","parent":"a","status":null,UNKNOWN,"needs":[],"lines":["x\\r","\\ty"],"diagnostics":[],"baseline":null}
+"""),
+    ),
+    (
+        "a baseline: a warning that moved below a new one with its key, a failing, a fixed and a new target",
+        {
+            **REBUILT,
+            "before": None,
+            "before/names": b"1 gone\n2 b\n3 a\n4 all\n",
+            "before/log.1": b"error: nobody builds this\n" + record("done", "1 gone", pid=2),
+            "before/log.2": b"b.c:1: error: z\n" + record("done", "2 b", pid=3),
+            "before/log.3": b"a.c:1:5: warning: x\n    1 | int i;\na.c:2:5: warning: y\n" + record("done", "0 a", pid=4),
+            "before/log.4": record("do", "a", pid=5) + record("do", "b", pid=5) + record("done", "2 all", pid=5),
+        },
+        [b"--baseline=before", b"--", b"all"],
+        json("""
+{"target":"all","parent":null,"status":2,UNKNOWN,"needs":["a","b","c"],"lines":[],"diagnostics":[],"baseline":{"built":true,"gone":0,
+ "newly_fails":false,"fixed":false}}
+{"target":"a","parent":"all","status":1,UNKNOWN,"needs":[],"lines":["a.c:1:5: warning: x","    1 | int h;","a.c:7:5: warning: x",
+ "    7 | int i;"],"diagnostics":[
+ {"line":0,"severity":"warning","file":"a.c","row":1,"column":5,"message":"x","flag":null,"key":"a.c: warning: x","nth":0,"new":true},
+ {"line":2,"severity":"warning","file":"a.c","row":7,"column":5,"message":"x","flag":null,"key":"a.c: warning: x","nth":1,"new":false}],
+ "baseline":{"built":true,"gone":1,"newly_fails":true,"fixed":false}}
+{"target":"b","parent":"all","status":0,UNKNOWN,"needs":[],"lines":[],"diagnostics":[],"baseline":{"built":true,"gone":1,
+ "newly_fails":false,"fixed":true}}
+{"target":"c","parent":"all","status":null,UNKNOWN,"needs":[],"lines":["error: \ufffd"],"lines_base64":{"0":"ZXJyb3I6IP8="},
+ "diagnostics":[
+ {"line":0,"severity":"error","file":null,"row":null,"column":null,"message":"\ufffd","message_base64":"/w==","flag":null,
+ "key":": error: \ufffd","key_base64":"OiBlcnJvcjog/w==","nth":0,"new":true}],"baseline":{"built":false,"gone":0,"newly_fails":false,
+ "fixed":false}}
+"""),
+    ),
+    (
+        "a baseline with the same logs",
+        REBUILT,
+        [b"-u", b"--baseline=.", b"--", b"a"],
+        json("""
+{"target":"a","parent":null,"status":1,UNKNOWN,"needs":[],"lines":["a.c:1:5: warning: x","    1 | int h;","a.c:7:5: warning: x",
+ "    7 | int i;"],"diagnostics":[
+ {"line":0,"severity":"warning","file":"a.c","row":1,"column":5,"message":"x","flag":null,"key":"a.c: warning: x","nth":0,"new":false},
+ {"line":2,"severity":"warning","file":"a.c","row":7,"column":5,"message":"x","flag":null,"key":"a.c: warning: x","nth":1,"new":false}],
  "baseline":{"built":true,"gone":0,"newly_fails":false,"fixed":false}}
 """),
     ),

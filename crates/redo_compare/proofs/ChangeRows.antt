@@ -13,13 +13,13 @@ abbrev other : ℕ → OccurrenceValue
 other line = record { line = line; severity = Warning; key = codes "j"; source = codes "s" }
 
 these_new : (new_in_target (Some (one 0 ∷ [])) (Some (one 1 ∷ other 2 ∷ [])) ≡ other 2 ∷ [])
-    × (new_in_target None (Some (one 1 ∷ [])) ≡ one 1 ∷ [])
-    × (new_in_target (Some (one 0 ∷ [])) None ≡ []) × (new_in_target None None ≡ [])
+    × (new_in_target None (Some (one 1 ∷ other 2 ∷ [])) ≡ one 1 ∷ other 2 ∷ [])
+    × (new_in_target (Some (one 0 ∷ other 1 ∷ [])) None ≡ []) × (new_in_target None None ≡ [])
 these_new = (refl, refl, refl, refl)
 
 these_gone : (gone_in_target (Some (one 1 ∷ other 2 ∷ [])) (Some (one 0 ∷ [])) ≡ other 2 ∷ [])
-    × (gone_in_target (Some (one 1 ∷ [])) None ≡ [])
-    × (gone_in_target (Some (one 1 ∷ [])) (Some []) ≡ one 1 ∷ []) × (gone_in_target None (Some (one 1 ∷ [])) ≡ [])
+    × (gone_in_target (Some (one 1 ∷ other 2 ∷ [])) None ≡ [])
+    × (gone_in_target (Some (one 1 ∷ [])) (Some []) ≡ one 1 ∷ []) × (gone_in_target None (Some (one 1 ∷ other 2 ∷ [])) ≡ [])
 these_gone = (refl, refl, refl, refl)
 
 these_counts : (key_count (codes "k") (one 0 ∷ other 1 ∷ one 2 ∷ []) ≡ 2) × (key_count (codes "x") (one 0 ∷ []) ≡ 0)

@@ -60,3 +60,13 @@ these_flags : (are_new earlier logs 0 ≡ true ∷ []) × (are_new earlier logs 
     × (are_new earlier logs 2 ≡ false ∷ []) × (are_new earlier logs 3 ≡ [])
 unfolding after_prefix split_once number is_sequence sequence_len plain_after first_place place_of before_bracket split_flag masked_after diagnostic_of source_of
 these_flags = (refl, refl, refl, refl)
+
+-- A log that doesn't exist, also in a build without logs.
+these_of_none : (gone_in_log earlier logs 3 ≡ []) × (earlier_number earlier [] 0 ≡ None) × (are_new earlier [] 0 ≡ [])
+    × (gone_in_log earlier [] 0 ≡ []) × (earlier_number earlier earlier 3 ≡ None) × (are_new earlier earlier 3 ≡ [])
+    × (gone_in_log earlier earlier 3 ≡ []) × (earlier_number [] earlier 3 ≡ None) × (are_new [] earlier 3 ≡ [])
+    × (gone_in_log [] earlier 3 ≡ []) × (earlier_number (log (codes "a") (x ∷ []) ∷ []) (log (codes "a") (y ∷ []) ∷ []) 1 ≡ None)
+    × (are_new (log (codes "a") (x ∷ []) ∷ []) (log (codes "a") (y ∷ []) ∷ []) 1 ≡ [])
+    × (gone_in_log (log (codes "a") (x ∷ []) ∷ []) (log (codes "a") (y ∷ []) ∷ []) 1 ≡ [])
+unfolding after_prefix split_once number is_sequence sequence_len plain_after first_place place_of before_bracket split_flag masked_after diagnostic_of source_of
+these_of_none = (refl, refl, refl, refl, refl, refl, refl, refl, refl, refl, refl, refl, refl)

@@ -150,11 +150,12 @@ rows =
     values a None None (b ∷ []) []
     ∷ values b (Some a) None [] []
     ∷ []) ∷
+    row (asks true [] []) (log a (Mention 1 Unchanged b ∷ []) ∷ log b (Text (codes "x" ++ 13 ∷ []) ∷ Text (9 ∷ codes "y") ∷ []) ∷ []) [] [] ∷
     []
 
 these_values : AllByRecursion (λ r. build_values r.request r.logs r.requested ≡ r.values) rows
 unfolding show_log show_log_within
-these_values = (refl, (refl, (refl, (refl, (refl, (refl, (refl, tt)))))))
+these_values = (refl, (refl, (refl, (refl, (refl, (refl, (refl, (refl, tt))))))))
 
 -- ---- builds with a baseline
 

@@ -5,11 +5,8 @@
 #[cfg(test)]
 mod chart;
 #[cfg(test)]
-mod compare;
 #[cfg(test)]
 mod expect;
-#[cfg(test)]
-mod facts;
 #[cfg(test)]
 mod gathered;
 #[cfg(test)]
@@ -23,4 +20,3 @@ mod texts;
 #[cfg(test)]
 mod timeline;
 #[cfg(test)]
-mod times;
