@@ -17,8 +17,6 @@ mod gathered;
 #[cfg(test)]
 mod html;
 #[cfg(test)]
-mod outline;
-#[cfg(test)]
 mod summary;
 #[cfg(test)]
 mod texts;
