@@ -3,8 +3,6 @@
 #![tactic(auto)]
 
 #[cfg(test)]
-mod chart;
-#[cfg(test)]
 mod compare;
 #[cfg(test)]
 mod diagnostics;
@@ -17,11 +15,7 @@ mod gathered;
 #[cfg(test)]
 mod html;
 #[cfg(test)]
-mod summary;
-#[cfg(test)]
 mod texts;
-#[cfg(test)]
-mod timeline;
 #[cfg(test)]
 mod times;
 #[cfg(test)]
