@@ -3,7 +3,7 @@ use Rattle.std.proofs.Common.{◌≡◌, ℕ, Bool, true, false, List, [], ◌�
 use Rattle.std.specs.Char.{encode_utf8}
 use Rattle.std.specs.Prelude.{bytes_eq, codes, map}
 use Rattle.std.specs.Fmt.{digits}
-use Rattle.std.specs.List.{AllByRecursion, list_all, list_any}
+use Rattle.std.specs.List.{AllByRecursion, flat_map, list_all, list_any}
 use Rattle.redo_html.specs.declared.chart.Anchor.TheVariants as anchor
 use Rattle.redo_html.specs.declared.chart.Chart.{Chart}
 use Rattle.redo_html.specs.declared.chart.ChartGroup.{ChartGroup}
@@ -11,7 +11,7 @@ use Rattle.redo_html.specs.declared.chart.ChartItem.{ChartItem}
 use Rattle.redo_html.specs.declared.chart.ChartItem.TheVariants as item
 use Rattle.redo_html.specs.declared.chart.GroupKind.{GroupKind}
 use Rattle.redo_html.specs.declared.chart.GroupKind.TheVariants.{Axis, Callers, Recipes, Untimed}
-use Rattle.redo_html.specs.declared.markup.Markup.TheVariants.{EndCell}
+use Rattle.redo_html.specs.declared.markup.Markup.TheVariants.{EndCell, EndDiv, MeterCell, TimelineScroll}
 use Rattle.redo_html.specs.declared.piece.Piece.TheVariants as piece
 use Rattle.redo_html.specs.Chart.{Drawing, drawing_links, drawing_of, lanes_word, layer_nodes, layer_of, nodes_html, percent_text, shape_nodes, shape_of}
 use Rattle.redo_html.specs.Html.{start_name, svg_elements, tags_of}
@@ -128,12 +128,16 @@ row part html = record { part = part; html = html }
 
 abbrev rows : List Row
 rows =
-    row (part_of (piece.Chart (chart 5 1 [])))
+    row (part_of (piece.Chart (chart 0 1 [])))
+    (codes "<svg role=\"img\" aria-label=\"A bar for each target, from its start to its end, in 1 lane\" width=\"100%\" height=\"0\" font-size=\"11\"></svg>")
+    ∷ row (part_of (piece.Chart (chart 5 1 [])))
     (codes "<svg role=\"img\" aria-label=\"A bar for each target, from its start to its end, in 1 lane\" width=\"100%\" height=\"5\" font-size=\"11\"></svg>")
     ∷ row (part_of (piece.Chart (chart 6 0 [])))
     (codes "<svg role=\"img\" aria-label=\"A bar for each target, from its start to its end, in 0 lanes\" width=\"100%\" height=\"6\" font-size=\"11\"></svg>")
     ∷ row (part_of (piece.Chart (chart 7 8 (group Callers [] ∷ group Untimed [] ∷ []))))
     (codes "<svg role=\"img\" aria-label=\"A bar for each target, from its start to its end, in 8 lanes\" width=\"100%\" height=\"7\" font-size=\"11\"><g class=\"w\" fill=\"#8886\"></g><g class=\"e\" fill=\"#8a6d3b\"></g></svg>")
+    ∷ row (part_of (piece.Meter 0)) (codes
+    "<svg width=\"100%\" height=\"10\" aria-hidden=\"true\"><rect width=\"0.00%\" height=\"10\" fill=\"#3a6ea5\"></rect></svg>")
     ∷ row (part_of (piece.Meter 6320)) (codes
     "<svg width=\"100%\" height=\"10\" aria-hidden=\"true\"><rect width=\"63.20%\" height=\"10\" fill=\"#3a6ea5\"></rect></svg>")
     ∷ row (part_of (piece.Meter 5)) (codes
@@ -163,7 +167,24 @@ rows =
 
 written_are : AllByRecursion (λ r. part_html r.part ≡ r.html) rows
 unfolding symbols_after first_symbol symbol_len is_sequence sequence_len sequence_numbers first_code_point code_point_len is_unprintable notation unprintable_text number_text encode_utf8 digits passage_html
-written_are = (refl, (refl, (refl, (refl, (refl, (refl, (refl, tt)))))))
+written_are = (refl, (refl, (refl, (refl, (refl, (refl, (refl, (refl, (refl, tt)))))))))
+
+-- A meter in a cell of a table, and a chart that can be scrolled.
+pieces_are :
+    flat_map part_html (map part_of (piece.Markup MeterCell ∷ piece.Meter 5 ∷ piece.Markup EndCell ∷ piece.Markup TimelineScroll
+    ∷ piece.Chart (chart 20 1 (group Untimed (
+    bar 18446744073709551615 9999 90 10 14 false (codes "e") None
+    ∷ bar 13 0 90 350 14 false (codes "f") (Some (at (codes "f"))) ∷ []) ∷ []))
+    ∷ piece.Markup EndDiv ∷ []))
+    ≡ codes "<td class=\"m\"><svg width=\"100%\" height=\"10\" aria-hidden=\"true\"><rect width=\"0.05%\" height=\"10\" fill=\"#3a6ea5\"></rect></svg></td>"
+    ++ codes "<div class=\"scroll\" tabindex=\"0\" role=\"region\" aria-labelledby=\"h-timeline\">"
+    ++ codes "<svg role=\"img\" aria-label=\"A bar for each target, from its start to its end, in 1 lane\" width=\"100%\" height=\"20\" font-size=\"11\">"
+    ++ codes "<g class=\"e\" fill=\"#8a6d3b\"><a href=\"#t18446744073709551615\" tabindex=\"-1\">"
+    ++ codes "<rect x=\"99.99%\" y=\"90\" width=\"0.10%\" height=\"14\"><title>e</title></rect></a><a href=\"#t13\" tabindex=\"-1\">"
+    ++ codes "<svg x=\"0.00%\" y=\"90\" width=\"3.50%\" height=\"14\"><title>f</title><rect width=\"100%\" height=\"14\"></rect>"
+    ++ codes "<text x=\"4\" y=\"9\" fill=\"#fff\">f</text></svg></a></g></svg></div>"
+unfolding symbols_after first_symbol symbol_len is_sequence sequence_len sequence_numbers first_code_point code_point_len is_unprintable notation unprintable_text number_text encode_utf8 digits passage_html
+pieces_are = refl
 
 -- A reader sees the ticks, the tooltips and the labels.
 texts_are : (part_text (part_of (piece.Chart full))

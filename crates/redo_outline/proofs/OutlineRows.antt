@@ -1,9 +1,9 @@
 -- Rows of outlines, of the tree that they are made from, and of the facts in them.
-use Rattle.std.proofs.Common.{◌≡◌, ℕ, Bool, true, false, List, [], ◌∷◌, Option, None, Some, ℤ, pos, negsuc, map, refl}
-use Rattle.std.specs.Prelude.{codes}
+use Rattle.std.proofs.Common.{◌≡◌, ℕ, ◌==◌, Bool, true, false, List, [], ◌∷◌, ◌++◌, Option, None, Some, ℤ, pos, negsuc, map, refl}
+use Rattle.std.specs.Prelude.{codes, position}
 use Rattle.redo_line.specs.declared.entry.Entry.{Entry}
 use Rattle.redo_line.specs.declared.entry.Entry.TheVariants.{Text, Mention, Done, Closing, Note}
-use Rattle.redo_line.specs.declared.entry.How.TheVariants.{Made}
+use Rattle.redo_line.specs.declared.entry.How.TheVariants.{Made, Waiting, Unchanged}
 use Rattle.redo_logs.specs.declared.log_state.LogState.TheVariants.{Ended}
 use Rattle.redo_logs.specs.Logs.{Log}
 use Rattle.redo_options.specs.declared.options.Options.{Options}
@@ -228,6 +228,122 @@ done_between :
     ∷ (3, Some 0, 0, 0, true, false, 0) ∷ []
 unfolding show_log_within show_log
 done_between = refl
+
+-- ---- outlines without recursion
+
+-- The node of a requested target, with its number, its status, and its lines, bytes and warnings. It has no logs in it.
+abbrev lone : ℕ → Option ℤ → ℕ → ℕ → ℕ → Node
+lone number status lines bytes warnings = record {
+  number = number;
+  parent = None;
+  status = status;
+  lines = lines;
+  bytes = bytes;
+  warnings = warnings;
+  below = 0;
+  children = 0;
+  others = true;
+  warnings_below = 0;
+  fails_below = false;
+  silent = 0;
+  took = None;
+  ended = None;
+}
+
+-- `a` is also done in another log, with another status.
+abbrev two_requested : List Log
+two_requested =
+    log (codes "a")
+    (made (codes "b") ∷ made (codes "c") ∷ Text (codes "x.c:1: warning: unused") ∷ Done 9 (negsuc 1) (codes "x") ∷ made (codes "x")
+    ∷ closed (pos 3) ∷ [])
+    ∷ log (codes "b") (Done 9 (pos 1) (codes "a") ∷ Note 9 (codes "check") (codes "a note") ∷ [])
+    ∷ log (codes "c") []
+    ∷ []
+
+shallow_outline :
+    outline_of two_requested (shown_events two_requested (record options { recursive = false; details = false }) (codes "a" ∷ codes "b" ∷ []))
+    ≡ lone 0 (Some (pos 3)) 1 23 1 ∷ lone 1 None 0 0 0 ∷ []
+unfolding show_log_within show_log
+shallow_outline = refl
+
+-- All mentions are shown. `a` is requested twice, and no log around it says how `h` was done.
+abbrev with_locks : List Log
+with_locks =
+    log (codes "a")
+    (made (codes "b") ∷ made (codes "c") ∷ made (codes "d") ∷ made (codes "e") ∷ made (codes "f") ∷ made (codes "g") ∷ made (codes "h")
+    ∷ closed (pos 0) ∷ [])
+    ∷ log (codes "b") []
+    ∷ log (codes "c")
+    (Text (codes "arning:") ∷ Note 9 (codes "check") (codes "a note") ∷ Text (codes "wwarning: warning:") ∷ Done 9 (pos 1) (codes "x")
+    ∷ made (codes "a") ∷ closed (pos 0) ∷ [])
+    ∷ log (codes "d") (Done 9 (pos 0) (codes "g") ∷ made (codes "x") ∷ closed (pos 0) ∷ [])
+    ∷ log (codes "e") (Mention 9 Unchanged (codes "c") ∷ closed (pos 0) ∷ [])
+    ∷ log (codes "f") (Done 9 (pos 1) (codes "g") ∷ Text (codes "note: " ++ 195 ∷ 188 ∷ []) ∷ closed (pos 3) ∷ [])
+    ∷ log (codes "g")
+    (Done 9 (pos 0) (codes "h") ∷ Text (codes "note: " ++ 195 ∷ 188 ∷ []) ∷ Done 9 (pos 1) (codes "x") ∷ Done 9 (pos 1) (codes "h")
+    ∷ Done 9 (negsuc 1) (codes "x") ∷ [])
+    ∷ log (codes "h")
+    (Note 9 (codes "note") (codes "a note") ∷ Text (codes "warning:warning:") ∷ Done 9 (negsuc 1) (codes "x")
+    ∷ Mention 9 Waiting (codes "e")
+    ∷ Text (codes "x.c:1: warning: unused") ∷ [])
+    ∷ []
+
+shallow_locks :
+    outline_of with_locks
+    (shown_events with_locks (record { recursive = false; unchanged = true; details = false; debug_locks = true; debug_pids = false })
+    (codes "a" ∷ codes "h" ∷ codes "a" ∷ []))
+    ≡ lone 0 (Some (pos 0)) 0 0 0 ∷ lone 7 None 2 40 2 ∷ []
+unfolding show_log_within show_log
+shallow_locks = refl
+
+-- `a` mentions itself, `e` has an empty line, and another target is done in `c`.
+abbrev three_requested : List Log
+three_requested =
+    log (codes "a") (Done 9 (pos 1) (codes "b") ∷ made (codes "a") ∷ Text (codes "wwarning: warning:") ∷ [])
+    ∷ log (codes "b") []
+    ∷ log (codes "c") (Done 9 (pos 0) (codes "x") ∷ Note 9 (codes "note") (codes "a note") ∷ [])
+    ∷ log (codes "d") []
+    ∷ log (codes "e") (Text [] ∷ [])
+    ∷ log (codes "f") []
+    ∷ log (codes "g")
+    (made (codes "e") ∷ Text (codes "note: " ++ 195 ∷ 188 ∷ []) ∷ Done 9 (pos 0) (codes "d") ∷ Mention 9 Unchanged (codes "f")
+    ∷ Text (codes "wwarning: warning:")
+    ∷ closed (pos 0) ∷ [])
+    ∷ log (codes "h") (made (codes "x") ∷ Text (codes "arning:") ∷ Done 9 (pos 0) (codes "g") ∷ closed (pos 0) ∷ [])
+    ∷ []
+
+shallow_unchanged :
+    outline_of three_requested
+    (shown_events three_requested (record options { recursive = false; unchanged = true }) (codes "a" ∷ codes "e" ∷ codes "c" ∷ []))
+    ≡ lone 0 None 1 19 1 ∷ lone 4 None 1 1 0 ∷ lone 2 None 0 0 0 ∷ []
+unfolding show_log_within show_log
+shallow_unchanged = refl
+
+-- One target is requested twice.
+abbrev only_mentions : List Log
+only_mentions =
+    log (codes "a") (made (codes "b") ∷ made (codes "c") ∷ made (codes "x") ∷ [])
+    ∷ log (codes "b") []
+    ∷ log (codes "c") (Text (codes "cc -c x.c") ∷ Done 9 (negsuc 1) (codes "x") ∷ Done 9 (pos 0) (codes "x") ∷ [])
+    ∷ []
+
+shallow_mentions :
+    outline_of only_mentions (shown_events only_mentions (record options { recursive = false }) (codes "a" ∷ codes "a" ∷ codes "c" ∷ []))
+    ≡ lone 0 None 0 0 0 ∷ lone 2 None 1 10 0 ∷ []
+unfolding show_log_within show_log
+shallow_mentions = refl
+
+-- The positions of the logs with numbers 0 to 3 in outlines of logs with some of these numbers.
+abbrev positions_of : List ℕ → List (Option ℕ)
+positions_of opened =
+    map (λ (number : ℕ). position (λ (node : Node). node.number == number) (map (λ (own : ℕ). lone own None 0 0 0) opened))
+    (0 ∷ 1 ∷ 2 ∷ 3 ∷ [])
+
+positions :
+    (positions_of (0 ∷ 1 ∷ []) ≡ Some 0 ∷ Some 1 ∷ None ∷ None ∷ []) × (positions_of (0 ∷ 2 ∷ []) ≡ Some 0 ∷ None ∷ Some 1 ∷ None ∷ [])
+    × (positions_of (0 ∷ 4 ∷ 2 ∷ []) ≡ Some 0 ∷ None ∷ Some 2 ∷ None ∷ [])
+    × (positions_of (0 ∷ 7 ∷ []) ≡ Some 0 ∷ None ∷ None ∷ None ∷ [])
+positions = (refl, refl, refl, refl)
 
 -- ---- the tree
 

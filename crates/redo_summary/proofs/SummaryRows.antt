@@ -261,6 +261,41 @@ whole :
     ∷ node 1 (Some 0) None 40 2 ∷ []) (ran 1020 1050 ∷ ended_at 1095 ∷ ran 1050 1090 ∷ ran 1010 1100 ∷ ran 1 9999 ∷ []) ≡ small_build)
 whole = (refl, refl)
 
+-- No target. Then a requested target that failed: it ran two others at once, and one of these failed. Only the end of a third one is
+-- known, and no time of a fourth one.
+other_builds :
+    (summary_of [] [] ≡ record {
+      window = None;
+      took = 0;
+      callers = [];
+      recipes = [];
+      marks = [];
+      sum = 0;
+      most = 0;
+      warnings = 0;
+      bytes = 0;
+      longest = [];
+      alone = [];
+      warned = [];
+    })
+    × (summary_of (node 3 None (Some (pos 1)) 10 0 ∷ node 0 (Some 0) (Some (pos 0)) 20 0 ∷ node 2 (Some 0) (Some (pos 2)) 30 4
+    ∷ node 1 (Some 0) None 40 2 ∷ node 9 (Some 2) None 50 0 ∷ [])
+    (ran 1020 1070 ∷ ended_at 1095 ∷ ran 1050 1090 ∷ ran 1010 1100 ∷ ran 1 9999 ∷ []) ≡ record {
+      window = Some (record { began = 1010; width = 90 });
+      took = 90;
+      callers = failed 0 1010 1100 ∷ [];
+      recipes = span 1 1020 1070 ∷ failed 2 1050 1090 ∷ [];
+      marks = span 3 1095 1095 ∷ [];
+      sum = 90;
+      most = 2;
+      warnings = 6;
+      bytes = 150;
+      longest = rank 50 1 ∷ rank 40 2 ∷ [];
+      alone = rank 30 1 ∷ rank 20 2 ∷ [];
+      warned = rank 4 2 ∷ rank 2 3 ∷ [];
+    })
+other_builds = (refl, refl)
+
 -- A requested target ran two others at once: recipes count in `sum` and `most`, and their caller doesn't.
 overlap :
     summary_of (node 0 None (Some (pos 0)) 10 0 ∷ node 1 (Some 0) (Some (pos 0)) 20 0 ∷ node 2 (Some 0) (Some (pos 0)) 30 0 ∷ [])

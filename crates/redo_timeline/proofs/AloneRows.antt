@@ -53,7 +53,8 @@ within = (refl, refl, refl, refl)
 not_running :
     (times_alone (span 5 5 ∷ []) ≡ 0 ∷ []) × (times_alone (span 9 4 ∷ []) ≡ 0 ∷ [])
     × (times_alone (span 0 10 ∷ span 5 5 ∷ []) ≡ 10 ∷ 0 ∷ []) × (times_alone (span 0 10 ∷ span 9 4 ∷ []) ≡ 10 ∷ 0 ∷ [])
-not_running = (refl, refl, refl, refl)
+    × (times_alone (span 9 4 ∷ span 0 10 ∷ []) ≡ 0 ∷ 10 ∷ [])
+not_running = (refl, refl, refl, refl, refl)
 
 -- Three at once, a chain, and two that follow each other while a third one runs.
 three :

@@ -151,6 +151,24 @@ timelines :
     × (timeline_of window 2 [] ≡ record { bars = []; lane_count = 0 })
 timelines = (refl, refl)
 
+-- Two lanes are allowed; then none, which allows one.
+limited_timelines :
+    (timeline_of window 2 (span 0 0 100 ∷ span 1 10 100 ∷ span 2 20 100 ∷ span 3 30 35 ∷ []) ≡ record {
+      bars = bar 0 0 100 0 1 0 100 false ∷ bar 1 10 90 1 1 10 100 false ∷ bar 1 20 80 2 1 20 100 false ∷ bar 1 30 10 3 1 30 35 false ∷ [];
+      lane_count = 2;
+    })
+    × (timeline_of window 0 (span 0 0 100 ∷ span 1 10 100 ∷ [])
+    ≡ record { bars = bar 0 0 100 0 1 0 100 false ∷ bar 0 10 90 1 1 10 100 false ∷ []; lane_count = 1 })
+limited_timelines = (refl, refl)
+
+-- No span, one that ended before it began, and one that is longer than the window.
+odd_timelines :
+    (timeline_of window 4 [] ≡ record { bars = []; lane_count = 0 })
+    × (timeline_of window 4 (span 0 10 5 ∷ []) ≡ record { bars = bar 0 10 10 0 1 10 5 false ∷ []; lane_count = 1 })
+    × (timeline_of (record { began = 1000; width = 2000 }) 4 (span 0 0 5000 ∷ [])
+    ≡ record { bars = bar 0 0 10000 0 1 0 5000 false ∷ []; lane_count = 1 })
+odd_timelines = (refl, refl, refl)
+
 all_spans : spans_of (((span 0 0 1 ∷ span 1 1 2 ∷ []) ∷ (span 2 3 4 ∷ []) ∷ []) ∷ [] ∷ ((span 3 0 5 ∷ []) ∷ []) ∷ [])
     ≡ span 0 0 1 ∷ span 1 1 2 ∷ span 2 3 4 ∷ span 3 0 5 ∷ []
 all_spans = refl
@@ -211,4 +229,5 @@ most :
     × (most_of (span 0 0 10 ∷ span 1 9 20 ∷ []) ≡ 2) × (most_of (span 0 5 5 ∷ []) ≡ 1)
     × (most_of (span 0 5 5 ∷ span 1 5 5 ∷ []) ≡ 1) × (most_of (span 0 0 10 ∷ span 1 5 5 ∷ []) ≡ 2)
     × (most_of (span 0 5 6 ∷ failed 1 3 7 ∷ span 2 0 10 ∷ span 3 7 9 ∷ []) ≡ 3)
-most = (refl, refl, refl, refl, refl, refl, refl, refl)
+    × (most_of (span 0 10 5 ∷ span 1 4 11 ∷ []) ≡ 2)
+most = (refl, refl, refl, refl, refl, refl, refl, refl, refl)
