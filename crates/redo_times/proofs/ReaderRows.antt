@@ -54,8 +54,8 @@ these_times = refl
 -- The last closing record counts, and lines after it do too. Programs reject such a log.
 after_its_end : times_of_all 1000 (a ∷ codes "b" ∷ []) (
     stream (flat_map with_line_feed (
-      codes "@@REDO:done:7:1700000002@@ 0 a" ∷ codes "@@REDO:done:7:1700000009@@ 0 a" ∷ codes "@@REDO:do:7:1700000001@@ b"
-      ∷ codes "@@REDO:done:7:1700000004@@ 0 a" ∷ [])
+    codes "@@REDO:done:7:1700000002@@ 0 a" ∷ codes "@@REDO:done:7:1700000009@@ 0 a" ∷ codes "@@REDO:do:7:1700000001@@ b"
+    ∷ codes "@@REDO:done:7:1700000004@@ 0 a" ∷ [])
     )
     ∷ stream (with_line_feed (codes "@@REDO:done:7:1700000030@@ 0 a"))
     ∷ [])
@@ -66,10 +66,10 @@ after_its_end = refl
 -- Records that are not valid are skipped, and so is the last line, which is unended. Programs reject such a log.
 bad_records : times_of_all 1000 (a ∷ []) (
     stream (flat_map with_line_feed (
-      codes "@@REDO:do:x:1700000001@@ a" ∷ codes "@@REDO:do:7:1700000002@@a" ∷ codes "@@REDO:do:7:1700000003.@@ a"
-      ∷ codes "@@REDO:done:7:1700000004@@ a" ∷ codes "@@REDO:done:7:1700000005@@ - a" ∷ codes "@@REDO:done:7:1700000006@@ 0 "
-      ∷ codes "@@REDO:do:7:1700000007@@ " ∷ codes " @@REDO:do:7:1700000008@@ a" ∷ codes "@@REDO:"
-      ∷ codes "@@REDO:do:7:1700000009@@ a" ∷ [])
+    codes "@@REDO:do:x:1700000001@@ a" ∷ codes "@@REDO:do:7:1700000002@@a" ∷ codes "@@REDO:do:7:1700000003.@@ a"
+    ∷ codes "@@REDO:done:7:1700000004@@ a" ∷ codes "@@REDO:done:7:1700000005@@ - a" ∷ codes "@@REDO:done:7:1700000006@@ 0 "
+    ∷ codes "@@REDO:do:7:1700000007@@ " ∷ codes " @@REDO:do:7:1700000008@@ a" ∷ codes "@@REDO:"
+    ∷ codes "@@REDO:do:7:1700000009@@ a" ∷ [])
     ++ codes "@@REDO:do:7:1700000001@@ a")
     ∷ [])
     ≡ times (Some 1700000009000) None ∷ []
