@@ -1,7 +1,7 @@
 -- Rows of parts of a page, and the HTML of them.
 use Rattle.std.proofs.Common.{◌≡◌, ℕ, List, [], ◌∷◌, ◌++◌, map, take, refl}
 use Rattle.std.specs.Char.{encode_utf8}
-use Rattle.std.specs.Prelude.{codes, nat_lt, true}
+use Rattle.std.specs.Prelude.{codes, false, nat_lt, true}
 use Rattle.std.specs.Fmt.{digits}
 use Rattle.std.specs.List.{AllByRecursion, flat_map, list_all}
 use Rattle.redo_html.specs.declared.markup.Markup.TheVariants.{Doctype, Html, EndHtml, Head, EndHead, BodyBad, EndBody, Title1, EndTitle1, Summary, EndSummary, Bdi, EndBdi}
