@@ -5,7 +5,7 @@ import subprocess
 import tempfile
 from concurrent.futures import ThreadPoolExecutor
 
-from small_captures import MOST_SECONDS, all_of, contents, made_page, part, record, run, write_capture
+from small_captures import MOST_SECONDS, all_of, contents, files_of_logs, made_page, part, record, run, write_files
 from text_examples import LINES, LOGS
 
 # ---- long logs -------------------------------------------------------------------------------------------------------
@@ -166,7 +166,7 @@ def expect_failed_writes(checks, program):
     texts = b"".join(text + b"\n" for text, _ in LOGS) + b"".join(lines for _, lines, _, _ in LINES)
 
     def page_after(size):
-        write_capture(folder, {b"all": b"x" * size + b"\n" + texts + record(b"done", b"1 all")})
+        write_files(folder, files_of_logs({b"all": b"x" * size + b"\n" + texts + record(b"done", b"1 all")}))
         status, page, message = run(program, folder, [b"--title=" + TITLE])
         checks.expect("a page without a limit: the status and the message", (status, message), (0, b""))
         return page, page.index(b"x" * size + b"\n") + size + 1 - 2 * len(TITLE)

@@ -10,10 +10,14 @@ def record(kind, text, time=b"1"):
     return b"@@REDO:%s:7:%s@@ %s\n" % (kind, time, text)
 
 
-def write_capture(folder, logs, facts=b""):
-    """Writes the logs of these targets, which have the numbers 1, 2, and so on."""
+def files_of_logs(logs, facts=b""):
+    """The files of a capture with the logs of these targets, which have the numbers 1, 2, and so on."""
     names = b"".join(b"%d %s\n" % (number, target) for number, target in enumerate(logs, 1))
     files = {"names": names, "facts": facts, **{f"log.{number}": log for number, log in enumerate(logs.values(), 1)}}
+    return {name: data for name, data in files.items() if data}
+
+
+def write_files(folder, files):
     for name, data in files.items():
         with open(os.path.join(folder, name), "wb") as file:
             file.write(data)
@@ -28,7 +32,7 @@ def made_page(checks, program, expected_page, what, logs, words=(), facts=b""):
     """The page of these targets' logs. The model must give the same one. `expected_page` returns the model's answer."""
     words = [*words] if b"--" in words else [*words, b"--"]
     with tempfile.TemporaryDirectory() as folder:
-        write_capture(folder, logs, facts)
+        write_files(folder, files_of_logs(logs, facts))
         found, wanted = run(program, folder, words), expected_page(folder, words)
     checks.expect(f"{what}: the status and the message", (found[0], found[2]), (0, b""))
     checks.expect(f"{what}: the model's page", found[1] == wanted[1], True)

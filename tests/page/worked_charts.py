@@ -4,8 +4,9 @@ import resource
 import subprocess
 import tempfile
 
+from small_captures import files_of_logs, write_files
 from worked_examples import made_page, part, record
-from worked_pages import UNTIMED, files_of_logs, model_of, page_of_logs, ran, time, write_files
+from worked_pages import UNTIMED, model_of, page_of_logs, ran, time
 
 CHART = (b'<div class="scroll" tabindex="0" role="region" aria-labelledby="h-timeline">', b'</div><p class="quiet">A bar')
 

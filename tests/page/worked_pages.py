@@ -1,9 +1,8 @@
 """Captures of worked examples, with their times in milliseconds, and the page that a built program or the model makes of them."""
-import os
-import subprocess
 import tempfile
 
 import page_model
+from small_captures import files_of_logs, run, write_files
 from times_model import logs_model, times_of
 from worked_examples import record
 
@@ -20,26 +19,14 @@ def ran(name, began, ended, status=0):
     return record(b"do", time(began), name) + record(b"done", time(ended), b"%d %s" % (status, name))
 
 
-def write_files(folder, files):
-    for name, data in files.items():
-        with open(os.path.join(folder, name), "wb") as file:
-            file.write(data)
-
-
 def page_of_files(program, files):
     """The page of a capture directory with these files."""
     with tempfile.TemporaryDirectory() as folder:
         write_files(folder, files)
-        found = subprocess.run([program], cwd=folder, stdin=subprocess.DEVNULL, capture_output=True, timeout=120)
-    if (found.returncode, found.stderr) != (0, b""):
-        raise RuntimeError(f"status {found.returncode}: {found.stderr}")
-    return found.stdout
-
-
-def files_of_logs(logs):
-    """The files of a capture with the logs of these targets, in this order."""
-    names = b"".join(b"%d %s\n" % (number, name) for number, name in enumerate(logs, 1))
-    return {"names": names, **{f"log.{number}": data for number, data in enumerate(logs.values(), 1) if data}}
+        status, page, message = run(program, folder, [])
+    if (status, message) != (0, b""):
+        raise RuntimeError(f"status {status}: {message}")
+    return page
 
 
 def page_of_logs(program, logs):

@@ -129,7 +129,7 @@ ALONE = [
 ]
 END = 40  # All times of the random spans are before this one.
 PAIR = (5000, 5001)  # When two others run at once, so that a page has the table.
-MANY, MANY_ON_PAGE = 100_000, 500
+MANY = 100_000
 
 
 def random_spans():
@@ -194,8 +194,7 @@ def many_spans(count):
 def expect_many(checks, program):
     spans, wanted = many_spans(MANY)
     checks.expect("the model's times alone of many", list(chart_model.times_alone(of_model(spans)).values()), wanted)
-    spans, wanted = many_spans(MANY_ON_PAGE)
-    names = b"1 all\n" + b"".join(b"%d %d\n" % (place + 1, place) for place in range(1, MANY_ON_PAGE + 1))
+    names = b"1 all\n" + b"".join(b"%d %d\n" % (place + 1, place) for place in range(1, MANY + 1))
     page = page_of_files(program, {"names": names, "log.1": b"".join(ran(b"%d" % place, *span) for place, span in enumerate(spans, 1))})
     checks.expect("times alone of many", alone_on(page), first_rows(wanted))
     checks.expect("many at once", part(page, b", at most ", b"<"), b"2")
