@@ -145,7 +145,7 @@ def expect_parts(checks, program, expected_page):
 # ---- failed writes ---------------------------------------------------------------------------------------------------
 
 
-# The program writes so many bytes at once.
+# The number of bytes that the program writes at once.
 BUFFER = 65_536
 TITLE = b"TITLE"
 
