@@ -1,6 +1,6 @@
 //! The command lines of the four programs: the job that arguments describe, or why they describe none; and the help text. This
-//! module has those of `redo-log`, and [`html`], [`json`] and [`new`] those of the other programs. [`arguments`], [`parse`] and
-//! [`explain_rejection`], which says why arguments are rejected, are for all of them.
+//! module has the command line of `redo-log`, and [`html`], [`json`] and [`new`] have one each. All of them share the options in
+//! `arguments`, the parser, and [`explain_rejection`], which says why arguments are rejected.
 //!
 //! The crate depends only on `clap` and `redo_options`, and is proved while the first crates are. As a part of the command, it
 //! made every process that proves the command load `clap`'s contracts.

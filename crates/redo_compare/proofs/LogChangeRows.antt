@@ -61,7 +61,7 @@ these_flags : (are_new earlier logs 0 ≡ true ∷ []) × (are_new earlier logs 
 unfolding after_prefix split_once number is_sequence sequence_len plain_after first_place place_of before_bracket split_flag masked_after diagnostic_of source_of
 these_flags = (refl, refl, refl, refl)
 
--- A log that doesn't exist, also in a build without logs.
+-- A log that doesn't exist, in builds with and without logs.
 these_of_none : (gone_in_log earlier logs 3 ≡ []) × (earlier_number earlier [] 0 ≡ None) × (are_new earlier [] 0 ≡ [])
     × (gone_in_log earlier [] 0 ≡ []) × (earlier_number earlier earlier 3 ≡ None) × (are_new earlier earlier 3 ≡ [])
     × (gone_in_log earlier earlier 3 ≡ []) × (earlier_number [] earlier 3 ≡ None) × (are_new [] earlier 3 ≡ [])
