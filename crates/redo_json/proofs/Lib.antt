@@ -32,6 +32,7 @@ mod PartLemmas
 mod PlaceLemmas
 mod PrintLemmas
 mod ReadingLemmas
+mod StretchLemmas
 mod TextLemmas
 mod TextRows
 mod Utf8Lemmas

@@ -1,8 +1,8 @@
 -- The text lines of a log, entry by entry.
 use Rattle.std.proofs.Common.{◌≡◌, ℕ, zero, suc, ◌+◌, ◌-◌, ◌<◌, ◌≤◌, List, [], ◌∷◌, ◌++◌, Option, None, Some, length, take, drop, slice_get, refl, sym, ap, ◌∙◌, arith}
-use Rattle.std.specs.Prelude.{◌==◌, true}
+use Rattle.std.specs.Prelude.{◌==◌, false, true}
 use Rattle.std.specs.List.{cons_option, flat_map}
-use Rattle.std.proofs.lemmas.Bool.{eqb-true}
+use Rattle.std.proofs.lemmas.Bool.{eqb-false, eqb-true}
 use Rattle.std.proofs.lemmas.List.{append-nil, append_assoc, length-drop, take-append-drop, take_all}
 use Rattle.std.proofs.lemmas.Option.{none-some, same_Some, slice_get_within}
 use Rattle.memchr.specs.Find.{NoneBefore, Nowhere, Passes, is_byte}
@@ -155,6 +155,14 @@ module _ (bytes : List ℕ) (at : ℕ) (found : NoneBefore (Passes (is_byte line
   pub rest_after : rest bytes ≡ rest (take (length bytes - (at + 1)) (drop (at + 1) bytes))
   rest_after = ap rest parts ∙ rest-line (take at bytes) (drop (at + 1) bytes) free ∙ ap rest (sym after_is)
 
+-- The bytes after a line feed are fewer.
+pub after_shorter : (bytes : List ℕ) (at : ℕ) → at < length bytes
+    → length (take (length bytes - (at + 1)) (drop (at + 1) bytes)) < length bytes
+after_shorter bytes at below =
+    let size = length-drop (at + 1) bytes in
+    let same = ap length (take_all (length bytes - (at + 1)) (drop (at + 1) bytes) (omega (arith, size))) in
+    omega (arith, below, size, same)
+
 pub no_line : (bytes : List ℕ) → rest bytes ≡ [] → Nowhere (Passes (is_byte line_feed) bytes) 0 (length bytes) → bytes ≡ []
 no_line bytes complete nowhere = sym (rest-free bytes (holds_none bytes nowhere)) ∙ complete
 
@@ -170,3 +178,9 @@ some_lines bytes complete some = by (ended bytes) refl
     by [] none = absurd (some ((are_lines bytes).whole ∙ ap (λ (lines : List (List ℕ)). flat_map with_line_feed lines ++ rest bytes) none
         ∙ complete))
     by (line ∷ lines) is = omega arith
+
+-- Lines that are stored together, if there are any.
+pub some_stretch : (logs : List Log) (number next after : ℕ) (bytes : List ℕ) → AreNextLines logs number next bytes after
+    → (length bytes == 0) ≡ false → 0 < length (ended bytes)
+some_stretch logs number next after bytes lines some =
+    some_lines bytes lines.complete (λ empty. eqb-false (length bytes) 0 some (ap length empty))

@@ -56,8 +56,8 @@ impl Render for BuildRequest<'_> {
 /// target must have a log. All logs must have ended.
 ///
 /// A write that fails or takes no byte ends the call, and nothing is written after it. `out` isn't flushed. No object is held in memory,
-/// but the commands and the needs of one log are, and the keys of its diagnostics. If there is a baseline, its diagnostics are in memory
-/// too, and the earlier log's diagnostics.
+/// but the commands and the needs of one log are, and the keys of its diagnostics. A buffer holds one diagnostic, or up to 64 KiB of lines.
+/// If there is a baseline, its diagnostics are in memory too, and the earlier log's diagnostics.
 pub fn write_build<W: Sink>(
     alloc: Global,
     table: &LogTable,
@@ -98,19 +98,21 @@ fn write_logs<W: Sink>(
     ensures { FormWrites (W.written out.old) (W.written out.new)
         (flat_map (λ node. with_line_feed (object_text (node_values (request_of request.now) table.now nodes.now node))) nodes.now) result }
 {
+    let mut buffer = Vec::new(alloc);
     for node in nodes {
-        write_log(alloc, table, request, nodes, node, out)?;
+        write_log(alloc, table, request, nodes, node, &mut buffer, out)?;
     }
     Ok(())
 }
 
-// Writes the object of one of these nodes.
+// Writes the object of one of these nodes. `buffer` is overwritten.
 fn write_log<W: Sink>(
     alloc: Global,
     table: &LogTable,
     request: &BuildRequest<'_>,
     nodes: &[Node],
     node: &Node,
+    buffer: &mut Vec<u8>,
     out: &mut W,
 ) -> Result<(), FormFault>
     ensures { FormWrites (W.written out.old) (W.written out.new)
@@ -138,7 +140,7 @@ fn write_log<W: Sink>(
         number: node.number,
         changes: changes.as_ref(),
     };
-    write_object(alloc, request.keys, &log, out)
+    write_object(alloc, request.keys, &log, buffer, out)
 }
 
 // Returns what changed in the target of a node since the baseline, if there is one.

@@ -25,20 +25,21 @@ use redo_view::FormFault;
 use std::alloc::Global;
 
 /// Writes a member with the diagnostics of a log. Their keys are hashed with `keys`. If there is a baseline, `flags` says of each
-/// diagnostic, in order, whether it is new.
+/// diagnostic, in order, whether it is new. `buffer` is overwritten.
 pub fn write_diagnostics<W: Sink>(
     alloc: Global,
     keys: HashKeys,
     flags: Option<&[bool]>,
     table: &LogTable,
     number: u32,
+    buffer: &mut Vec<u8>,
     out: &mut W,
 ) -> Result<(), FormFault>
     ensures { FormWrites (W.written out.old) (W.written out.new)
         (comma_field (diagnostics_field (option_copied flags.entry) (texts_of (entries_at number table.now)))) result }
 {
     push_all(out, b",\"diagnostics\":[")?;
-    write_each(alloc, keys, flags, table, number, out)?;
+    write_each(alloc, keys, flags, table, number, buffer, out)?;
     push_all(out, b"]")?;
     Ok(())
 }
@@ -50,6 +51,7 @@ fn write_each<W: Sink>(
     flags: Option<&[bool]>,
     table: &LogTable,
     number: u32,
+    buffer: &mut Vec<u8>,
     out: &mut W,
 ) -> Result<(), FormFault>
     ensures { FormWrites (W.written out.old) (W.written out.new)
@@ -58,7 +60,6 @@ fn write_each<W: Sink>(
     let mut lines = LogLines::new(table, number);
     let mut counts = KeyCounts::new(alloc, keys);
     let mut plain = Vec::new(alloc);
-    let mut object = Vec::new(alloc);
     let mut is_first = true;
     let mut left = flags;
     'each: while let Some((position, line)) = lines.next_candidate() {
@@ -71,7 +72,7 @@ fn write_each<W: Sink>(
                 diagnostic,
                 new,
                 &mut counts,
-                &mut object,
+                buffer,
                 out,
             )?;
             is_first = false;

@@ -78,8 +78,9 @@ fn join_place(severity: Severity, place: &Place<'_>, object: &mut Vec<u8>) -> Re
     join_bytes(b",\"message\":\"", object)
 }
 
+/// Appends bytes.
 #[inline(always)]
-fn join_bytes(bytes: &[u8], object: &mut Vec<u8>) -> Result<(), AllocError>
+pub fn join_bytes(bytes: &[u8], object: &mut Vec<u8>) -> Result<(), AllocError>
     ensures { OnOk result (IsAppended object.old.items object.new.items bytes.now) }
 {
     object.extend_from_slice(bytes)?;

@@ -1,28 +1,37 @@
 //! The member of an object with the text lines of a log. The lines are read from the table once for each part.
-ghost use Rattle.std.specs.Prelude.{◌≡◌, true, false, [], ◌∷◌, IfNone, IfSome};
+ghost use Rattle.std.specs.Prelude.{◌≡◌, true, [], IfNone, IfSome, OnOk};
 ghost use Rattle.std.specs.Str.{is_utf8};
 ghost use Rattle.json.specs.Print.{escape};
 ghost use Rattle.redo_device.specs.Sink.{Writes};
+ghost use Rattle.redo_line.specs.Lines.{ended};
 ghost use Rattle.redo_outline.specs.Facts.{entries_at, texts_of};
 ghost use Rattle.redo_json.specs.Fields.{exact_items, exact_list, exact_name, list_fields};
 ghost use Rattle.redo_json.specs.Private.LogLines.{AreUtf8, IsNextExactLine};
 ghost use Rattle.redo_json.specs.Private.Parts.{comma_fields, items_text};
+ghost use Rattle.redo_json.specs.Private.Lines.{BeginsWithLine, before_line, lines_left, lines_text, plain_lines_text};
+ghost use Rattle.redo_json.specs.Private.Writing.{IsAppended};
 ghost use Rattle.redo_json.specs.Text.{text_of};
 
 use crate::escape::write_escaped;
 use crate::field::is_text;
+use crate::joined::join_bytes;
 use crate::list::write_exact_item;
-use crate::log_lines::{LogLines, are_text};
+use crate::log_lines::{LogLines, are_text, next_lines};
 use crate::part::{Part, write_parts};
+use crate::plain::are_plain_lines;
 use crate::string::write_text;
+use memchr::memchr;
 use redo_device::{Broken, Sink, push_all};
 use redo_logs::LogTable;
+use std::alloc::AllocError;
 
 /// Writes a member with the texts of a log's lines, and another one with the exact bytes of lines whose texts don't have them.
+/// `buffer` is overwritten.
 pub fn write_lines<W: Sink>(
     name: &[u8],
     table: &LogTable,
     number: u32,
+    buffer: &mut Vec<u8>,
     out: &mut W,
 ) -> Result<(), Broken>
     ensures { Writes (W.written out.old) (W.written out.new)
@@ -33,7 +42,7 @@ pub fn write_lines<W: Sink>(
         &[Part::Json(b",\""), Part::Escaped(name), Part::Json(b"\":[")],
         out,
     )?;
-    write_texts(are_text, table, number, out)?;
+    write_texts(are_text, table, number, buffer, out)?;
     push_all(out, b"]")?;
     if are_text {
         return Ok(());
@@ -41,40 +50,116 @@ pub fn write_lines<W: Sink>(
     write_exact_lines(name, table, number, out)
 }
 
-// Writes the strings of a log's lines. `are_text` says that all lines are known to be UTF-8.
+// Writes the strings of a log's lines, with a comma between two of them. `are_text` says that all lines are known to be UTF-8. `buffer` is
+// overwritten.
 fn write_texts<W: Sink>(
     are_text: bool,
     table: &LogTable,
     number: u32,
+    buffer: &mut Vec<u8>,
     out: &mut W,
 ) -> Result<(), Broken>
     requires { are_text ≡ true → AreUtf8 (texts_of (entries_at number table.now)) }
     ensures { Writes (W.written out.old) (W.written out.new) (items_text true (texts_of (entries_at number table.now))) result }
 {
-    let mut lines = LogLines::new(table, number);
-    let Some((_, line)) = lines.next_line() else {
-        return Ok(());
-    };
-    push_all(out, b"\"")?;
-    write_line(are_text, line, out)?;
-    write_other_texts(are_text, &mut lines, out)
+    let logs = table.numbered();
+    let mut is_first = true;
+    let mut next = 0;
+    'stretches: loop {
+        let (lines, _, after) = next_lines(&logs, number, next);
+        if lines.is_empty() {
+            return push_all(out, last_quote(is_first));
+        }
+        write_stretch(are_text, is_first, lines, buffer, out)?;
+        is_first = false;
+        next = after;
+    }
 }
 
-// Writes the quote that ends a string, and then the strings of the lines that are left, each after a comma. What is between two texts
-// is one write.
-fn write_other_texts<W: Sink>(
+// Returns the quote that ends the last string, unless there is no string.
+fn last_quote(is_first: bool) -> &'static [u8]
+    ensures { result.now ≡ lines_left is_first [] }
+{
+    if is_first { b"" } else { b"\"" }
+}
+
+// Writes the strings of lines that are stored together, from the quote that ends the string before them, up to the last line. `is_first`
+// says that there is no string before them. If no byte has an escape, the strings are joined in memory, and are one write.
+fn write_stretch<W: Sink>(
     are_text: bool,
-    lines: &mut LogLines<'_>,
+    is_first: bool,
+    lines: &[u8],
+    buffer: &mut Vec<u8>,
     out: &mut W,
 ) -> Result<(), Broken>
-    requires { are_text ≡ true → AreUtf8 lines.old.left }
-    ensures { Writes (W.written out.old) (W.written out.new) (34 ∷ items_text false lines.old.left) result }
+    requires { are_text ≡ true → AreUtf8 (ended lines.now) }
+    ensures { Writes (W.written out.old) (W.written out.new) (lines_text is_first (ended lines.now)) result }
 {
-    'each: while let Some((_, line)) = lines.next_line() {
-        push_all(out, b"\",\"")?;
-        write_line(are_text, line, out)?;
+    if are_text && lines.len() <= JOINED_BYTES && are_plain_lines(lines) {
+        buffer.clear();
+        if join_lines(is_first, lines, buffer).is_ok() {
+            return push_all(out, buffer);
+        }
     }
-    push_all(out, b"\"")
+    write_each_line(are_text, is_first, lines, out)
+}
+
+// The most bytes of lines that are joined.
+const JOINED_BYTES: usize = 65_536;
+
+// Appends the strings of lines whose bytes have no escape, as `write_stretch` writes them.
+fn join_lines(is_first: bool, lines: &[u8], joined: &mut Vec<u8>) -> Result<(), AllocError>
+    ensures { OnOk result (IsAppended joined.old.items joined.new.items (plain_lines_text is_first (ended lines.now))) }
+{
+    let mut is_next_first = is_first;
+    let mut left = lines;
+    'lines: while let Some((line, others)) = split_line(left) {
+        join_bytes(before_line(is_next_first), joined)?;
+        join_bytes(line, joined)?;
+        is_next_first = false;
+        left = others;
+    }
+    Ok(())
+}
+
+// Writes the strings of lines one by one, as `write_stretch` does.
+fn write_each_line<W: Sink>(
+    are_text: bool,
+    is_first: bool,
+    lines: &[u8],
+    out: &mut W,
+) -> Result<(), Broken>
+    requires { are_text ≡ true → AreUtf8 (ended lines.now) }
+    ensures { Writes (W.written out.old) (W.written out.new) (lines_text is_first (ended lines.now)) result }
+{
+    let mut is_next_first = is_first;
+    let mut left = lines;
+    'lines: while let Some((line, others)) = split_line(left) {
+        push_all(out, before_line(is_next_first))?;
+        write_line(are_text, line, out)?;
+        is_next_first = false;
+        left = others;
+    }
+    Ok(())
+}
+
+// Returns the first line without its line feed, and the bytes after the line feed.
+#[inline(always)]
+fn split_line(lines: &[u8]) -> Option<(&[u8], &[u8])>
+    ensures some { IfSome result (λ parts. BeginsWithLine lines.now parts.0.now parts.1.now) }
+    ensures none { IfNone result (ended lines.now ≡ []) }
+{
+    match memchr(b'\n', lines) {
+        Some(end) => Some((&lines[..end], &lines[end + 1..])),
+        None => None,
+    }
+}
+
+// Returns what is between a string and the next one, from its quotes on: only a quote before the first one.
+fn before_line(is_first: bool) -> &'static [u8]
+    ensures { result.now ≡ before_line is_first }
+{
+    if is_first { b"\"" } else { b"\",\"" }
 }
 
 // Writes what a string with the text of a line has between its quotes. `is_text` says that the line is known to be UTF-8.

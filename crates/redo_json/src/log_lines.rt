@@ -149,9 +149,9 @@ fn next_candidates<'a>(
     }
 }
 
-// Returns the next text lines of log `number` that are stored together, from entry `next` on, with their line feeds, their number, and
-// the number of the entry after them. They are none if no text line is left.
-fn next_lines<'a>(logs: &Numbered<'a>, number: u32, next: usize) -> (&'a [u8], usize, usize)
+/// Returns the next text lines of log `number` that are stored together, from entry `next` on, with their line feeds, their number, and
+/// the number of the entry after them. They are none if no text line is left.
+pub fn next_lines<'a>(logs: &Numbered<'a>, number: u32, next: usize) -> (&'a [u8], usize, usize)
     ensures lines { AreNextLines logs.now.logs number next result.0.now result.2 }
     ensures count { result.1 ≡ length (ended result.0.now) }
 {

@@ -52,22 +52,24 @@ pub struct LogObject<'a> {
     pub changes: Option<&'a TargetChanges>,
 }
 
-/// Writes the object of a log, and a line feed. The keys of diagnostics are hashed with `keys`.
+/// Writes the object of a log, and a line feed. The keys of diagnostics are hashed with `keys`. `buffer` is overwritten.
 pub fn write_object<W: Sink>(
     alloc: Global,
     keys: HashKeys,
     log: &LogObject<'_>,
+    buffer: &mut Vec<u8>,
     out: &mut W,
 ) -> Result<(), FormFault>
     ensures { FormWrites (W.written out.old) (W.written out.new) (with_line_feed (object_text (values_of log.now))) result }
 {
-    write_front(log, out)?;
+    write_front(log, buffer, out)?;
     write_diagnostics(
         alloc,
         keys,
         new_flags(log.changes),
         log.table,
         log.number,
+        buffer,
         out,
     )?;
     write_baseline(log.changes, out)?;
@@ -86,7 +88,11 @@ fn new_flags(changes: Option<&TargetChanges>) -> Option<&[bool]>
 }
 
 // Writes an object up to the text lines of the log.
-fn write_front<W: Sink>(log: &LogObject<'_>, out: &mut W) -> Result<(), Broken>
+fn write_front<W: Sink>(
+    log: &LogObject<'_>,
+    buffer: &mut Vec<u8>,
+    out: &mut W,
+) -> Result<(), Broken>
     ensures { Writes (W.written out.old) (W.written out.new) (front_text (values_of log.now)) result }
 {
     write_parts(&[Part::Json(b"{\"target\":"), Part::Text(log.target)], out)?;
@@ -96,7 +102,7 @@ fn write_front<W: Sink>(log: &LogObject<'_>, out: &mut W) -> Result<(), Broken>
     write_optional_bytes(b"directory", b",\"directory\":\"", log.directory, out)?;
     write_list(b"commands", log.commands, out)?;
     write_list(b"needs", log.needs, out)?;
-    write_lines(b"lines", log.table, log.number, out)
+    write_lines(b"lines", log.table, log.number, buffer, out)
 }
 
 fn write_numbers<W: Sink>(log: &LogObject<'_>, out: &mut W) -> Result<(), Broken>

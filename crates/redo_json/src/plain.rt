@@ -2,13 +2,16 @@
 ghost use Rattle.std.specs.Prelude.{◌≡◌, ◌≤◌, true, length, take};
 ghost use Rattle.std.specs.List.{list_all};
 ghost use Rattle.json.specs.Run.{is_plain};
-ghost use Rattle.redo_json.specs.Private.Writing.{ArePlain, is_verbatim_byte, special_bit_if};
+ghost use Rattle.redo_json.specs.Private.Writing.{ArePlain, is_plain_or_feed, is_verbatim_byte, special_bit_if};
 
 // The number of bytes that are tested at once.
 const STRIDE: usize = 32;
 
 // The same for short strings.
 const SHORT_STRIDE: usize = 16;
+
+// The same for lines that are stored together.
+const LINES_STRIDE: usize = 64;
 
 /// Returns a number of bytes at the start that are written as they are: all of them up to the first that isn't.
 pub fn plain_len(bytes: &[u8]) -> usize
@@ -83,6 +86,44 @@ fn is_plain_byte(byte: u8) -> bool
     ensures { result ≡ is_plain byte }
 {
     !(byte == b'"' || byte == b'\\' || byte < 32)
+}
+
+/// Returns true only if a string of JSON has all bytes as they are, apart from line feeds.
+pub fn are_plain_lines(bytes: &[u8]) -> bool
+    ensures { result ≡ true → list_all is_plain_or_feed bytes.now ≡ true }
+{
+    let mut len = 0;
+    while bytes.len() - len >= LINES_STRIDE {
+        if !are_plain_or_feeds(&bytes[len..len + LINES_STRIDE]) {
+            return false;
+        }
+        len += LINES_STRIDE;
+    }
+    are_plain_or_feeds(&bytes[len..])
+}
+
+// Returns whether all bytes are plain or line feeds. The loop has no branch.
+#[inline(always)]
+fn are_plain_or_feeds(bytes: &[u8]) -> bool
+    ensures { result ≡ list_all is_plain_or_feed bytes.now }
+{
+    let mut special = 0;
+    for byte in bytes {
+        special = special | feed_bit(*byte);
+    }
+    special == 0
+}
+
+// Returns 0 for a plain byte and for a line feed, and 1 for any other byte.
+#[inline(always)]
+fn feed_bit(byte: u8) -> u8
+    ensures { result ≡ special_bit_if (is_plain_or_feed byte) }
+{
+    if is_plain_byte(byte) || byte == b'\n' {
+        0
+    } else {
+        1
+    }
 }
 
 /// Returns true only if all bytes are ASCII that a string of JSON has as they are.

@@ -1,11 +1,12 @@
 -- The postconditions of writers in parts.
-use Rattle.std.specs.Prelude.{◌≡◌, ℕ, ◌≤◌, ◌<◌, Bool, ◌&&◌, true, List, ◌++◌, length, nat_lt, take, Option, if◌then◌else◌}
+use Rattle.std.specs.Prelude.{◌≡◌, ℕ, ◌≤◌, ◌<◌, ◌==◌, Bool, ◌&&◌, ◌||◌, true, List, ◌++◌, length, nat_lt, take, Option, if◌then◌else◌}
 use Rattle.std.specs.List.{list_all}
 use Rattle.std.specs.Str.{is_utf8}
 use Rattle.std.specs.Str.Lossy.{replacement_bytes, utf8_lossy}
 use Rattle.json.specs.Print.{escape, escape_byte}
 use Rattle.json.specs.Run.{is_plain}
 use Rattle.redo_device.specs.Sink.{Output, append_output}
+use Rattle.redo_line.specs.Lines.{line_feed}
 
 -- Of a text, everything except `rest` was written, and no write failed.
 pub record WroteUpTo (before after : Option Output) (text rest : List ℕ) : Type 0 where
@@ -21,6 +22,10 @@ pub record ArePlain (bytes : List ℕ) (len : ℕ) : Type 0 where
 -- 0 if bytes are plain, and 1 otherwise.
 abbrev pub special_bit_if : Bool → ℕ
 special_bit_if plain = if plain then 0 else 1
+
+-- Whether a byte is plain or a line feed.
+abbrev pub is_plain_or_feed : ℕ → Bool
+is_plain_or_feed byte = is_plain byte || byte == line_feed
 
 -- Whether a byte is ASCII that is written as it is.
 abbrev pub is_verbatim_byte : ℕ → Bool

@@ -1,33 +1,54 @@
-use Rattle.std.proofs.Common.{true, [], ◌∷◌, ap, ◌∙◌, subst, sym}
-use Rattle.json.specs.Print.{escape}
+use Rattle.std.proofs.Common.{true, false, sym, ap, ◌∙◌, subst}
+use Rattle.redo_line.specs.Lines.{ended}
 use Rattle.redo_outline.specs.Facts.{entries_at, texts_of}
+use Rattle.redo_json.specs.Private.Lines.{lines_left}
 use Rattle.redo_json.specs.Private.LogLines.{AreUtf8}
 use Rattle.redo_json.specs.Private.Parts.{items_text}
-use Rattle.redo_json.specs.Text.{text_of}
-use Rattle.redo_json.proofs.PartLemmas.{first_text}
-use Rattle.redo_json.proofs.WritingLemmas.{begin, failed_part, wrote_more, wrote_rest}
+use Rattle.redo_json.proofs.LineLemmas.{fewer_left}
+use Rattle.redo_json.proofs.LogLineLemmas.{is_nothing, some_stretch}
+use Rattle.redo_json.proofs.StretchLemmas.{stretch_step, utf8_parts}
+use Rattle.redo_json.proofs.WritingLemmas.{failed_part, left_is, wrote_more, wrote_rest}
 use Rattle.redo_json.proofs.lines.write_texts.Goals as goal
 
-pub write_line-requires : goal.write_line-requires
-write_line-requires g c = λ are_text. (subst AreUtf8 (sym c.new-lines.ensures.left ∙ c.in-Some.ensures.line) (c.requires are_text)).0
+pub returns-then-is_empty : goal.returns-then-is_empty
+returns-then-is_empty g c =
+    let whole = items_text true (texts_of (entries_at c.args.number c.args.table.now)) in
+    wrote_rest _ _ _ whole _ _
+    (left_is _ _ _ _ _
+    (ap (lines_left c.stretches.is_first) (c.next_lines-after.ensures.lines.none
+    (is_nothing c.next_lines-after.result.0.now (sym c.is_empty.ensures ∙ c.if-is_empty.true))) ∙ sym c.last_quote.ensures)
+    c.stretches.invariant.wrote) c.push_all.ensures
 
-pub write_other_texts-requires : goal.write_other_texts-requires
-write_other_texts-requires g c = λ are_text. (subst AreUtf8 (sym c.new-lines.ensures.left ∙ c.in-Some.ensures.line) (c.requires are_text)).1
+pub write_stretch-requires : goal.write_stretch-requires
+write_stretch-requires g c = λ is.
+    (utf8_parts (ended c.next_lines-after.result.0.now) _
+    (subst AreUtf8 c.next_lines-after.ensures.lines.split (c.stretches.invariant.text is))).0
 
-pub returns-in_err-write_line : goal.returns-in_err-write_line
-returns-in_err-write_line g c =
-    failed_part _ _ _ (items_text true (texts_of (entries_at c.args.number c.args.table.now))) (escape (text_of c.in-Some.line.now)) _ _ _
-    c.from_residual-in_err-write_line.ensures.0
-    (wrote_more _ _ _ _ (34 ∷ []) _
-    (begin (g.W.Sink.written c.args.out.now) _ _
-    (sym (ap (items_text true) (sym c.new-lines.ensures.left ∙ c.in-Some.ensures.line) ∙ first_text _ _)))
-    c.in_ok-push_all.ensures) c.in_err-write_line.ensures
+pub returns-in_err-write_stretch : goal.returns-in_err-write_stretch
+returns-in_err-write_stretch g c =
+    let whole = items_text true (texts_of (entries_at c.args.number c.args.table.now)) in
+    let lines = ended c.next_lines-after.result.0.now in
+    failed_part _ _ _ whole _ _ _ _ c.from_residual.ensures.0
+    (left_is _ _ _ _ _
+    (ap (lines_left c.stretches.is_first) c.next_lines-after.ensures.lines.split
+    ∙ stretch_step c.stretches.is_first lines _
+    (some_stretch _ _ _ _ _ c.next_lines-after.ensures.lines (sym c.is_empty.ensures ∙ c.if-is_empty.false)))
+    c.stretches.invariant.wrote) c.in_err-write_stretch.ensures
 
-pub returns : goal.returns
-returns g c =
-    wrote_rest _ _ _ (items_text true (texts_of (entries_at c.args.number c.args.table.now))) _ _
-    (wrote_more _ _ _ _ (escape (text_of c.in-Some.line.now)) _
-    (wrote_more _ _ _ _ (34 ∷ []) _
-    (begin (g.W.Sink.written c.args.out.now) _ _
-    (sym (ap (items_text true) (sym c.new-lines.ensures.left ∙ c.in-Some.ensures.line) ∙ first_text _ _)))
-    c.in_ok-push_all.ensures) c.in_ok-write_line.ensures) c.write_other_texts.ensures
+pub stretches-smaller : goal.stretches-smaller
+stretches-smaller g c =
+    fewer_left _ c.args.number c.stretches.next c.next_lines-after.result.2 c.next_lines-after.result.0.now c.next_lines-after.ensures.lines
+    (sym c.is_empty.ensures ∙ c.if-is_empty.false)
+
+pub stretches-preserved : goal.stretches-preserved
+stretches-preserved g c =
+    let lines = ended c.next_lines-after.result.0.now in
+    record {
+      wrote = wrote_more _ _ _ _ _ _
+          (left_is _ _ _ _ _
+          (ap (lines_left c.stretches.is_first) c.next_lines-after.ensures.lines.split
+          ∙ stretch_step c.stretches.is_first lines _
+          (some_stretch _ _ _ _ _ c.next_lines-after.ensures.lines (sym c.is_empty.ensures ∙ c.if-is_empty.false)))
+          c.stretches.invariant.wrote) c.in_ok-write_stretch.ensures;
+      text = λ is. (utf8_parts lines _ (subst AreUtf8 c.next_lines-after.ensures.lines.split (c.stretches.invariant.text is))).1;
+    }
