@@ -12,4 +12,5 @@ pub mod ReadLemmas
 pub mod SequenceLaws
 pub mod SplitLemmas
 mod StretchLemmas
+mod TextLemmas
 pub mod WordLemmas

@@ -4,7 +4,7 @@ ghost use Rattle.std.specs.Char.{is_ascii_alphanumeric};
 ghost use Rattle.std.specs.List.{list_all};
 ghost use Rattle.redo_diagnostics.specs.Diagnostic as spec;
 
-use redo_line::split_at_first;
+use crate::split::split_text;
 use std::alloc::{AllocError, Global};
 
 /// Returns the key of a diagnostic, from the file or program that it names, and the bytes from its word on.
@@ -36,7 +36,7 @@ fn has_temporary(text: &[u8]) -> bool
     ensures { result ≡ false → spec.masked text.now ≡ text.now }
 {
     let mut left = text;
-    'slashes: while let Some((_, behind)) = split_at_first(b'/', left) {
+    'slashes: while let Some((_, behind)) = split_text(b'/', left) {
         if begins_temporary(behind) {
             return true;
         }
@@ -51,7 +51,7 @@ fn masked(alloc: Global, text: &[u8]) -> Result<Vec<u8>, AllocError>
 {
     let mut key = Vec::with_capacity(alloc, text.len())?;
     let mut left = text;
-    'slashes: while let Some((front, behind)) = split_at_first(b'/', left) {
+    'slashes: while let Some((front, behind)) = split_text(b'/', left) {
         key.extend_from_slice(front)?;
         if begins_temporary(behind) {
             key.extend_from_slice(b"/cc*")?;

@@ -28,6 +28,7 @@ mod laws;
 mod place;
 mod plain;
 mod severity;
+mod split;
 mod text;
 mod word;
 

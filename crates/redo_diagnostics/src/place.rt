@@ -5,6 +5,7 @@ ghost use Rattle.redo_line.specs.Record.{colon};
 ghost use Rattle.redo_diagnostics.specs.Diagnostic as spec;
 ghost use Rattle.redo_diagnostics.specs.Diagnostic.{place_from};
 
+use crate::split::split_text;
 use redo_line::{read_number, split_at_first};
 use std::marker::Model;
 
@@ -53,7 +54,7 @@ pub fn origin_and_place(head: &[u8]) -> (&[u8], Option<Place<'_>>)
     ensures origin { result.0.now ≡ spec.origin_of head.now }
     ensures place { result.1 ≡ spec.place_of head.now }
 {
-    match split_at_first(b':', head) {
+    match split_text(b':', head) {
         Some((file, others)) => (file, place_of(file, others)),
         None => (b"", None),
     }
