@@ -13,7 +13,7 @@ CLAUSE_OF = "redo_run/src/running.rt"
 # The maximum number of quoted lines.
 MOST_LINES = 400
 # The maximum number of other lines that the laws of a page depend on. docs/guarantees.md says it.
-MOST_PAGE_LINES = 2980
+MOST_PAGE_LINES = 2970
 PART = r"\w+ \w+(?:: (?:[^\s;]+ to )?[^\s;]+)?"
 MARK = re.compile(rf"^(<!-- ({PART}(?:; {PART})*) -->\n)(?:```\n.*?\n```\n)?", re.M | re.S)
 

@@ -21,6 +21,7 @@ use Rattle.redo_view.specs.Event.{Event}
 use Rattle.redo_view.specs.Event.Event.{Requested, Mentioned, EntryShown, LogEnds}
 use Rattle.redo_view.specs.Laws.{opened_name}
 use Rattle.redo_view.specs.LogLines.{lines_left_after, lines_of_log, text_lines}
+use Rattle.redo_html.specs.Parts.{Part}
 use Rattle.redo_outline.specs.declared.node.Node.{Node}
 use Rattle.redo_outline.specs.declared.node.RunTimes.{RunTimes}
 use Rattle.redo_outline.specs.Contents.{Contents, contents_from, contents_of, innermost, number_of_opening, opened_number, with_event, with_first}
@@ -36,12 +37,14 @@ use Rattle.redo_trim.specs.Trim.{after_shown, gauge_of, kept, limit_of, no_limit
 use Rattle.redo_page.specs.Laws.{PositionedLine, event_lines, log_bytes, page_tree, positioned_at, positioned_bytes, positioned_lines, unmoved_lines}
 use Rattle.redo_page.specs.Page.{Request, options_of, page_contents, page_events, page_outline, run_times}
 use Rattle.redo_page.specs.Limits.{at_most, bytes_shown, cap_for, fit_in, highest_cap, limit_at, limit_if, limits_from, limits_of, min_cap, position_limit, tree_limits}
-use Rattle.redo_page.specs.Tree.{Build, articles, is_moved, is_moved_if, node_at, position_of, tree_parts}
+use Rattle.redo_page.specs.Tree.{Build, articles, is_moved, is_moved_if, node_at, position_of}
+use Rattle.redo_page.specs.Private.Streaming.{streamed_tree}
 use Rattle.redo_page.proofs.LimitLemmas.{highest_fits}
 use Rattle.redo_page.proofs.OpeningLemmas.{AreNamed, ArePlaced, NamesItsLog, contents_named, target_named, trim_named}
 use Rattle.redo_page.proofs.PageIds.{outline_counted}
 use Rattle.redo_page.proofs.PageNames.{page_placed}
 use Rattle.redo_page.proofs.PageLines.{Have, direct_lines, printed_lines, whole_has_none}
+use Rattle.redo_page.proofs.TreeItems.{tree_is_streamed}
 use Rattle.redo_page.proofs.TreeNames.{event_name}
 use Rattle.redo_page.proofs.TreeLines.{bytes-append, tree_text}
 
@@ -473,7 +476,7 @@ module _ (bounds : Bounds) (logs : List Log) (options : Options) (nodes : List N
       → 0 + log_count (trim (tree_limits logs options nodes budget) [] contents) ≤ length nodes
       → Have left_lines (trim (tree_limits logs options nodes budget) [] contents) → direct_lines contents ≡ []
       → most logs (cap_for budget nodes) contents ≡ bytes_shown (cap_for budget nodes) nodes
-      → length (log_bytes (tree_parts logs options nodes (trim (tree_limits logs options nodes budget) [] contents)))
+      → length (log_bytes (streamed_tree logs options nodes (trim (tree_limits logs options nodes budget) [] contents)))
       ≤ max budget (4096 * length nodes)
   tree_bytes contents some named placed within have none all =
       let limits = tree_limits logs options nodes budget in
@@ -556,8 +559,10 @@ module _ (bounds : Bounds) (request : Request) (logs : List Log) (requested : Li
       let names = timed_names logs times outline
       ∙ sym (names_opened logs status None 0 0 whole named (contents_show events)) ∙ ap (flat_map opened_name) same in
       let counted = outline_counted request logs requested in
-      tree_bytes bounds logs (options_of request) page_nodes request.max_bytes
+      subst (λ (tree : List Part). length (log_bytes tree) ≤ max request.max_bytes (4096 * length page_nodes))
+      (sym (tree_is_streamed request logs requested))
+      (tree_bytes bounds logs (options_of request) page_nodes request.max_bytes
       (timed_size logs times outline (nodes_sized logs status None 0 whole)) (lines_small logs small)
       (subst (IsDistinct (pointwise nat_eq)) (sym names) distinct) whole some (trim_named page_limits logs [] whole named)
       (page_placed request logs requested) (omega (arith, count, counted)) have (whole_has_none logs events left)
-      (sym (most_nodes logs status (cap_for request.max_bytes page_nodes) times None 0 whole))
+      (sym (most_nodes logs status (cap_for request.max_bytes page_nodes) times None 0 whole)))

@@ -24,9 +24,9 @@ use Rattle.redo_outline.specs.Outline.{log_count}
 use Rattle.redo_page.specs.declared.block.Pending.{Pending}
 use Rattle.redo_page.specs.declared.block.Pending.TheVariants as pending
 use Rattle.redo_page.specs.declared.level.Level.{Level}
-use Rattle.redo_page.specs.Blocks.{end_parts, nested_end}
 use Rattle.redo_page.specs.Laws.{PositionedLine, ShowsItsLines, is_between, is_within, log_bytes, log_text, positioned_at, positioned_bytes, positioned_lines, target_id, target_ids, unmoved_lines}
-use Rattle.redo_page.specs.Tree.{Build, after_log, after_shown, articles, closing_parts, contents_parts, depth_parts, empty_start, flat_end, flat_start, group_end, group_left, group_start, heading_parts, is_empty, is_expanded, level_of, max_depth, moved_parts, nested_start, node_at, opening_parts, section_end, section_start, shown_parts, top_level, tree_parts}
+use Rattle.redo_page.specs.Tree.{Build, articles, closing_parts, depth_parts, empty_start, flat_end, flat_start, heading_parts, is_empty, is_expanded, level_of, max_depth, moved_parts, nested_start, node_at, opening_parts, section_end, section_start, top_level, nested_end}
+use Rattle.redo_page.specs.Private.Streaming.{after_log, after_shown, contents_parts, end_parts, group_end, group_left, group_start, shown_parts, streamed_tree}
 use Rattle.redo_page.proofs.Ids.{Bare, same_found, target_id_part}
 use Rattle.redo_page.proofs.NameLemmas.{FromEach, from_here}
 use Rattle.redo_page.proofs.Nesting.{Nest, joined}
@@ -541,7 +541,7 @@ module _ (build : Build) (all : List PositionedLine) where
 
 pub tree_shows : (logs : List Log) (options : Options) (nodes : List Node) (contents : Contents) → ArePlaced nodes 0 contents
     → (before : List Part) (tag : Markup) (inside after : List Part)
-    → before ++ (MarkupPart tag ∷ (inside ++ (end ∷ after))) ≡ tree_parts logs options nodes contents → Closed inside
+    → before ++ (MarkupPart tag ∷ (inside ++ (end ∷ after))) ≡ streamed_tree logs options nodes contents → Closed inside
     → ShowsItsLines (record { logs = logs; options = options; nodes = nodes; articles = articles nodes }) (positioned_lines None 0 contents)
     tag inside
 tree_shows logs options nodes contents placed before tag inside after is closed =
@@ -553,5 +553,5 @@ tree_shows logs options nodes contents placed before tag inside after is closed 
     (then_show build lines (contents_show build lines top_level 0 pending.Nothing contents placed are)
     (plain_show build lines section_end refl)) in
     from_here (ShowsHere build lines) before (MarkupPart tag) (inside ++ (end ∷ after))
-    (subst (FromEach (ShowsHere build lines)) (append-nil (tree_parts logs options nodes contents) ∙ sym is) (shows.before [] tt))
+    (subst (FromEach (ShowsHere build lines)) (append-nil (streamed_tree logs options nodes contents) ∙ sym is) (shows.before [] tt))
     inside after refl closed

@@ -27,8 +27,8 @@ use Rattle.redo_trim.specs.declared.limit.Limit.{Limit}
 use Rattle.redo_trim.specs.Laws.{AreInTree, KeepsLogs, StayInTree, TreeIsTrimmed}
 use Rattle.redo_trim.specs.Trim.{trim, trimmed}
 use Rattle.redo_page.specs.declared.block.Pending.TheVariants as pending
-use Rattle.redo_page.specs.Blocks.{after_line, end_parts, line_parts}
-use Rattle.redo_page.specs.Tree.{Build, articles, contents_parts, is_moved_if, section_end, section_start, top_level, tree_parts}
+use Rattle.redo_page.specs.Tree.{Build, articles, is_moved_if, section_end, section_start, top_level}
+use Rattle.redo_page.specs.Private.Streaming.{after_line, contents_parts, end_parts, line_parts, streamed_tree}
 use Rattle.redo_page.specs.Private.Texts.{after_lines, lines_parts}
 use Rattle.redo_page.specs.Private.Walking.{Walk, after_event, after_texts, level_in, start_of, texts_parts, tree_bytes, tree_text}
 use Rattle.redo_page.proofs.WalkLemmas.{parts_contents, pending_after, proper, state_contents, walked_html, walked_parts}
@@ -141,7 +141,7 @@ module _ (logs : List Log) (options : Options) (nodes : List Node) (positions : 
 
   pub whole_tree : flat_map part_html section_start
       ++ tree_text (record { logs = logs; options = options; nodes = nodes; articles = positions }) events
-      ≡ flat_map part_html (tree_parts logs options nodes (contents_of events))
+      ≡ flat_map part_html (streamed_tree logs options nodes (contents_of events))
   whole_tree =
       ap (λ (these : List ℕ). flat_map part_html section_start
       ++ tree_text (record { logs = logs; options = options; nodes = nodes; articles = these }) events) are
@@ -159,9 +159,9 @@ module _ (logs : List Log) (options : Options) (nodes : List Node) (positions : 
   pub cut_tree : AreInTree events → length nodes ≡ log_count (contents_of events) → positions ≡ articles nodes
       → flat_map part_html section_start
       ++ tree_text (record { logs = logs; options = options; nodes = nodes; articles = positions }) (trimmed limits [] events)
-      ≡ flat_map part_html (tree_parts logs options nodes (trim limits [] (contents_of events)))
+      ≡ flat_map part_html (streamed_tree logs options nodes (trim limits [] (contents_of events)))
   cut_tree same outline positions_are =
       let tree_is = are limits events same in
       let count_is = outline ∙ sym (keep limits (contents_of events)) ∙ ap log_count (sym tree_is) in
       whole_tree logs options nodes positions (trimmed limits [] events) (stay limits events same) count_is positions_are
-      ∙ ap (λ (contents : Contents). flat_map part_html (tree_parts logs options nodes contents)) tree_is
+      ∙ ap (λ (contents : Contents). flat_map part_html (streamed_tree logs options nodes contents)) tree_is

@@ -39,7 +39,7 @@ use Rattle.redo_page.specs.Page.{build_view}
 use Rattle.redo_page.specs.Scope.{View, count_of, holds, measure_words}
 use Rattle.redo_page.specs.Targets.{below_parts, exit_parts, lines_parts, plural, took_parts, warnings_below_parts, warnings_parts}
 use Rattle.redo_page.specs.Template.{around_parts}
-use Rattle.redo_page.specs.Tree.{Build, depth_parts, group_parts, group_size, has_article, no_node, node_at, note_parts, note_prefix}
+use Rattle.redo_page.specs.Tree.{Build, are_group, depth_parts, group_start_of, has_article, no_node, node_at, note_parts, note_prefix}
 use Rattle.redo_page.specs.Tree.{opening_position, position_of}
 use Rattle.redo_page.specs.Verdict.{share_text, titled, verdict_text}
 use Rattle.redo_summary.specs.Summary.{Facts}
@@ -246,7 +246,7 @@ build = record { logs = []; options = options; nodes = []; articles = range_with
 articles : map (has_article build) (99 ∷ 100 ∷ 108 ∷ 109 ∷ 110 ∷ []) ≡ false ∷ true ∷ true ∷ true ∷ false ∷ []
 articles = refl
 
-large_numbers : (numbers (group_parts 1500) ≡ 1500 ∷ []) × (numbers (depth_parts 300) ≡ 300 ∷ [])
+large_numbers : (numbers (group_start_of 1500) ≡ 1500 ∷ []) × (numbers (depth_parts 300) ≡ 300 ∷ [])
 large_numbers = (refl, refl)
 
 -- Each kind of note in a log has a prefix.
@@ -273,8 +273,7 @@ late_mentions = refl
 abbrev level : ℕ → Level
 level depth = record { position = None; expanded = false; depth = depth }
 
-groups : map (λ depth. group_size (record build { nodes = record no_node { silent = 7 } ∷ [] }) (level depth) 0)
-    (0 ∷ 19 ∷ 20 ∷ 59 ∷ 300 ∷ []) ≡ replicate 5 7
+groups : map (λ depth. are_group build (level depth) 7) (0 ∷ 19 ∷ 20 ∷ 59 ∷ 300 ∷ []) ≡ replicate 5 true
 groups = refl
 
 -- Only a note of the kind `check` is in brackets.

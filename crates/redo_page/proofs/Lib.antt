@@ -18,6 +18,7 @@ mod FormLemmas
 mod FoundLemmas
 mod FrameRows
 mod Ids
+mod ItemLemmas
 mod JoinLemmas
 mod KeptLines
 mod LargeRows
@@ -58,6 +59,7 @@ mod TextLemmas
 mod TimelineLemmas
 mod TimelineRows
 mod TreeIds
+mod TreeItems
 mod TreeLines
 mod TreeNames
 mod TreeNesting

@@ -232,7 +232,7 @@ ArePlaced nodes position (Opened event number inside rest) =
     IsNodeOf number (log_count inside) (node_at nodes position) × ArePlaced nodes (suc position) inside
     × ArePlaced nodes (suc position + log_count inside) rest
 
-at_length : (before : List Node) (node : Node) (rest : List Node) → node_at (before ++ (node ∷ rest)) (length before) ≡ node
+pub at_length : (before : List Node) (node : Node) (rest : List Node) → node_at (before ++ (node ∷ rest)) (length before) ≡ node
 at_length [] node rest = refl
 at_length (other ∷ before) node rest = at_length before node rest
 
@@ -291,7 +291,7 @@ shown_placed nodes position [] rest placed = placed
 shown_placed nodes position (event ∷ events) rest placed = shown_placed nodes position events rest placed
 
 module _ (limits : List Limit) where
-  trim_count : (gauges : List Gauge) (contents : Contents) → log_count (trim limits gauges contents) ≡ log_count contents
+  pub trim_count : (gauges : List Gauge) (contents : Contents) → log_count (trim limits gauges contents) ≡ log_count contents
   trim_count gauges Nothing = refl
   trim_count gauges (Shown event rest) = shown_count (kept gauges event) (trim limits (after_shown event gauges) rest)
       ∙ trim_count (after_shown event gauges) rest

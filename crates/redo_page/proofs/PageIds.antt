@@ -1,5 +1,5 @@
 -- The ids and the links of a page.
-use Rattle.std.proofs.Common.{◌≡◌, ℕ, zero, suc, ◌+◌, ◌<◌, ◌≤◌, Bool, true, false, List, [], ◌∷◌, ◌++◌, map, refl, sym, ◌∙◌, ap, arith}
+use Rattle.std.proofs.Common.{◌≡◌, ℕ, zero, suc, ◌+◌, ◌<◌, ◌≤◌, Bool, true, false, List, [], ◌∷◌, ◌++◌, map, refl, sym, ◌∙◌, ap, subst, arith}
 use Rattle.std.specs.Prelude.{◌==◌, ◌||◌, ◌&&◌, nat_lt, length, take, if◌then◌else◌, is_some, None, Option, Some}
 use Rattle.std.specs.List.{flat_map, list_all}
 use Rattle.std.proofs.lemmas.Bool.{and_from, and_parts, eqb-false, lt-ltb, ltb-true}
@@ -44,6 +44,7 @@ use Rattle.redo_page.specs.Limits.{tree_limits}
 use Rattle.redo_trim.specs.declared.limit.Limit.{Limit}
 use Rattle.redo_trim.specs.Trim.{trim}
 use Rattle.redo_page.proofs.TreeIds.{nodes_counted, tree_refers}
+use Rattle.redo_page.proofs.TreeItems.{tree_is_streamed}
 use Rattle.redo_summary.specs.Laws.{AreOfNodes, AreRanksBelow}
 use Rattle.redo_page.specs.Timeline.{has_timeline}
 use Rattle.redo_summary.specs.Summary.{Facts, is_timed, summary_of}
@@ -294,9 +295,11 @@ module _ (have : HavePositions) (memory : HavePositionsOfMemory) (lead : BarsLea
       let failures = template_refers (length nodes) (articles nodes) Failing FAILURES refl view tt rows in
       let news = template_refers (length nodes) (articles nodes) Failing NEWS refl view tt rows in
       let timeline = timeline_refers lead (length nodes) (articles nodes) view rows positions.callers positions.recipes positions.marks in
+      let tree = subst (λ (tree : List Part). Refers (length nodes) (articles nodes) tree (numbers_from 0 (log_count shown)) []
+      (MarkupPart TreeSection ∷ [])) (sym (tree_is_streamed request logs requested)) (tree_refers logs (options_of request) nodes shown) in
       then_refer (then_refer (refers HEAD refl)
       (then_refer (refers HEADER refl) (then_refer failures (then_refer news (refers SECTION refl)))))
-      (then_refer (then_refer timeline (tree_refers logs (options_of request) nodes shown)) (refers FOOTER refl))
+      (then_refer (then_refer timeline tree) (refers FOOTER refl))
 
   pub page_target_ids : target_ids parts ≡ numbers_from 0 (length nodes)
   page_target_ids =

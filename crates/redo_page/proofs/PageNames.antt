@@ -28,6 +28,7 @@ use Rattle.redo_page.specs.declared.scope.Rows.TheVariants as rows
 use Rattle.redo_page.proofs.FailedNames.{HasValues, IsValueOf, failed_tells, known_in, news_tell, template_tells, timeline_tells}
 use Rattle.redo_page.proofs.NameLemmas.{Tell, TellHere, Tells, from_here, then_tell}
 use Rattle.redo_page.proofs.OpeningLemmas.{AreNamed, ArePlaced, contents_named, nodes_placed, same_placed, target_named, timed_node, trim_named, trim_placed}
+use Rattle.redo_page.proofs.TreeItems.{tree_is_streamed}
 use Rattle.redo_page.proofs.TreeNames.{event_name, tree_tells}
 use Rattle.redo_page.specs.Frame.{footer_parts}
 use Rattle.redo_summary.specs.declared.rank.Rank.{Rank}
@@ -189,9 +190,10 @@ module _ (request : Request) (logs : List Log) (requested : List (List ℕ)) whe
       then_tell recipes logs nodes (top_tells view (values ranks))
       (then_tell recipes logs nodes
       (then_tell recipes logs nodes (timeline_tells view (values ranks))
+      (subst (λ (tree : List Part). Tells recipes logs nodes tree) (sym (tree_is_streamed request logs requested))
       (tree_tells recipes logs (options_of request) nodes (page_contents request logs requested)
       (trim_named limits logs [] shown named)
-      page_placed))
+      page_placed)))
       (template_tells FOOTER refl view (values ranks)))
 
   all_tell : RanksHaveValues → Tell recipes logs nodes (page_parts request logs requested)

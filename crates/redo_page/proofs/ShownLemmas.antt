@@ -6,7 +6,8 @@ use Rattle.redo_view.specs.declared.event.EventRef.TheVariants as ref
 use Rattle.redo_view.specs.EventRef.{IsWrittenAlone, event_value}
 use Rattle.redo_page.specs.declared.block.Pending.{Pending}
 use Rattle.redo_page.specs.declared.level.Level.{Level}
-use Rattle.redo_page.specs.Tree.{Build, after_item, after_shown, is_seen, item_parts, seen_parts, shown_parts}
+use Rattle.redo_page.specs.Tree.{Build, is_seen, seen_parts}
+use Rattle.redo_page.specs.Private.Streaming.{after_item, after_shown, item_parts, shown_parts}
 
 module _ (build : Build) (level : Level) (before : Pending) where
   -- Such an event is no text line.

@@ -16,7 +16,8 @@ use Rattle.redo_line.proofs.LineLemmas.{ended-append, rest-append, ended-free, e
 use Rattle.redo_page.specs.declared.block.Block.{Block}
 use Rattle.redo_page.specs.declared.block.Pending.{Pending}
 use Rattle.redo_page.specs.declared.block.Pending.TheVariants as pending
-use Rattle.redo_page.specs.Blocks.{after_line, block_for, fits, line_part, line_parts, line_size, line_start, max_block_bytes, max_block_lines, with_line}
+use Rattle.redo_page.specs.Blocks.{max_block_bytes, max_block_lines}
+use Rattle.redo_page.specs.Private.Streaming.{after_line, block_for, fits, line_part, line_parts, line_size, line_start, with_line}
 use Rattle.redo_page.specs.Private.Texts.{AreChunk, BeginsChunk, GoInto, IsFirstLine, after_lines, lines_parts}
 
 -- ---- the first line

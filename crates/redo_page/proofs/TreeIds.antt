@@ -24,10 +24,10 @@ use Rattle.redo_page.specs.declared.labels.TheConstants.{SHOWN_ABOVE}
 use Rattle.redo_page.specs.declared.block.Pending.{Pending}
 use Rattle.redo_page.specs.declared.block.Pending.TheVariants as pending
 use Rattle.redo_page.specs.declared.level.Level.{Level}
-use Rattle.redo_page.specs.Blocks.{end_parts, fits, line_parts, line_size, line_start, nested_end}
 use Rattle.redo_page.specs.Laws.{numbers_from}
 use Rattle.redo_page.specs.Targets.{facts_parts, how_parts, linked_parts, parts_if}
-use Rattle.redo_page.specs.Tree.{Build, after_log, after_shown, articles, closing_parts, contents_parts, done_parts, empty_start, flat_end, flat_start, group_end, group_left, group_parts, group_size, group_start, has_article, heading_parts, is_empty, is_expanded, is_moved_if, is_seen, is_short, no_node, item_parts, level_of, log_end, log_start, max_depth, mention_parts, moved_parts, nested_start, node_at, note_parts, note_prefix, opening_parts, opening_position, position_of, position_of_name, request_parts, shown_parts, top_level, tree_parts}
+use Rattle.redo_page.specs.Tree.{Build, articles, closing_parts, done_parts, empty_start, flat_end, flat_start, has_article, heading_parts, is_empty, is_expanded, is_moved_if, is_seen, is_short, no_node, level_of, max_depth, mention_parts, moved_parts, nested_start, node_at, note_parts, note_prefix, opening_parts, opening_position, position_of, position_of_name, request_parts, top_level, nested_end}
+use Rattle.redo_page.specs.Private.Streaming.{after_log, after_shown, contents_parts, end_parts, fits, group_end, group_left, group_parts, group_size, group_start, item_parts, line_parts, line_size, line_start, log_end, log_start, shown_parts, streamed_tree}
 use Rattle.redo_page.proofs.Ids.{Bare, IsBelow, Refer, Refers, article_link_refers, bare_if, bare_refers, bare_then, facts_bare, how_bare, linked_refers, references, same_refer, then_refer}
 
 -- ---- numbers
@@ -252,7 +252,7 @@ module _ (build : Build) where
       (contents_refer level (suc position + log_count inside) (after_log left) rest))))
 
 pub tree_refers : (logs : List Log) (options : Options) (nodes : List Node) (contents : Contents)
-    → Refers (length nodes) (articles nodes) (tree_parts logs options nodes contents) (numbers_from 0 (log_count contents)) []
+    → Refers (length nodes) (articles nodes) (streamed_tree logs options nodes contents) (numbers_from 0 (log_count contents)) []
     (MarkupPart markup.TreeSection ∷ [])
 tree_refers logs options nodes contents =
     let build : Build = record { logs = logs; options = options; nodes = nodes; articles = articles nodes } in

@@ -25,10 +25,10 @@ use Rattle.redo_page.specs.declared.labels.TheConstants.{NEEDS, SHOWN_ABOVE}
 use Rattle.redo_page.specs.declared.block.Pending.{Pending}
 use Rattle.redo_page.specs.declared.block.Pending.TheVariants as pending
 use Rattle.redo_page.specs.declared.level.Level.{Level}
-use Rattle.redo_page.specs.Blocks.{end_parts, line_parts, line_size, line_start}
 use Rattle.redo_page.specs.Laws.{KnownRecipes, BeginWith, IsLogHeading, target_name}
 use Rattle.redo_page.specs.Targets.{exit_parts, facts_parts, how_parts, name_parts}
-use Rattle.redo_page.specs.Tree.{Build, after_log, after_shown, articles, contents_parts, depth_parts, done_parts, empty_start, flat_start, group_left, group_start, heading_parts, is_empty, is_expanded, is_moved, is_moved_if, is_seen, no_node, item_parts, level_of, log_end, log_start, max_depth, mention_parts, moved_parts, nested_start, node_at, note_parts, opening_parts, opening_position, position_of, position_of_name, request_parts, section_end, section_start, shown_parts, top_level, tree_parts}
+use Rattle.redo_page.specs.Tree.{Build, articles, depth_parts, done_parts, empty_start, flat_start, heading_parts, is_empty, is_expanded, is_moved, is_moved_if, is_seen, no_node, level_of, max_depth, mention_parts, moved_parts, nested_start, node_at, note_parts, opening_parts, opening_position, position_of, position_of_name, request_parts, section_end, section_start, top_level}
+use Rattle.redo_page.specs.Private.Streaming.{after_log, after_shown, contents_parts, end_parts, group_left, group_start, item_parts, line_parts, line_size, line_start, log_end, log_start, shown_parts, streamed_tree}
 use Rattle.redo_page.proofs.Ids.{Bare, how_bare}
 use Rattle.redo_page.proofs.NameLemmas.{IsNameAt, Tells, above_link_tells, bare_tell, calm_tell, linked_tells, none_tell, tell_if, then_tell}
 use Rattle.redo_page.proofs.OpeningLemmas.{AreNamed, ArePlaced, IsOpeningOf, NamesItsLog, target_named}
@@ -272,7 +272,7 @@ module _ (recipes : KnownRecipes) (build : Build) where
       (contents_tell level (suc position + log_count inside) (after_log left) rest named.3 placed.2)))
 
 pub tree_tells : (recipes : KnownRecipes) (logs : List Log) (options : Options) (nodes : List Node) (contents : Contents)
-    → AreNamed logs contents → ArePlaced nodes 0 contents → Tells recipes logs nodes (tree_parts logs options nodes contents)
+    → AreNamed logs contents → ArePlaced nodes 0 contents → Tells recipes logs nodes (streamed_tree logs options nodes contents)
 tree_tells recipes logs options nodes contents named placed =
     let build : Build = record { logs = logs; options = options; nodes = nodes; articles = articles nodes } in
     then_tell recipes logs nodes {parts = section_start} (calm_tell recipes logs nodes section_start refl)

@@ -21,9 +21,9 @@ use Rattle.redo_outline.specs.Outline.{log_count}
 use Rattle.redo_page.specs.declared.block.Pending.{Pending}
 use Rattle.redo_page.specs.declared.block.Pending.TheVariants as pending
 use Rattle.redo_page.specs.declared.level.Level.{Level}
-use Rattle.redo_page.specs.Blocks.{after_line, end_parts, fits, line_parts, line_size, line_start, nested_end}
 use Rattle.redo_page.specs.Targets.{parts_if}
-use Rattle.redo_page.specs.Tree.{Build, after_item, after_log, after_shown, articles, closing_parts, contents_parts, done_parts, empty_start, entry_parts, flat_end, flat_start, group_end, group_left, group_parts, group_size, group_start, heading_parts, is_empty, is_expanded, is_moved, is_moved_if, is_seen, item_parts, level_of, log_end, log_start, max_depth, mention_parts, moved_parts, nested_start, node_at, note_parts, note_prefix, opening_parts, opening_position, position_of_name, request_parts, seen_parts, shown_parts, top_level, tree_parts}
+use Rattle.redo_page.specs.Tree.{Build, articles, closing_parts, done_parts, empty_start, entry_parts, flat_end, flat_start, heading_parts, is_empty, is_expanded, is_moved, is_moved_if, is_seen, level_of, max_depth, mention_parts, moved_parts, nested_start, node_at, note_parts, note_prefix, opening_parts, opening_position, position_of_name, request_parts, seen_parts, top_level, nested_end}
+use Rattle.redo_page.specs.Private.Streaming.{after_item, after_line, after_log, after_shown, contents_parts, end_parts, fits, group_end, group_left, group_parts, group_size, group_start, item_parts, line_parts, line_size, line_start, log_end, log_start, shown_parts, streamed_tree}
 use Rattle.redo_page.proofs.Nesting.{Leads, Nest, nest_if, lead_around, lead_in, then_lead, joined}
 use Rattle.redo_page.proofs.TargetNesting.{name_nests, exit_nests, facts_nest, how_nests, linked_nests}
 
@@ -261,7 +261,7 @@ module _ (build : Build) where
       (contents_lead level (suc position + log_count inside) (after_log left) rest (after_log_open left))))
 
 pub tree_nests : (logs : List Log) (options : Options) (nodes : List Node) (contents : Contents)
-    → Nest (tree_parts logs options nodes contents)
+    → Nest (streamed_tree logs options nodes contents)
 tree_nests logs options nodes contents =
     let build : Build = record { logs = logs; options = options; nodes = nodes; articles = articles nodes } in
     record { leads = λ around tags. simp (joined, (contents_lead build top_level 0 pending.Nothing contents tt).leads) }

@@ -13,15 +13,14 @@ use Rattle.redo_view.specs.declared.event.Opening.TheVariants.{NotOpened, Opened
 use Rattle.redo_html.specs.declared.markup.Markup.{Markup}
 use Rattle.redo_html.specs.declared.markup.Markup.TheVariants as markup
 use Rattle.redo_html.specs.Style.{plain_style}
-use Rattle.redo_html.specs.Symbols.{first_code_point, first_symbol, is_sequence, code_point_len, sequence_len, sequence_numbers, symbol_len, symbols_after}
 use Rattle.redo_html.specs.Parts.{Part}
 use Rattle.redo_html.specs.Parts.Part.{MarkupPart, LogPart, TextPart, NumberPart}
 use Rattle.redo_outline.specs.declared.node.Node.{Node}
+use Rattle.redo_outline.specs.Contents.{Contents}
 use Rattle.redo_outline.specs.Contents.Contents.{Nothing, Shown, Opened}
-use Rattle.redo_page.specs.declared.block.Pending.{Pending}
-use Rattle.redo_page.specs.declared.block.Pending.TheVariants as pending
 use Rattle.redo_page.specs.declared.level.Level.{Level}
-use Rattle.redo_page.specs.Tree.{Build, after_item, after_log, after_shown, after_text, closing_parts, contents_parts, depth_parts, details_markup, done_parts, empty_start, end_cmp, entry_parts, failure_cmp, flat_end, flat_start, group_end, group_left, group_parts, group_size, group_start, has_article, has_failed, has_one_child, heading_parts, is_empty, is_expanded, is_in_level, is_moved, is_moved_if, is_root_failure, is_same_position, is_seen, is_silent, item_parts, level_of, log_end, log_start, mention_parts, moved_parts, nested_start, no_node, node_at, node_if, note_parts, opening_parts, opening_position, position_of, position_of_name, request_parts, root_failures, section_end, section_start, seen_parts, shown_parts, text_parts, top_level, tree_parts}
+use Rattle.redo_page.specs.Tree.{Build, Items, are_group, closing_parts, depth_parts, details_markup, done_parts, empty_start, end_cmp, entry_parts, event_before, failure_cmp, flat_end, flat_start, group_start_of, has_article, has_failed, has_one_child, heading_parts, is_empty, is_expanded, is_in_level, is_moved, is_moved_if, is_root_failure, is_same_position, is_seen, is_silent, items_of, items_parts, leading_logs, level_of, line_before, log_before, log_parts, mention_parts, moved_parts, nested_end, nested_start, no_node, node_at, node_if, note_parts, opening_parts, opening_position, position_of, position_of_name, request_parts, root_failures, section_end, section_start, seen_parts, silent_parts, top_level, tree_parts}
+use Rattle.redo_page.specs.Tree.Items.{NoItems, Lines, Seen, LogItem, SilentLogs}
 
 -- A middle dot (U+00B7) in UTF-8, and a space.
 abbrev fact_dot : List ℕ
@@ -75,9 +74,6 @@ build = build_of false nodes (1 ∷ [])
 
 abbrev level : Option ℕ → Bool → ℕ → Level
 level position expanded depth = record { position = position; expanded = expanded; depth = depth }
-
-abbrev block : Pending
-block = pending.Text (record { lines = 1; bytes = 2; style = plain_style })
 
 abbrev mention : Event
 mention = Mentioned 1 9 Made (codes "a") (OpensHere 0)
@@ -180,40 +176,25 @@ levels_are = (refl, refl, refl)
 
 -- ---- groups
 
+abbrev end : List Part
+end = tag markup.EndUnordered ∷ tag markup.EndDetails ∷ tag markup.EndItem ∷ []
+
 groups_are :
-    (group_parts 0 ≡ [])
-    × (group_parts 5 ≡ tag markup.Item ∷ tag markup.QuietDetails ∷ tag markup.Summary ∷ number 5
+    (group_start_of 5 ≡ tag markup.Item ∷ tag markup.QuietDetails ∷ tag markup.Summary ∷ number 5
     ∷ words (codes " targets that printed nothing") ∷ tag markup.EndSummary ∷ tag markup.Unordered ∷ [])
-    × (group_end 0 ≡ []) × (group_end 1 ≡ tag markup.EndUnordered ∷ tag markup.EndDetails ∷ tag markup.EndItem ∷ []) × (group_end 2 ≡ [])
-    × (after_log 0 ≡ pending.Nothing) × (after_log 1 ≡ pending.Nothing) × (after_log 2 ≡ pending.Group 1) × (after_log 5 ≡ pending.Group 4)
-groups_are = (refl, refl, refl, refl, refl, refl, refl, refl, refl)
+    × (nested_end ≡ end)
+groups_are = (refl, refl)
 
 abbrev silent : ℕ → Node
 silent count = record b { silent = count }
 
--- The second log is in a log with something else, and in a silent one.
+-- The logs are in a log with something else, in a silent one, and in none.
 sizes_are :
-    (group_size (build_of false (c ∷ silent 5 ∷ []) []) (level (Some 0) true 1) 1 ≡ 5)
-    × (group_size (build_of false (c ∷ silent 4 ∷ []) []) (level (Some 0) true 1) 1 ≡ 0)
-    × (group_size (build_of false (silent 9 ∷ silent 6 ∷ []) []) (level (Some 0) true 1) 1 ≡ 0)
-    × (group_size (build_of false (silent 9 ∷ []) []) top_level 0 ≡ 9)
+    (are_group (build_of false (c ∷ []) []) (level (Some 0) true 1) 5 ≡ true)
+    × (are_group (build_of false (c ∷ []) []) (level (Some 0) true 1) 4 ≡ false)
+    × (are_group (build_of false (silent 9 ∷ []) []) (level (Some 0) true 1) 6 ≡ false)
+    × (are_group (build_of false (silent 9 ∷ []) []) top_level 9 ≡ true)
 sizes_are = (refl, refl, refl, refl)
-
-abbrev grouped : Build
-grouped = build_of false (c ∷ silent 5 ∷ []) []
-
-left_are :
-    (group_left grouped (level (Some 0) true 1) 1 pending.Nothing ≡ 5) × (group_left grouped (level (Some 0) true 1) 1 block ≡ 5)
-    × (group_left grouped (level (Some 0) true 1) 1 (pending.Group 3) ≡ 3)
-    × (group_left build (level (Some 0) true 1) 1 pending.Nothing ≡ 0)
-left_are = (refl, refl, refl, refl)
-
-starts_are :
-    (group_start grouped (level (Some 0) true 1) 1 (pending.Group 3) ≡ [])
-    × (group_start grouped (level (Some 0) true 1) 1 block ≡ tag markup.EndPre ∷ tag markup.EndItem ∷ group_parts 5)
-    × (group_start build (level (Some 0) true 1) 1 block ≡ tag markup.EndPre ∷ tag markup.EndItem ∷ [])
-    × (group_start grouped (level (Some 0) true 1) 1 pending.Nothing ≡ group_parts 5)
-starts_are = (refl, refl, refl, refl)
 
 -- ---- logs
 
@@ -279,9 +260,6 @@ opened_are :
     × (opening_parts build (level (Some 1) false 0) 0 x ≡ nested_start build false 0 x)
 opened_are = (refl, refl, refl, refl, refl, refl)
 
-abbrev end : List Part
-end = tag markup.EndUnordered ∷ tag markup.EndDetails ∷ tag markup.EndItem ∷ []
-
 closed_are :
     (closing_parts build (level (Some 0) true 1) 2 ≡ tag markup.EndItem ∷ [])
     × (closing_parts build (level (Some 0) true 60) 2 ≡ tag markup.EndItem ∷ [])
@@ -290,24 +268,23 @@ closed_are :
     × (closing_parts build (level (Some 0) true 59) 0 ≡ end)
 closed_are = (refl, refl, refl, refl)
 
-ends_are :
-    (log_end build (level (Some 0) true 1) 2 0 ≡ tag markup.EndItem ∷ [])
-    × (log_end build (level (Some 0) true 1) 2 1 ≡ tag markup.EndItem ∷ end)
-    × (log_end build (level (Some 0) true 1) 0 1 ≡ tag markup.EndUnordered ∷ tag markup.EndDetails ∷ tag markup.EndItem ∷ end)
-ends_are = (refl, refl, refl)
+-- A log that contains nothing, and one that contains something.
+logs_are :
+    (log_parts build (level (Some 0) true 1) (Mentioned 1 9 Made (codes "b") (OpensHere 1)) 2 x
+    ≡ tag (markup.TargetItem 2) ∷ name (codes "b") (words (codes "x") ∷ tag markup.EndItem ∷ []))
+    × (log_parts build (level (Some 0) true 1) mention 1 x
+    ≡ tag markup.Item ∷ tag (markup.OpenDetails 1) ∷ tag markup.Summary
+    ∷ name (codes "a") (facts (tag markup.EndSummary ∷ tag markup.Unordered ∷ moved (words (codes "x") ∷ end))))
+logs_are = (refl, refl)
 
-log_starts_are :
-    (log_start build (level (Some 0) true 1) 2 block (Mentioned 1 9 Made (codes "b") (OpensHere 1))
-    ≡ tag markup.EndPre ∷ tag markup.EndItem ∷ tag (markup.TargetItem 2) ∷ name (codes "b") [])
-    × (log_start grouped (level (Some 0) true 1) 1 pending.Nothing (Mentioned 1 9 Made (codes "b") (OpensHere 1))
-    ≡ group_parts 5 ++ tag (markup.TargetItem 1) ∷ name (codes "b") [])
-log_starts_are = (refl, refl)
+grouped_are :
+    (silent_parts build (level (Some 0) true 1) 5 x ≡ group_start_of 5 ++ words (codes "x") ∷ end)
+    × (silent_parts build (level (Some 0) true 1) 6 x ≡ group_start_of 6 ++ words (codes "x") ∷ end)
+    × (silent_parts build (level (Some 0) true 1) 4 x ≡ x)
+    × (silent_parts (build_of false (silent 9 ∷ []) []) (level (Some 0) true 1) 5 x ≡ x)
+grouped_are = (refl, refl, refl, refl)
 
 -- ---- events that open no log
-
-items_are : (item_parts block true x ≡ tag markup.EndPre ∷ tag markup.EndItem ∷ x) × (item_parts block false x ≡ [])
-    × (after_item block true ≡ pending.Nothing) × (after_item block false ≡ block)
-items_are = (refl, refl, refl, refl)
 
 request_is : request_parts (codes "q") ≡ tag markup.Item ∷ name (codes "q") (tag markup.EndItem ∷ [])
 request_is = refl
@@ -369,33 +346,88 @@ what_is_seen_are :
     × (entry_parts build (Closing 9 (pos 2)) ≡ [])
 what_is_seen_are = (refl, refl, refl, refl, refl, refl, refl)
 
-abbrev line : List ℕ → Part
-line text = LogPart plain_style text
+-- ---- items
+
+abbrev note : Event
+note = EntryShown 1 (Note 9 (codes "n") (codes "t"))
+
+abbrev text : List ℕ → Event
+text line = EntryShown 1 (Text line)
+
+abbrev opens_b : Event
+opens_b = Mentioned 1 9 Made (codes "b") (OpensHere 1)
+
+-- A log at position 1 or 2, and the items after it.
+abbrev one : Items → Items
+one items = LogItem mention 1 NoItems items
+
+abbrev two : Items → Items
+two items = LogItem opens_b 2 NoItems items
+
+-- Lines join if nothing is between them.
+lines_joined :
+    (line_before (codes "x") NoItems ≡ Lines (codes "x" ∷ []) NoItems)
+    × (line_before (codes "x") (Lines (codes "y" ∷ []) (two NoItems)) ≡ Lines (codes "x" ∷ codes "y" ∷ []) (two NoItems))
+    × (line_before (codes "x") (Seen note (Lines (codes "y" ∷ []) NoItems))
+    ≡ Lines (codes "x" ∷ []) (Seen note (Lines (codes "y" ∷ []) NoItems)))
+lines_joined = (refl, refl, refl)
+
+-- A log that isn't silent joins nothing, and neither does the last one of a row.
+logs_joined :
+    (log_before 0 one (SilentLogs (two NoItems) NoItems) ≡ one (SilentLogs (two NoItems) NoItems))
+    × (log_before 1 one NoItems ≡ SilentLogs (one NoItems) NoItems)
+    × (log_before 1 one (SilentLogs (two NoItems) NoItems) ≡ SilentLogs (one NoItems) (SilentLogs (two NoItems) NoItems))
+    × (log_before 2 one (SilentLogs (two NoItems) (Seen note NoItems)) ≡ SilentLogs (one (two NoItems)) (Seen note NoItems))
+    × (log_before 5 one (SilentLogs (two NoItems) NoItems) ≡ SilentLogs (one (two NoItems)) NoItems)
+    × (log_before 2 one (Seen note NoItems) ≡ SilentLogs (one NoItems) (Seen note NoItems))
+    × (log_before 2 one (Seen note (SilentLogs (two NoItems) NoItems))
+    ≡ SilentLogs (one NoItems) (Seen note (SilentLogs (two NoItems) NoItems)))
+logs_joined = (refl, refl, refl, refl, refl, refl, refl)
+
+logs_counted : (leading_logs NoItems ≡ 0) × (leading_logs (one (two NoItems)) ≡ 2) × (leading_logs (one (Seen note NoItems)) ≡ 1)
+    × (leading_logs (LogItem mention 1 (two NoItems) NoItems) ≡ 1)
+logs_counted = (refl, refl, refl, refl)
 
 -- The text of `a` is in its article, and the text of `c` isn't.
-texts_are :
-    (text_parts build in_a pending.Nothing (codes "x") ≡ [])
-    × (text_parts build in_c pending.Nothing (codes "x") ≡ tag markup.Item ∷ tag markup.Pre ∷ line (codes "x\n") ∷ [])
-    × (after_text build in_a pending.Nothing (codes "x") ≡ pending.Nothing) × (after_text build in_c pending.Nothing (codes "x") ≡ block)
-unfolding symbols_after first_symbol symbol_len is_sequence sequence_len sequence_numbers first_code_point code_point_len
-texts_are = (refl, refl, refl, refl)
+events_are :
+    (event_before build in_a (text (codes "x")) (one NoItems) ≡ one NoItems)
+    × (event_before build in_c (text (codes "x")) (Lines (codes "y" ∷ []) NoItems) ≡ Lines (codes "x" ∷ codes "y" ∷ []) NoItems)
+    × (event_before build in_c note (one NoItems) ≡ Seen note (one NoItems))
+    × (event_before build in_c (EntryShown 1 (Closing 9 (pos 2))) (one NoItems) ≡ one NoItems)
+events_are = (refl, refl, refl, refl)
 
-shown_are :
-    (shown_parts build in_c block (EntryShown 1 (Text (codes "y"))) ≡ line (codes "y\n") ∷ [])
-    × (shown_parts build in_c block (EntryShown 1 (Note 9 (codes "n") (codes "t")))
-    ≡ tag markup.EndPre ∷ tag markup.EndItem ∷ note_parts (codes "n") (codes "t"))
-    × (shown_parts build in_c block (EntryShown 1 (Closing 9 (pos 2))) ≡ [])
-    × (after_shown build in_c pending.Nothing (EntryShown 1 (Text (codes "x"))) ≡ block)
-    × (after_shown build in_c block (EntryShown 1 (Note 9 (codes "n") (codes "t"))) ≡ pending.Nothing)
-    × (after_shown build in_c block (EntryShown 1 (Closing 9 (pos 2))) ≡ block)
-unfolding symbols_after first_symbol symbol_len is_sequence sequence_len sequence_numbers first_code_point code_point_len
-shown_are = (refl, refl, refl, refl, refl, refl)
+-- An event that isn't seen is between two lines, and one that is seen between two others.
+items_are :
+    (items_of build in_c 1 (Shown (text (codes "x")) (Shown (EntryShown 1 (Closing 9 (pos 2))) (Shown (text (codes "y")) (Shown note
+    (Shown (text (codes "z")) (Opened mention 0 (Opened opens_b 1 Nothing Nothing) (Opened opens_b 1 Nothing Nothing)))))))
+    ≡ Lines (codes "x" ∷ codes "y" ∷ []) (Seen note (Lines (codes "z" ∷ [])
+    (LogItem mention 1 (LogItem opens_b 2 NoItems NoItems) (LogItem opens_b 3 NoItems NoItems)))))
+    × (items_of build in_c 1 (Opened mention 0 (Shown (text (codes "x")) Nothing) Nothing) ≡ LogItem mention 1 NoItems NoItems)
+items_are = (refl, refl)
+
+-- A silent log with a silent one in it, and two others. They are a row, and two more are another one, because something was between them that
+-- isn't shown.
+rows_are :
+    items_of (build_of false (silent 3 ∷ silent 1 ∷ silent 2 ∷ silent 1 ∷ silent 2 ∷ silent 1 ∷ []) []) top_level 0
+    (Opened opens_b 1 (Opened opens_b 1 Nothing Nothing)
+    (Opened opens_b 1 Nothing (Opened opens_b 1 Nothing (Opened opens_b 1 Nothing (Shown (EntryShown 1 (Closing 9 (pos 0)))
+    (Opened opens_b 1 Nothing Nothing))))))
+    ≡ SilentLogs (LogItem opens_b 0 (SilentLogs (LogItem opens_b 1 NoItems NoItems) NoItems)
+    (LogItem opens_b 2 NoItems (LogItem opens_b 3 NoItems NoItems)))
+    (SilentLogs (LogItem opens_b 4 NoItems (LogItem opens_b 5 NoItems NoItems)) NoItems)
+rows_are = refl
 
 -- ---- contents
 
+abbrev line : List ℕ → Part
+line text = LogPart plain_style text
+
+abbrev parts_of : Build → Level → ℕ → Contents → List Part
+parts_of build level position contents = items_parts build level (items_of build level position contents)
+
 -- A line, the log `a` with a note, a line, and the log `b`.
 contents_are :
-    contents_parts build in_c 1 pending.Nothing
+    parts_of build in_c 1
     (Shown (EntryShown 1 (Text (codes "x"))) (Opened mention 0 (Shown (EntryShown 2 (Note 9 (codes "n") (codes "t"))) Nothing)
     (Shown (EntryShown 1 (Text (codes "y")))
     (Opened (Mentioned 1 9 Made (codes "b") (OpensHere 1)) 1 Nothing (Shown (EntryShown 1 (Text (codes "z"))) Nothing)))))
@@ -411,18 +443,18 @@ contents_are = refl
 
 -- A note in a log, and a text line in a log whose output is moved.
 inside_are :
-    (contents_parts (build_of false (node 1 None (Some (pos 0)) 0 0 true ∷ []) []) in_c 0 pending.Nothing
+    (parts_of (build_of false (node 1 None (Some (pos 0)) 0 0 true ∷ []) []) in_c 0
     (Opened (Mentioned 1 9 Made (codes "b") (OpensHere 1)) 1 (Shown (EntryShown 2 (Note 9 (codes "n") (codes "t"))) Nothing) Nothing)
     ≡ tag markup.Item ∷ tag (markup.Details 0) ∷ tag markup.Summary ∷ name (codes "b") (tag markup.EndSummary ∷ tag markup.Unordered
     ∷ tag markup.NoteItem ∷ words (codes "redo: ") ∷ words (codes "t") ∷ tag markup.EndItem ∷ end))
-    × (contents_parts build in_c 1 pending.Nothing (Opened mention 0 (Shown (EntryShown 2 (Text (codes "x"))) Nothing) Nothing)
+    × (parts_of build in_c 1 (Opened mention 0 (Shown (EntryShown 2 (Text (codes "x"))) Nothing) Nothing)
     ≡ tag markup.Item ∷ tag (markup.OpenDetails 1) ∷ tag markup.Summary
     ∷ name (codes "a") (facts (tag markup.EndSummary ∷ tag markup.Unordered ∷ moved end)))
 inside_are = (refl, refl)
 
 -- The logs after a log with another one in it.
 next_are :
-    contents_parts (build_of false (node 2 None (Some (pos 0)) 0 1 false ∷ b ∷ b ∷ []) []) (level None false 0) 0 pending.Nothing
+    parts_of (build_of false (node 2 None (Some (pos 0)) 0 1 false ∷ b ∷ b ∷ []) []) (level None false 0) 0
     (Opened (Requested (codes "c") (OpensHere 2)) 2 (Opened (Mentioned 1 9 Made (codes "b") (OpensHere 1)) 1 Nothing Nothing)
     (Opened (Requested (codes "a") (OpensHere 0)) 0 Nothing Nothing))
     ≡ tag markup.Item ∷ tag (markup.Details 0) ∷ tag markup.Summary ∷ name (codes "c") (tag markup.EndSummary ∷ tag markup.Unordered
@@ -431,14 +463,42 @@ next_are :
     ∷ tag (markup.TargetItem 2) ∷ name (codes "a") (tag markup.EndItem ∷ [])))
 next_are = refl
 
--- The second log of a group of two ends it.
+-- Five silent logs are a group. The first one has another silent log in it.
+abbrev in_first : Node
+in_first = record (silent 5) { children = 1 }
+
+abbrev opened_b : Contents → Contents → Contents
+opened_b inside rest = Opened opens_b 1 inside rest
+
+abbrev empty : ℕ → List Part → List Part
+empty position rest = tag (markup.TargetItem position) ∷ name (codes "b") (tag markup.EndItem ∷ rest)
+
 group_is :
-    contents_parts build in_c 2 (pending.Group 2)
-    (Opened (Mentioned 1 9 Made (codes "b") (OpensHere 1)) 1 Nothing
-    (Opened (Mentioned 1 9 Made (codes "d") (OpensHere 3)) 3 Nothing Nothing))
-    ≡ tag (markup.TargetItem 2) ∷ name (codes "b") (tag markup.EndItem ∷ tag (markup.TargetItem 3) ∷ name (codes "d")
-    (words (codes " ") ∷ tag markup.OpenBadge ∷ words (codes "unfinished") ∷ tag markup.EndBadge ∷ tag markup.EndItem ∷ end))
+    parts_of (build_of false (c ∷ in_first ∷ silent 1 ∷ silent 4 ∷ silent 3 ∷ silent 2 ∷ silent 1 ∷ []) []) in_c 1
+    (opened_b (opened_b Nothing Nothing) (opened_b Nothing (opened_b Nothing (opened_b Nothing (opened_b Nothing (Shown note Nothing))))))
+    ≡ group_start_of 5
+    ++ (tag markup.Item ∷ tag (markup.Details 1) ∷ tag markup.Summary ∷ name (codes "b") (tag markup.EndSummary ∷ tag markup.Unordered ∷ empty 2 end))
+    ++ empty 3 (empty 4 (empty 5 (empty 6 (end ++ note_parts (codes "n") (codes "t")))))
 group_is = refl
+
+-- Items in their order. The log in `c` isn't expanded, because `c` contains more.
+written_are :
+    (items_parts build in_c (Seen note (two NoItems)) ≡ note_parts (codes "n") (codes "t") ++ empty 2 [])
+    × (items_parts (build_of false (c ∷ node 1 (Some 0) (Some (pos 0)) 0 0 true ∷ []) []) top_level
+    (LogItem (Requested (codes "c") (OpensHere 2)) 0 (LogItem opens_b 1 NoItems NoItems) NoItems)
+    ≡ tag markup.Item ∷ tag (markup.OpenDetails 0) ∷ tag markup.Summary ∷ name (codes "c") (tag markup.EndSummary ∷ tag markup.Unordered
+    ∷ tag markup.Item ∷ tag (markup.Details 1) ∷ tag markup.Summary
+    ∷ name (codes "b") (tag markup.EndSummary ∷ tag markup.Unordered ∷ end ++ end)))
+written_are = (refl, refl)
+
+-- Four silent logs are no group, and neither are five in a silent log.
+no_group_is :
+    (items_parts build top_level (SilentLogs (two (two (two (two NoItems)))) NoItems)
+    ≡ items_parts build top_level (two (two (two (two NoItems)))))
+    × (items_parts (build_of false (silent 9 ∷ c ∷ b ∷ []) []) (level (Some 0) true 1)
+    (SilentLogs (two (two (two (two (two NoItems))))) NoItems)
+    ≡ items_parts (build_of false (silent 9 ∷ c ∷ b ∷ []) []) (level (Some 0) true 1) (two (two (two (two (two NoItems))))))
+no_group_is = (refl, refl)
 
 -- ---- the section
 

@@ -1,7 +1,7 @@
 -- Rows of trees: the logs, the requested targets, the options, and the HTML of the tree. An independent program in Python wrote the HTML.
-use Rattle.std.proofs.Common.{◌≡◌, ℕ, Bool, true, false, List, [], ◌∷◌, ◌++◌, Option, None, Some, ℤ, pos, negsuc, refl}
+use Rattle.std.proofs.Common.{◌≡◌, ℕ, Bool, true, false, List, [], ◌∷◌, ◌++◌, Option, None, Some, ℤ, pos, negsuc, length, map, replicate, refl}
 use Rattle.std.specs.Char.{encode_utf8}
-use Rattle.std.specs.Prelude.{◌==◌, codes, if◌then◌else◌}
+use Rattle.std.specs.Prelude.{◌==◌, codes, drop, if◌then◌else◌}
 use Rattle.std.specs.Fmt.{digits}
 use Rattle.std.specs.List.{flat_map}
 use Rattle.redo_line.specs.declared.entry.Entry.{Entry}
@@ -13,22 +13,21 @@ use Rattle.redo_options.specs.declared.options.Options.{Options}
 use Rattle.redo_view.specs.Event.{Event}
 use Rattle.redo_view.specs.Expansion.{shown_events, show_log, show_log_within}
 use Rattle.redo_html.specs.Passage.{passage_html}
+use Rattle.redo_html.specs.declared.markup.Markup.TheVariants.{Pre, EndPre, EndItem}
 use Rattle.redo_html.specs.Parts.{part_html}
+use Rattle.redo_html.specs.Parts.Part.{MarkupPart, LogPart}
 use Rattle.redo_html.specs.Shown.{is_unprintable, notation, number_text, unprintable_text}
 use Rattle.redo_html.specs.Symbols.{first_code_point, code_point_len, sequence_len, sequence_numbers, is_sequence, first_symbol, symbol_len, symbols_after}
-use Rattle.redo_outline.specs.Contents.{contents_of}
+use Rattle.redo_outline.specs.Contents.{Contents, contents_of}
 use Rattle.redo_outline.specs.Outline.{outline_of}
-use Rattle.redo_html.specs.declared.style.Hue.TheVariants.{Red}
 use Rattle.redo_html.specs.Style.{plain_style}
 use Rattle.redo_outline.specs.declared.node.Node.{Node}
 use Rattle.redo_outline.specs.Contents.Contents.{Nothing, Shown, Opened}
 use Rattle.redo_view.specs.Event.Event.{Requested, Mentioned, EntryShown}
 use Rattle.redo_view.specs.declared.event.Opening.TheVariants.{NotOpened, OpensHere}
-use Rattle.redo_page.specs.declared.block.Block.{Block}
-use Rattle.redo_page.specs.declared.block.Pending.{Pending}
-use Rattle.redo_page.specs.declared.block.Pending.TheVariants as pending
-use Rattle.redo_page.specs.Blocks.{after_line, fits, line_parts}
-use Rattle.redo_page.specs.Tree.{articles, contents_parts, is_short, no_node, node_at, top_level, tree_parts}
+use Rattle.redo_page.specs.declared.level.Level.{Level}
+use Rattle.redo_page.specs.Tree.{Build, articles, is_short, items_of, items_parts, no_node, node_at, top_level, tree_parts}
+use Rattle.redo_page.specs.Blocks.{lines_block, blocks_of, fit_together, text_item}
 
 -- A text with middle dots (U+00B7) instead of its tildes.
 abbrev dotted : List ℕ → List ℕ
@@ -258,14 +257,17 @@ none_there :
     }
 none_there = refl
 
+abbrev html_at : Build → Level → ℕ → Contents → List ℕ
+html_at build level position contents = flat_map part_html (items_parts build level (items_of build level position contents))
+
 -- A log at depth 59 is nested, and one at depth 60 isn't. The output of the second one is in an article.
 abbrev one_log : List Node → ℕ → List ℕ
 one_log nodes depth =
-    flat_map part_html (contents_parts (record
+    html_at (record
     { logs = log (codes "a") [] ∷ []; options = plain; nodes = nodes; articles = articles nodes })
-    (record { position = Some 7; expanded = true; depth = depth }) 0 pending.Nothing
+    (record { position = Some 7; expanded = true; depth = depth }) 0
     (Opened (Mentioned 1 9 Made (codes "a") (OpensHere 0)) 0
-    (Shown (EntryShown 2 (Text (codes "x"))) (Shown (EntryShown 2 (Note 9 (codes "n") (codes "y"))) Nothing)) Nothing))
+    (Shown (EntryShown 2 (Text (codes "x"))) (Shown (EntryShown 2 (Note 9 (codes "n") (codes "y"))) Nothing)) Nothing)
 
 abbrev shown : Node
 shown = node None 1 2 false
@@ -287,53 +289,64 @@ long_is = refl
 
 -- A log in the deepest log that is nested is not nested.
 levels_are :
-    flat_map part_html (contents_parts (record {
+    html_at (record {
       logs = log (codes "a") [] ∷ log (codes "b") [] ∷ [];
       options = plain;
       nodes = shown ∷ record shown { number = 1 } ∷ [];
       articles = [];
-    }) (record { position = Some 7; expanded = false; depth = 59 }) 0 pending.Nothing
+    }) (record { position = Some 7; expanded = false; depth = 59 }) 0
     (Opened (Mentioned 1 9 Made (codes "a") (OpensHere 0)) 0
-    (Opened (Mentioned 1 9 Made (codes "b") (OpensHere 1)) 1 (Shown (EntryShown 2 (Text (codes "x"))) Nothing) Nothing) Nothing))
+    (Opened (Mentioned 1 9 Made (codes "b") (OpensHere 1)) 1 (Shown (EntryShown 2 (Text (codes "x"))) Nothing) Nothing) Nothing)
     ≡ dotted (codes "<li><details id=\"t0\"><summary><bdi>a</bdi> <strong class=\"o\">unfinished</strong> <small>~ 1 line</small></summary><ul><li id=\"t1\"><bdi>b</bdi> <strong class=\"o\">unfinished</strong> <small>~ 1 line</small> <small>~ level 60</small></li><li><pre>\nx\n</pre></li><li class=\"note\">end of <bdi>b</bdi></li></ul></details></li>")
 unfolding symbols_after first_symbol symbol_len is_sequence sequence_len sequence_numbers first_code_point code_point_len is_unprintable notation unprintable_text number_text encode_utf8 digits passage_html
 levels_are = refl
 
 -- A requested target whose log isn't opened.
 requested_are :
-    flat_map part_html (contents_parts (record { logs = []; options = plain; nodes = []; articles = [] }) top_level 0 pending.Nothing
-    (Shown (Requested (codes "a") NotOpened) Nothing))
+    html_at (record { logs = []; options = plain; nodes = []; articles = [] }) top_level 0
+    (Shown (Requested (codes "a") NotOpened) Nothing)
     ≡ codes "<li><bdi>a</bdi></li>"
 unfolding symbols_after first_symbol symbol_len is_sequence sequence_len sequence_numbers first_code_point code_point_len is_unprintable notation unprintable_text number_text encode_utf8 digits passage_html
 requested_are = refl
 
 -- ---- blocks
 
-abbrev block : ℕ → ℕ → Block
-block lines bytes = record { lines = lines; bytes = bytes; style = record { bold = true; hue = Red } }
-
--- A line with its line feed fits up to 500 lines and 65,536 bytes.
+-- 500 lines fit into a block, and lines with 65,536 bytes.
 fits_are :
-    (fits (block 499 0) 65536 ≡ true) × (fits (block 500 0) 1 ≡ false) × (fits (block 1 65530) 6 ≡ true) × (fits (block 1 65530) 7 ≡ false)
-    × (fits (block 0 0) 65537 ≡ false)
-fits_are = (refl, refl, refl, refl, refl)
+    (fit_together (replicate 500 []) ≡ true) × (fit_together (replicate 501 []) ≡ false)
+    × (fit_together (replicate 64 (replicate 1023 120)) ≡ true)
+    × (fit_together ([] ∷ replicate 64 (replicate 1023 120)) ≡ false)
+fits_are = (refl, refl, refl, refl)
 
-abbrev line_html : Pending → List ℕ → List ℕ
-line_html before line = flat_map part_html (line_parts before line)
+-- A line of 20,479 bytes, with its line feed 20,480.
+abbrev long : List ℕ
+long = replicate 20479 120
 
--- The parts of a line, and the open block after it. A block goes on with its style, and a new one begins with the plain style.
+-- Three of these lines fit into a block, and 4,096 bytes more. A longer line than fits has a block of its own.
+blocks_are :
+    (map length (blocks_of (replicate 7 long)) ≡ 3 ∷ 3 ∷ 1 ∷ [])
+    × (map length (blocks_of (replicate 3 long ++ replicate 4095 120 ∷ codes "x" ∷ [])) ≡ 4 ∷ 1 ∷ [])
+    × (map length (blocks_of (codes "x" ∷ replicate 65536 120 ∷ codes "y" ∷ codes "z" ∷ [])) ≡ 1 ∷ 1 ∷ 2 ∷ [])
+    × (map length (blocks_of (replicate 501 [])) ≡ 500 ∷ 1 ∷ [])
+    × (blocks_of (codes "x" ∷ codes "y" ∷ []) ≡ (codes "x" ∷ codes "y" ∷ []) ∷ []) × (blocks_of [] ≡ [])
+blocks_are = (refl, refl, refl, refl, refl, refl)
+
+-- `ESC [31m` begins a red text, and `ESC [m` ends it.
+abbrev red : List ℕ
+red = 27 ∷ codes "[31m"
+
+-- A line ends with a line feed. The style of a line lasts in those after it.
 lines_are :
-    (line_html pending.Nothing (codes "x") ≡ codes "<li><pre>\nx\n")
-    × (after_line pending.Nothing (codes "x") ≡ pending.Text (record { lines = 1; bytes = 2; style = plain_style }))
-    × (line_html (pending.Group 3) [] ≡ codes "</ul></details></li><li><pre>\n\n")
-    × (after_line (pending.Group 3) [] ≡ pending.Text (record { lines = 1; bytes = 1; style = plain_style }))
-    × (line_html (pending.Text (block 3 65533)) (codes "xy") ≡ codes "<b class=\"r\">xy\n</b>")
-    × (after_line (pending.Text (block 3 65533)) (codes "xy" ++ 27 ∷ codes "[m")
-    ≡ pending.Text (record { lines = 1; bytes = 6; style = plain_style }))
-    × (after_line (pending.Text (block 3 5)) (codes "xy" ++ 27 ∷ codes "[m")
-    ≡ pending.Text (record { lines = 4; bytes = 11; style = plain_style }))
-    × (after_line (pending.Text (block 3 5)) (codes "xy") ≡ pending.Text (block 4 8))
-    × (line_html (pending.Text (block 3 65534)) (codes "xy") ≡ codes "</pre><pre>\nxy\n")
-    × (after_line (pending.Text (block 500 5)) (codes "xy") ≡ pending.Text (record { lines = 1; bytes = 3; style = plain_style }))
+    (flat_map part_html (lines_block (codes "x" ∷ [] ∷ [])) ≡ codes "<pre>\nx\n\n</pre>")
+    × (flat_map part_html (lines_block ((red ++ codes "x") ∷ codes "y" ∷ (27 ∷ codes "[mz") ∷ []))
+    ≡ codes "<pre>\n<span class=\"r\">x\n</span><span class=\"r\">y\n</span>z\n</pre>")
+    × (flat_map part_html (text_item (codes "x" ∷ codes "y" ∷ [])) ≡ codes "<li><pre>\nx\ny\n</pre></li>")
 unfolding symbols_after first_symbol symbol_len is_sequence sequence_len sequence_numbers first_code_point code_point_len is_unprintable notation unprintable_text number_text encode_utf8 digits passage_html
-lines_are = (refl, refl, refl, refl, refl, refl, refl, refl, refl, refl)
+lines_are = (refl, refl, refl)
+
+-- A new block begins in the plain style, in the same item.
+new_blocks_are :
+    drop 502 (text_item (replicate 499 [] ++ red ∷ codes "y" ∷ []))
+    ≡ MarkupPart EndPre ∷ MarkupPart Pre ∷ LogPart plain_style (codes "y\n") ∷ MarkupPart EndPre ∷ MarkupPart EndItem ∷ []
+unfolding symbols_after first_symbol symbol_len is_sequence sequence_len sequence_numbers first_code_point code_point_len
+new_blocks_are = refl

@@ -21,8 +21,8 @@ use Rattle.redo_page.specs.declared.level.Level.{Level}
 use Rattle.redo_page.specs.declared.level.OpenLog.{OpenLog}
 use Rattle.redo_page.specs.declared.step.Step.{Step}
 use Rattle.redo_page.specs.declared.step.Step.TheVariants.{Opens, Shows}
-use Rattle.redo_page.specs.Blocks.{end_parts}
-use Rattle.redo_page.specs.Tree.{Build, after_log, after_shown, contents_parts, group_left, level_of, log_end, log_start, shown_parts}
+use Rattle.redo_page.specs.Tree.{Build, level_of}
+use Rattle.redo_page.specs.Private.Streaming.{after_log, after_shown, contents_parts, end_parts, group_left, log_end, log_start, shown_parts}
 use Rattle.redo_page.specs.Private.Walking.{Walk, after_event, after_step, level_in, next_position, opened_log, step_of, step_parts, tree_bytes, walk_parts}
 
 -- ---- events, one after the other

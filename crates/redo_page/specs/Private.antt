@@ -3,6 +3,7 @@ pub mod Excerpting
 pub mod PageTexts
 pub mod Printed
 pub mod Referring
+pub mod Streaming
 pub mod Texts
 pub mod Viewing
 pub mod Walking

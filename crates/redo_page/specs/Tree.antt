@@ -1,5 +1,5 @@
 -- The tree of a page: each log where its target is mentioned first, with its contents.
-use Rattle.std.specs.Prelude.{ℕ, suc, ◌+◌, ◌-◌, ◌==◌, ◌||◌, ◌&&◌, not, nat_le, nat_lt, Bool, true, false, ℤ, List, [], ◌∷◌, ◌++◌, Option, None, Some, codes, bytes_eq, length, position, option_and_then, slice_index_or, take, if◌then◌else◌}
+use Rattle.std.specs.Prelude.{ℕ, zero, suc, ◌+◌, ◌==◌, ◌||◌, ◌&&◌, not, nat_le, Bool, true, false, ℤ, List, [], ◌∷◌, ◌++◌, Option, None, Some, codes, bytes_eq, length, position, option_and_then, slice_index_or, take, if◌then◌else◌}
 use Rattle.std.specs.declared.cmp.Ordering.{Ordering}
 use Rattle.std.specs.declared.cmp.Ordering.TheVariants.{Less, Equal, Greater}
 use Rattle.std.specs.List.{list_any}
@@ -24,10 +24,8 @@ use Rattle.redo_outline.specs.Facts.{is_failure}
 use Rattle.redo_outline.specs.Outline.{log_count}
 use Rattle.redo_timeline.specs.Order.{sort}
 use Rattle.redo_page.specs.declared.labels.TheConstants.{ALL_LOGS, END_OF, LEVEL, NEEDS, SHOWN_ABOVE, SILENT_TARGETS, TREE_IS}
-use Rattle.redo_page.specs.declared.block.Pending.{Pending}
-use Rattle.redo_page.specs.declared.block.Pending.TheVariants as pending
 use Rattle.redo_page.specs.declared.level.Level.{Level}
-use Rattle.redo_page.specs.Blocks.{after_line, end_parts, line_parts, nested_end}
+use Rattle.redo_page.specs.Blocks.{text_item}
 use Rattle.redo_page.specs.Targets.{parts_if, name_parts, linked_parts, exit_parts, fact_parts, facts_parts, how_parts}
 use Rattle.redo_outline.specs.Facts.{target_at}
 
@@ -125,20 +123,51 @@ is_same_position None (Some other) = false
 is_same_position (Some one) None = false
 is_same_position (Some one) (Some other) = one == other
 
+-- ---- items
+
+-- What a list of the tree shows, in order.
+pub data Items : Type 0 where
+  NoItems : Items
+  -- Text lines that follow each other.
+  Lines : List (List ℕ) → Items → Items
+  -- An event that is seen. It is no text line and opens no log.
+  Seen : Event → Items → Items
+  -- A log: the event that opens it, its position, and the items in it.
+  LogItem : Event → ℕ → Items → Items → Items
+  -- Silent logs in a row.
+  SilentLogs : Items → Items → Items
+
+-- A text line before items. It joins the text lines that follow it.
+abbrev pub line_before : List ℕ → Items → Items
+line_before line (Lines lines items) = Lines (line ∷ lines) items
+line_before line items = Lines (line ∷ []) items
+
+-- A silent log before items. It joins the silent logs that follow it.
+abbrev pub silent_before : (Items → Items) → Items → Items
+silent_before log (SilentLogs logs items) = SilentLogs (log logs) items
+silent_before log items = SilentLogs (log NoItems) items
+
+-- A log before items. `silent` is the number of silent logs in a row from this one on, or 0 if it isn't silent. So a log with 1 ends its row,
+-- even if only something that the tree leaves out is between it and the next silent log.
+abbrev pub log_before : ℕ → (Items → Items) → Items → Items
+log_before zero log items = log items
+log_before (suc zero) log items = SilentLogs (log NoItems) items
+log_before silent log items = silent_before log items
+
+-- The number of logs with which items begin.
+abbrev pub leading_logs : Items → ℕ
+leading_logs (LogItem event position inside items) = suc (leading_logs items)
+leading_logs items = 0
+
 -- ---- groups of silent logs
 
-abbrev pub group_parts : ℕ → List Part
-group_parts size =
-    parts_if (not (size == 0))
-    (MarkupPart markup.Item ∷ MarkupPart markup.QuietDetails ∷ MarkupPart markup.Summary ∷ NumberPart size ∷ TextPart SILENT_TARGETS.now ∷ MarkupPart markup.EndSummary ∷ MarkupPart markup.Unordered ∷ [])
+abbrev pub group_start_of : ℕ → List Part
+group_start_of size =
+    MarkupPart markup.Item ∷ MarkupPart markup.QuietDetails ∷ MarkupPart markup.Summary ∷ NumberPart size ∷ TextPart SILENT_TARGETS.now ∷ MarkupPart markup.EndSummary ∷ MarkupPart markup.Unordered ∷ []
 
--- The end of a group after a log, with which `left` logs were left of the group; 0 if the log is in no group.
-abbrev pub group_end : ℕ → List Part
-group_end left = parts_if (left == 1) nested_end
-
--- The group that is open after such a log.
-abbrev pub after_log : ℕ → Pending
-after_log left = if nat_lt 1 left then pending.Group (left - 1) else pending.Nothing
+-- The end of a nested list: of a group, or of the contents of a log.
+abbrev pub nested_end : List Part
+nested_end = MarkupPart markup.EndUnordered ∷ MarkupPart markup.EndDetails ∷ MarkupPart markup.EndItem ∷ []
 
 -- ---- the start of a log
 
@@ -153,14 +182,7 @@ depth_parts depth = fact_parts (TextPart LEVEL.now ∷ NumberPart depth ∷ []) 
 abbrev pub details_markup : Bool → ℕ → Markup
 details_markup expanded position = if expanded then markup.OpenDetails position else markup.Details position
 
--- ---- the visible item of an event
-
--- A visible event is an item of its own. An invisible event ends nothing.
-abbrev pub item_parts : Pending → Bool → List Part → List Part
-item_parts before seen parts = if seen then end_parts before ++ parts else []
-
-abbrev pub after_item : Pending → Bool → Pending
-after_item before seen = if seen then pending.Nothing else before
+-- ---- an event that opens no log
 
 -- A requested target whose log isn't opened.
 abbrev pub request_parts : List ℕ → List Part
@@ -238,28 +260,6 @@ module _ (build : Build) where
       else if nat_le max_depth level.depth then flat_end position
       else nested_end
 
-  -- The number of logs of the group that begins with the log at this position; 0 if none begins. There are no groups in a silent log.
-  abbrev pub group_size : Level → ℕ → ℕ
-  group_size level position =
-      if nat_le min_group (node_at build.nodes position).silent && not (is_silent (node_if build.nodes level.position)) then (node_at build.nodes position).silent else 0
-
-  -- The number of logs that are left of a group before a log, with this log; 0 if the log is in no group.
-  abbrev pub group_left : Level → ℕ → Pending → ℕ
-  group_left level position (pending.Group left) = left
-  group_left level position before = group_size level position
-
-  -- The parts before a log: the start of a group, if one begins here.
-  abbrev pub group_start : Level → ℕ → Pending → List Part
-  group_start level position (pending.Group left) = []
-  group_start level position before = end_parts before ++ group_parts (group_size level position)
-
-  -- A log before its contents, and after them.
-  abbrev pub log_start : Level → ℕ → Pending → Event → List Part
-  log_start level position before event = group_start level position before ++ opening_parts level position (heading_parts event position)
-
-  abbrev pub log_end : Level → ℕ → ℕ → List Part
-  log_end level position left = closing_parts level position ++ group_end left
-
   -- ---- events that open no log
 
   abbrev pub opening_position : Opening → Option ℕ
@@ -311,33 +311,40 @@ module _ (build : Build) where
   seen_parts (EntryShown depth entry) = entry_parts entry
   seen_parts (LogEnds depth) = []
 
-  -- A text line, unless it is in an article.
-  abbrev pub text_parts : Level → Pending → List ℕ → List Part
-  text_parts level before line = if is_moved_if level.position then [] else line_parts before line
+  -- ---- items
 
-  abbrev pub after_text : Level → Pending → List ℕ → Pending
-  after_text level before line = if is_moved_if level.position then before else after_line before line
+  -- An event that opens no log, before items.
+  abbrev pub event_before : Level → Event → Items → Items
+  event_before level (EntryShown depth (Text line)) items = if is_moved_if level.position then items else line_before line items
+  event_before level event items = if is_seen level event then Seen event items else items
 
-  -- An event that opens no log, and the open group or block after it.
-  abbrev pub shown_parts : Level → Pending → Event → List Part
-  shown_parts level before (EntryShown depth (Text line)) = text_parts level before line
-  shown_parts level before event = item_parts before (is_seen level event) (seen_parts event)
+  -- The items of a log's contents. `position` is the next log's position.
+  abbrev pub items_of : Level → ℕ → Contents → Items
+  items_of level position Nothing = NoItems
+  items_of level position (Shown event rest) = event_before level event (items_of level position rest)
+  items_of level position (Opened event number inside rest) =
+      log_before (node_at build.nodes position).silent (LogItem event position (items_of (level_of level position) (suc position) inside))
+      (items_of level (suc position + log_count inside) rest)
 
-  abbrev pub after_shown : Level → Pending → Event → Pending
-  after_shown level before (EntryShown depth (Text line)) = after_text level before line
-  after_shown level before event = after_item before (is_seen level event)
+  -- Whether this many silent logs in a row are a group. There are no groups in a silent log.
+  abbrev pub are_group : Level → ℕ → Bool
+  are_group level size = nat_le min_group size && not (is_silent (node_if build.nodes level.position))
 
-  -- ---- contents
+  -- Silent logs in a row, with these parts.
+  abbrev pub silent_parts : Level → ℕ → List Part → List Part
+  silent_parts level size logs = if are_group level size then group_start_of size ++ (logs ++ nested_end) else logs
 
-  -- The parts of a log's contents. `position` is the next log's position, and `before` is the open group or block.
-  abbrev pub contents_parts : Level → ℕ → Pending → Contents → List Part
-  contents_parts level position before Nothing = end_parts before
-  contents_parts level position before (Shown event rest) = shown_parts level before event ++ contents_parts level position (after_shown level before event) rest
-  contents_parts level position before (Opened event number inside rest) =
-      log_start level position before event
-      ++ (contents_parts (level_of level position) (suc position) pending.Nothing inside
-      ++ (log_end level position (group_left level position before)
-      ++ contents_parts level (suc position + log_count inside) (after_log (group_left level position before)) rest))
+  -- A log, with the parts in it.
+  abbrev pub log_parts : Level → Event → ℕ → List Part → List Part
+  log_parts level event position inside = opening_parts level position (heading_parts event position) ++ (inside ++ closing_parts level position)
+
+  abbrev pub items_parts : Level → Items → List Part
+  items_parts level NoItems = []
+  items_parts level (Lines lines items) = text_item lines ++ items_parts level items
+  items_parts level (Seen event items) = seen_parts event ++ items_parts level items
+  items_parts level (LogItem event position inside items) =
+      log_parts level event position (items_parts (level_of level position) inside) ++ items_parts level items
+  items_parts level (SilentLogs logs items) = silent_parts level (leading_logs logs) (items_parts level logs) ++ items_parts level items
 
 -- The section with the tree.
 abbrev pub section_start : List Part
@@ -352,4 +359,4 @@ section_end = MarkupPart markup.EndUnordered ∷ MarkupPart markup.EndSection �
 abbrev pub tree_parts : List Log → Options → List Node → Contents → List Part
 tree_parts logs options nodes contents =
     let build : Build = record { logs = logs; options = options; nodes = nodes; articles = articles nodes } in
-    section_start ++ (contents_parts build top_level 0 pending.Nothing contents ++ section_end)
+    section_start ++ (items_parts build top_level (items_of build top_level 0 contents) ++ section_end)

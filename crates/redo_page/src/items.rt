@@ -2,10 +2,10 @@
 ghost use Rattle.std.specs.Prelude.{◌≡◌};
 ghost use Rattle.redo_logs.specs.EntryRef.{entry_value};
 ghost use Rattle.redo_view.specs.EventRef.{IsWrittenAlone, event_value};
-ghost use Rattle.redo_page.specs.Blocks.{end_parts};
 ghost use Rattle.redo_page.specs.Private.Referring.{build_value};
 ghost use Rattle.redo_page.specs.Private.Writing.{WroteParts};
-ghost use Rattle.redo_page.specs.Tree.{after_shown, done_parts, entry_parts, is_seen, is_seen_done, is_seen_entry, item_parts, mention_parts, note_parts, note_prefix, request_parts, seen_parts, shown_parts};
+ghost use Rattle.redo_page.specs.Tree.{done_parts, entry_parts, is_seen, is_seen_done, is_seen_entry, mention_parts, note_parts, note_prefix, request_parts, seen_parts};
+ghost use Rattle.redo_page.specs.Private.Streaming.{after_shown, end_parts, item_parts, shown_parts};
 
 use crate::block::Pending;
 use crate::build::BuildRef;

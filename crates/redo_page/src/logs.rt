@@ -4,7 +4,8 @@ ghost use Rattle.redo_view.specs.EventRef.{event_value};
 ghost use Rattle.redo_html.specs.Parts.{Part};
 ghost use Rattle.redo_page.specs.Private.Referring.{build_value};
 ghost use Rattle.redo_page.specs.Private.Writing.{WroteParts};
-ghost use Rattle.redo_page.specs.Tree.{after_log, closing_parts, depth_parts, details_markup, empty_start, flat_end, flat_start, group_end, group_left, group_parts, group_size, group_start, heading_parts, log_end, log_start, max_depth, min_group, moved_parts, nested_start, opening_parts};
+ghost use Rattle.redo_page.specs.Tree.{closing_parts, depth_parts, details_markup, empty_start, flat_end, flat_start, heading_parts, max_depth, min_group, moved_parts, nested_start, opening_parts};
+ghost use Rattle.redo_page.specs.Private.Streaming.{after_log, group_end, group_left, group_parts, group_size, group_start, log_end, log_start};
 
 use crate::block::Pending;
 use crate::build::{BuildRef, is_empty, is_silent};

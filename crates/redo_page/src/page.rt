@@ -18,9 +18,10 @@ ghost use Rattle.redo_outline.specs.Outline.{log_count};
 ghost use Rattle.redo_view.specs.Expansion.{shown_events};
 ghost use Rattle.redo_page.specs.Frame.{footer_parts};
 ghost use Rattle.redo_page.specs.Tree.{articles, root_failures};
-ghost use Rattle.redo_page.specs.Page.{body_parts, options_of, page_html, page_options, page_outline, request_of, run_times, top_parts};
+ghost use Rattle.redo_page.specs.Page.{options_of, page_html, page_options, page_outline, request_of, run_times, top_parts};
 ghost use Rattle.redo_summary.specs.Targets.{time_between};
 ghost use Rattle.redo_page.specs.Private.PageTexts.{AreFailures, AreTexts};
+ghost use Rattle.redo_page.specs.Private.Streaming.{streamed_body};
 ghost use Rattle.redo_page.specs.Private.Viewing.{view_of};
 ghost use Rattle.redo_page.specs.Private.Writing.{WroteParts};
 
@@ -208,8 +209,8 @@ fn write_stages<W: Sink>(
     requires roots { scope.now.roots.now ≡ root_failures outline.now }
     ensures { FormWrites (W.written out.old) (W.written out.new)
         (flat_map part_html (top_parts (view_of scope.now)
-        ++ (body_parts (view_of scope.now) options.now scope.now.request.now.max_bytes requested.now ++ footer_parts (view_of scope.now))))
-        result }
+        ++ (streamed_body (view_of scope.now) options.now scope.now.request.now.max_bytes requested.now
+        ++ footer_parts (view_of scope.now)))) result }
 {
     write_top(scope, out)?;
     let articles = scope.positions(Listed::Articles);
@@ -234,7 +235,7 @@ fn write_body<W: Sink>(
     requires count { length outline.now ≡ log_count (contents_of (shown_events scope.now.table.now options.now requested.now)) }
     requires articles { positions.now ≡ articles outline.now }
     ensures { FormWrites (W.written out.old) (W.written out.new)
-        (flat_map part_html (body_parts (view_of scope.now) options.now scope.now.request.now.max_bytes requested.now)) result }
+        (flat_map part_html (streamed_body (view_of scope.now) options.now scope.now.request.now.max_bytes requested.now)) result }
 {
     write_timeline(alloc, scope, out)?;
     write_tree(

@@ -4,7 +4,7 @@ ghost use Rattle.std.specs.List.{flat_map};
 ghost use Rattle.redo_device.specs.Sink.{Writes};
 ghost use Rattle.redo_html.specs.Parts.{part_html};
 ghost use Rattle.redo_line.specs.Lines.{ended, rest};
-ghost use Rattle.redo_page.specs.Blocks.{block_for, fits, line_start};
+ghost use Rattle.redo_page.specs.Private.Streaming.{block_for, fits, line_start};
 ghost use Rattle.redo_page.specs.Private.Texts.{AreChunk, BeginsChunk, IsFirstLine, after_lines, lines_parts};
 
 use crate::block::{Block, Pending};

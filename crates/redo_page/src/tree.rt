@@ -2,7 +2,8 @@
 //!
 //! `TreeForm` is the form that writes the tree. Its state is the logs that are open, the position of the next log, and the open group or
 //! block of text (`Pending`). `Trimmed` of `redo_trim` owns it and leaves out the middle of long logs; a `TreeForm` knows of no limits.
-//! The tree is defined by recursion over `Contents`. The code has no recursion.
+//! `tree_parts` defines the tree by items. `streamed_tree` has the same parts, in the order in which this file writes them. The code has no
+//! recursion.
 ghost use Rattle.std.specs.Prelude.{◌≡◌, ◌++◌, true, None, [], OnOk, length, reverse};
 ghost use Rattle.std.specs.List.{flat_map, list_all};
 ghost use Rattle.redo_device.specs.Sink.{Writes};
@@ -20,8 +21,8 @@ ghost use Rattle.redo_page.specs.Private.Walking.{after_ending, after_event, aft
 ghost use Rattle.redo_page.specs.Limits.{tree_limits};
 ghost use Rattle.redo_trim.specs.Trim.{trim, trimmed};
 ghost use Rattle.redo_page.specs.Private.Writing.{WroteParts};
-ghost use Rattle.redo_page.specs.Blocks.{end_parts};
-ghost use Rattle.redo_page.specs.Tree.{after_shown, articles, log_start, section_end, section_start, shown_parts, tree_parts};
+ghost use Rattle.redo_page.specs.Tree.{articles, section_end, section_start};
+ghost use Rattle.redo_page.specs.Private.Streaming.{after_shown, end_parts, log_start, shown_parts, streamed_tree};
 
 use crate::block::Pending;
 use crate::build::BuildRef;
@@ -355,7 +356,7 @@ pub fn write_tree<W: Sink>(
     requires outline { length outline.now ≡ log_count (contents_of (shown_events table.now options.now requested.now)) }
     requires articles { positions.now ≡ articles outline.now }
     ensures { FormWrites (W.written out.old) (W.written out.new) (flat_map part_html
-        (tree_parts table.now options.now outline.now (trim (tree_limits table.now options.now outline.now budget) []
+        (streamed_tree table.now options.now outline.now (trim (tree_limits table.now options.now outline.now budget) []
         (contents_of (shown_events table.now options.now requested.now))))) result }
 {
     events_are_in_contents();

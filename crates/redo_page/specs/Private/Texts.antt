@@ -6,7 +6,8 @@ use Rattle.redo_line.specs.Lines.{ended, rest}
 use Rattle.redo_page.specs.declared.block.Block.{Block}
 use Rattle.redo_page.specs.declared.block.Pending.{Pending}
 use Rattle.redo_page.specs.declared.texts.Chunk.{Chunk}
-use Rattle.redo_page.specs.Blocks.{after_line, block_for, line_parts, line_size, max_block_bytes, max_block_lines}
+use Rattle.redo_page.specs.Blocks.{max_block_bytes, max_block_lines}
+use Rattle.redo_page.specs.Private.Streaming.{after_line, block_for, line_parts, line_size}
 
 abbrev pub lines_parts : Pending → List (List ℕ) → List Part
 lines_parts before [] = []

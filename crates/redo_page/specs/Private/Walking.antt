@@ -13,9 +13,9 @@ use Rattle.redo_page.specs.declared.level.Level.{Level}
 use Rattle.redo_page.specs.declared.level.OpenLog.{OpenLog}
 use Rattle.redo_page.specs.declared.step.Step.{Step}
 use Rattle.redo_page.specs.declared.step.Step.TheVariants.{Opens, Ends, Shows}
-use Rattle.redo_page.specs.Blocks.{end_parts}
 use Rattle.redo_page.specs.Private.Texts.{after_lines, lines_parts}
-use Rattle.redo_page.specs.Tree.{Build, after_log, after_shown, group_left, is_expanded, is_moved_if, log_end, log_start, node_at, section_end, shown_parts, top_level}
+use Rattle.redo_page.specs.Tree.{Build, is_expanded, is_moved_if, node_at, section_end, top_level}
+use Rattle.redo_page.specs.Private.Streaming.{after_log, after_shown, end_parts, group_left, log_end, log_start, shown_parts}
 
 -- The state before an event: the logs that are open, the innermost first; the position of the next log; and the open group or
 -- block.

@@ -27,6 +27,7 @@ use Rattle.redo_page.proofs.PageIds.{outline_counted}
 use Rattle.redo_page.proofs.FailedIds.{articles_below}
 use Rattle.redo_page.proofs.ElementLemmas.{tree_shows}
 use Rattle.redo_page.proofs.PageNames.{page_placed}
+use Rattle.redo_page.proofs.TreeItems.{tree_is_streamed}
 use Rattle.redo_page.proofs.TreeLines.{tree_text}
 use Rattle.redo_page.proofs.FailedLines.{article_text}
 use Rattle.redo_page.proofs.PagePartLemmas.{page_has_tree, page_has_article}
@@ -42,7 +43,8 @@ returns-clause-complete c = λ request logs requested known.
 
 pub returns-clause-tree : goal.returns-clause-tree
 returns-clause-tree c = λ request logs requested.
-    tree_text logs (options_of request) (page_outline request logs requested) (page_contents request logs requested)
+    ap log_bytes (tree_is_streamed request logs requested)
+    ∙ tree_text logs (options_of request) (page_outline request logs requested) (page_contents request logs requested)
 
 -- A node keeps its number.
 same_number : (times : List RunTimes) (nodes : List Node) (position : ℕ)
@@ -73,9 +75,9 @@ returns-clause-articles c = λ request logs requested known position moved.
     moved_text request logs requested (c.logs_show_their_lines.ensures logs (options_of request) requested known) position moved
 
 pub returns-clause-inside : goal.returns-clause-inside
-returns-clause-inside c = λ request logs requested.
+returns-clause-inside c = λ request logs requested before tag inside after is.
     tree_shows logs (options_of request) (page_outline request logs requested) (page_contents request logs requested)
-    (page_placed request logs requested)
+    (page_placed request logs requested) before tag inside after (is ∙ tree_is_streamed request logs requested)
 
 pub returns-clause-bounded : goal.returns-clause-bounded
 returns-clause-bounded c = λ request logs requested some small few known.

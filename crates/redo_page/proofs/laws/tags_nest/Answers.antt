@@ -1,4 +1,4 @@
-use Rattle.std.proofs.Common.{ℕ, List, [], ◌∷◌, refl, sym, ◌∙◌, ap}
+use Rattle.std.proofs.Common.{ℕ, List, [], ◌∷◌, refl, sym, ◌∙◌, ap, subst}
 use Rattle.std.specs.Prelude.{codes}
 use Rattle.std.specs.List.{flat_map}
 use Rattle.std.proofs.lemmas.List.{append-nil}
@@ -18,6 +18,7 @@ use Rattle.redo_page.specs.Summary.{summary_parts}
 use Rattle.redo_page.proofs.Nesting.{Leads, Nest, lead_in, then_lead}
 use Rattle.redo_page.proofs.TemplateNesting.{template_leads}
 use Rattle.redo_page.proofs.TimelineLemmas.{timeline_nests}
+use Rattle.redo_page.proofs.TreeItems.{tree_is_streamed}
 use Rattle.redo_page.proofs.TreeNesting.{tree_nests}
 use Rattle.redo_page.proofs.laws.tags_nest.Goals as goal
 
@@ -41,7 +42,8 @@ page_nests request logs requested =
     let view = page_view request logs requested in
     then_lead (top_leads view)
     (then_lead (then_lead (lead_in main (timeline_nests view))
-    (lead_in main (tree_nests logs (options_of request) view.nodes (page_contents request logs requested))))
+    (lead_in main (subst Nest (sym (tree_is_streamed request logs requested))
+    (tree_nests logs (options_of request) view.nodes (page_contents request logs requested)))))
     (template_leads FOOTER view main [] refl))
 
 pub returns : goal.returns

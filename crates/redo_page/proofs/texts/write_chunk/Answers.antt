@@ -7,7 +7,7 @@ use Rattle.redo_html.specs.Parts.{part_html}
 use Rattle.redo_line.specs.Lines.{ended}
 use Rattle.redo_page.specs.declared.block.Block.{Block}
 use Rattle.redo_page.specs.declared.block.Pending.TheVariants as pending
-use Rattle.redo_page.specs.Blocks.{line_start}
+use Rattle.redo_page.specs.Private.Streaming.{line_start}
 use Rattle.redo_page.specs.Private.Texts.{WroteUpTo, lines_parts}
 use Rattle.redo_page.proofs.TextLemmas.{after_chunk, chunk_html}
 use Rattle.redo_page.proofs.UpTo.{failed_part, wrote_all, wrote_more, wrote_none}

@@ -6,8 +6,8 @@ use Rattle.redo_view.specs.Expansion.{shown_events}
 use Rattle.redo_view.specs.Form.{FormWrites, bytes_of, state_after}
 use Rattle.redo_view.specs.Written.{WroteAll}
 use Rattle.redo_trim.specs.Trim.{trimmed}
-use Rattle.redo_page.specs.Blocks.{end_parts}
 use Rattle.redo_page.specs.Tree.{section_end}
+use Rattle.redo_page.specs.Private.Streaming.{end_parts}
 use Rattle.redo_page.specs.Private.Referring.{build_value}
 use Rattle.redo_page.specs.Private.Walking.{Walk, after_event, start_of, tree_bytes}
 use Rattle.redo_page.proofs.FormLemmas.{form_stops, form_then}
