@@ -1,10 +1,10 @@
 -- The section with what is new is a part of a page, and all that a baseline changes.
 use Rattle.std.proofs.Common.{◌≡◌, ℕ, ◌<◌, Bool, true, false, List, [], ◌∷◌, ◌++◌, Option, None, Some, refl, sym, ◌∙◌, ap, arith}
-use Rattle.std.specs.Prelude.{drop, is_some, length, not, take}
+use Rattle.std.specs.Prelude.{codes, drop, is_some, length, not, take}
 use Rattle.std.specs.List.{flat_map}
 use Rattle.std.proofs.lemmas.Bool.{ne_eqb}
 use Rattle.std.proofs.lemmas.Grind.{flat_map-append}
-use Rattle.std.proofs.lemmas.List.{append_assoc}
+use Rattle.std.proofs.lemmas.List.{append-nil, append_assoc}
 use Rattle.redo_compare.specs.Baseline.{BaselineValue}
 use Rattle.redo_html.specs.declared.markup.Markup.TheVariants as markup
 use Rattle.redo_html.specs.Html.{read}
@@ -21,7 +21,7 @@ use Rattle.redo_page.specs.declared.template.Item.{Item}
 use Rattle.redo_page.specs.Article.{line_of_node}
 use Rattle.redo_page.specs.Failed.{failed_parts}
 use Rattle.redo_page.specs.Frame.{footer_parts, head_parts, header_parts}
-use Rattle.redo_page.specs.Laws.{HasMore, IsPartOf, IsRead, ListsNews, line_item, line_list, news_link, news_shown}
+use Rattle.redo_page.specs.Laws.{HasNewSection, IsPartOf, IsRead, ListsNews, line_item, line_list, news_link, news_shown, section_id, section_ids}
 use Rattle.redo_page.specs.NewSection.{news_of, news_parts, no_news}
 use Rattle.redo_page.specs.News.{has_news}
 use Rattle.redo_page.specs.Page.{Request, body_parts, options_of, page_html, page_news, page_outline, page_parts, page_view, top_parts}
@@ -106,6 +106,40 @@ module _ (view : View) where
   some_new : 0 < length view.news.lines → holds view HasNew ≡ true
   some_new some = ap not (ne_eqb (length view.news.lines) 0 (λ none. omega (arith, none, some)))
 
+-- ---- the section
+
+end_apart : (a b c d e end : List Part) → a ++ (b ++ (c ++ (d ++ (e ++ end)))) ≡ (a ++ (b ++ (c ++ (d ++ e)))) ++ end
+end_apart a b c d e end = simp (append_assoc)
+
+module _ (view : View) where
+  -- What is between the tags of the section.
+  abbrev inside_section : List Part
+  inside_section =
+      MarkupPart markup.NewHeading ∷ TextPart NEW_SINCE.now ∷ MarkupPart markup.EndHeading ∷ MarkupPart markup.QuietParagraph
+      ∷ (nothing_new view
+      ++ (numbers view
+      ++ (parts_if (holds view HasNew) (in_list view LINES)
+      ++ (parts_if (holds view (HasAny NewlyFailing)) (in_list view FAILING_NOW)
+      ++ parts_if (holds view (HasAny Fixed)) (in_list view FIXED_NOW)))))
+
+  section_is : view.news.is_compared ≡ true
+      → news_parts view ≡ MarkupPart markup.NewSection ∷ (inside_section ++ MarkupPart markup.EndSection ∷ [])
+  unfolding news_parts
+  section_is compared =
+      ap (λ (is : Bool). parts_if is (after view 0) ++ []) compared ∙ append-nil (after view 0)
+      ∙ ap (λ (t : List Part). start view ++ (MarkupPart markup.QuietParagraph ∷ t))
+      (end_apart (nothing_new view) (numbers view) (parts_if (holds view HasNew) (in_list view LINES))
+      (parts_if (holds view (HasAny NewlyFailing)) (in_list view FAILING_NOW))
+      (parts_if (holds view (HasAny Fixed)) (in_list view FIXED_NOW))
+      (MarkupPart markup.EndSection ∷ []))
+
+  -- No section begins inside.
+  no_other : view.news.is_compared ≡ true → section_ids (news_parts view) ≡ codes "new" ∷ [] → section_ids inside_section ≡ []
+  no_other compared one =
+      sym (append-nil (section_ids inside_section))
+      ∙ sym (flat_map-append section_id inside_section (MarkupPart markup.EndSection ∷ []))
+      ∙ ap (drop 1) (sym (ap section_ids (section_is compared)) ∙ one)
+
 -- ---- what a baseline changes
 
 regroup : (head start link back failed news summary body : List Part)
@@ -154,7 +188,7 @@ module _ (request : Request) (logs : List Log) (requested : List (List ℕ)) (so
   abbrev view : View
   view = page_view request logs requested
 
-  compared : view.news.is_compared ≡ true
+  pub compared : view.news.is_compared ≡ true
   compared = by request.baseline some
     where
       by : (baseline : Option BaselineValue) → is_some baseline ≡ true
@@ -181,15 +215,24 @@ module _ (request : Request) (logs : List Log) (requested : List (List ℕ)) (so
   news_read are_read =
       part_read request logs requested are_read (news_shown (page_news request logs requested)) (in_section (sentence_in view))
 
-  pub page_has_more : HasMore news_link (news_parts view) (page_parts request logs requested)
-      (page_parts (record request { baseline = None }) logs requested)
+  pub page_has_more : section_ids (news_parts view) ≡ codes "new" ∷ []
+      → HasNewSection (page_parts request logs requested) (page_parts (record request { baseline = None }) logs requested)
   unfolding page_parts footer_parts
-  page_has_more =
+  page_has_more one =
       let body = body_parts view (options_of request) request.max_bytes requested ++ footer_parts view in
+      let before : List Part = head_parts view ++ header_start view in
+      let middle : List Part = header_end view ++ failed_parts view in
+      let after : List Part = summary_parts view ++ body in
       record {
-        before = head_parts view ++ header_start view;
-        middle = header_end view ++ failed_parts view;
-        after = summary_parts view ++ body;
-        with_both = with_news view body compared;
+        before = before;
+        middle = middle;
+        inside = inside_section view;
+        after = after;
+        with_both = ap (λ (t : List Part). before ++ (news_link ++ (middle ++ t)))
+            (sym (ap (λ (t : List Part). t ++ after) (section_is view compared)
+            ∙ ap (λ (t : List Part). MarkupPart markup.NewSection ∷ t)
+            (append_assoc (inside_section view) (MarkupPart markup.EndSection ∷ []) after)))
+            ∙ with_news view body compared;
         without = without_news view body;
+        one_section = no_other view compared one;
       }

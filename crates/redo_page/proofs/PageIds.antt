@@ -1,11 +1,12 @@
 -- The ids and the links of a page.
 use Rattle.std.proofs.Common.{◌≡◌, ℕ, zero, suc, ◌+◌, ◌<◌, ◌≤◌, Bool, true, false, List, [], ◌∷◌, ◌++◌, map, refl, sym, ◌∙◌, ap, subst, arith}
-use Rattle.std.specs.Prelude.{◌==◌, ◌||◌, ◌&&◌, nat_lt, length, take, if◌then◌else◌, is_some, None, Option, Some}
-use Rattle.std.specs.List.{flat_map, list_all}
+use Rattle.std.specs.Prelude.{◌==◌, ◌||◌, ◌&&◌, codes, nat_lt, length, take, if◌then◌else◌, is_some, None, Option, Some}
+use Rattle.std.specs.List.{AllByRecursion, flat_map, list_all}
 use Rattle.std.proofs.lemmas.Bool.{and_from, and_parts, eqb-false, lt-ltb, ltb-true}
 use Rattle.std.proofs.lemmas.List.{append-nil, length-map}
 use Rattle.redo_facts.specs.Facts.{RecipeFacts}
 use Rattle.redo_logs.specs.Logs.{Log}
+use Rattle.redo_html.specs.Chart.{Drawing}
 use Rattle.redo_html.specs.declared.markup.Markup.{Markup}
 use Rattle.redo_html.specs.declared.markup.Markup.TheVariants.{FailedLink, FailedSection, NewLink, NewSection, SummaryLink, SummarySection, TimelineLink, TreeLink, TreeSection, Title1, DescriptionList}
 use Rattle.redo_html.specs.Parts.{Part}
@@ -27,13 +28,13 @@ use Rattle.redo_page.specs.declared.scope.Rows.TheVariants as rows
 use Rattle.redo_page.specs.declared.summary.TheConstants.{SECTION}
 use Rattle.redo_page.specs.Failed.{failed_parts, is_dependent_failure, is_unclosed}
 use Rattle.redo_page.specs.Frame.{footer_parts}
-use Rattle.redo_page.specs.Laws.{article_ids, article_links, charts, is_among, numbers_from, page_chart, part_chart, section_id, section_ids, section_link, section_links, target_ids, target_links, heading_tag}
+use Rattle.redo_page.specs.Laws.{article_ids, article_links, charts, is_among, numbers_from, part_chart, section_id, section_ids, section_link, section_links, target_ids, target_links, heading_tag}
 use Rattle.redo_page.specs.Page.{Request, options_of, page_contents, page_events, page_facts, page_outline, page_parts, page_view, run_times, top_parts}
 use Rattle.redo_page.specs.Scope.{View, positions_of, rows_of}
 use Rattle.redo_page.specs.NewSection.{news_parts}
 use Rattle.redo_page.specs.Summary.{summary_parts}
 use Rattle.redo_page.proofs.NewsLemmas.{failing_below, fixed_below, news_below}
-use Rattle.redo_page.specs.Template.{Template}
+use Rattle.redo_page.specs.Template.{Template, template_parts}
 use Rattle.redo_page.specs.Tree.{articles, max_articles, root_failures}
 use Rattle.redo_page.proofs.Ids.{Refers, is_section, section, then_refer}
 use Rattle.redo_page.proofs.FailedIds.{all_among, articles_below, others_below, where_are_below}
@@ -46,7 +47,7 @@ use Rattle.redo_trim.specs.Trim.{trim}
 use Rattle.redo_page.proofs.TreeIds.{nodes_counted, tree_refers}
 use Rattle.redo_page.proofs.TreeItems.{tree_is_streamed}
 use Rattle.redo_summary.specs.Laws.{AreOfNodes, AreRanksBelow}
-use Rattle.redo_page.specs.Timeline.{has_timeline}
+use Rattle.redo_page.specs.Timeline.{facts_drawing, has_timeline}
 use Rattle.redo_summary.specs.Summary.{Facts, is_timed, summary_of}
 use Rattle.redo_summary.specs.Usage.{usage_of}
 use Rattle.redo_timeline.specs.declared.span.Span.{Span}
@@ -301,6 +302,17 @@ module _ (have : HavePositions) (memory : HavePositionsOfMemory) (lead : BarsLea
       (then_refer (refers HEADER refl) (then_refer failures (then_refer news (refers SECTION refl)))))
       (then_refer (then_refer timeline tree) (refers FOOTER refl))
 
+  -- The section of what is new is the only one that its parts begin.
+  pub new_section : view.news.is_compared ≡ true → section_ids (news_parts view) ≡ codes "new" ∷ []
+  unfolding news_parts
+  new_section compared =
+      let positions = have nodes request.times in
+      let rows : AreRows (length nodes) (articles nodes) view =
+      (rows_below positions, lists_below, articles_below nodes) in
+      let news = template_refers (length nodes) (articles nodes) Failing NEWS refl view tt rows in
+      in_sections section_id section_id_part (template_parts NEWS view) ∙ ap section_ids news.sections_are
+      ∙ ap (λ (is : Bool). section_ids (parts_if is (MarkupPart NewSection ∷ []) ++ [])) compared
+
   pub page_target_ids : target_ids parts ≡ numbers_from 0 (length nodes)
   page_target_ids =
       page_refers.target_ids_are ∙ append-nil (numbers_from 0 (log_count shown))
@@ -338,7 +350,7 @@ module _ (have : HavePositions) (memory : HavePositionsOfMemory) (lead : BarsLea
       (timeline_found view (is_timed facts) facts.window)
 
   pub page_has_chart : (window : Window) → facts.window ≡ Some window → is_timed facts ≡ true
-      → charts parts ≡ page_chart request logs requested window ∷ []
+      → charts parts ≡ facts_drawing logs (page_outline request logs requested) (page_facts request logs requested) window ∷ []
   page_has_chart window is timed = charts_are ∙ ap (λ (w : Option Window). charts (timeline_found view (is_timed facts) w)) is
       ∙ ap (λ (b : Bool). charts (timeline_found view b (Some window))) timed
 
@@ -349,3 +361,8 @@ module _ (have : HavePositions) (memory : HavePositionsOfMemory) (lead : BarsLea
       by None timed none = refl
       by (Some window) true none = absurd (cc)
       by (Some window) false none = refl
+
+-- What holds of the only chart holds of each chart.
+pub the_chart : (P : Drawing → Type 0) (drawings : List Drawing) (drawing : Drawing) → drawings ≡ drawing ∷ [] → P drawing
+    → AllByRecursion P drawings
+the_chart P drawings drawing is holds = subst (AllByRecursion P) (sym is) (holds, tt)

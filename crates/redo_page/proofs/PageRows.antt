@@ -36,6 +36,7 @@ use Rattle.redo_page.specs.Frame.{footer_parts}
 use Rattle.redo_page.specs.Recipe.{commands_parts, recipe_parts}
 use Rattle.redo_page.specs.Summary.{summary_parts}
 use Rattle.redo_page.specs.Laws.{article_ids, article_links, log_bytes, positioned_lines, BeginWith, IsList, line_item, line_list, list_item}
+use Rattle.redo_summary.specs.Summary.{is_timed}
 use Rattle.redo_summary.specs.declared.rank.Rank.{Rank}
 use Rattle.redo_page.specs.NewSection.{news_parts}
 use Rattle.redo_page.specs.Page.{Request, body_parts, options_of, page_contents, page_events, page_facts, page_html, page_outline, page_parts, page_usage, page_view, request_of, run_times, top_parts, tree_contents}
@@ -294,6 +295,26 @@ facts_are :
     }
 unfolding show_log show_log_within
 facts_are = refl
+
+-- Nine targets that ran, and one that only began. Nothing is known of the one that mentions them.
+abbrev crowd_names : List (List ℕ)
+crowd_names = map (λ letter. letter ∷ []) (codes "bcdefghijk")
+
+abbrev crowd : List Log
+crowd = log (codes "a") (map (λ name. Mention 9 Made name) crowd_names) ∷ map (λ name. log name []) crowd_names
+
+abbrev crowded : Request
+crowded =
+    let all : List Times = replicate 9 (ran 1795829211000 1795829213500) ++ record begun { began = Some 1795829212000 } ∷ [] in
+    record timed { times = record begun { began = None } ∷ all }
+
+crowd_facts_are :
+    ((page_facts crowded crowd (codes "a" ∷ [])).window ≡ Some window)
+    × ((page_facts crowded crowd (codes "a" ∷ [])).marks
+    ≡ record { began = 1795829212000; position = 10; ended = 1795829212000; failed = false } ∷ [])
+    × (is_timed (page_facts crowded crowd (codes "a" ∷ [])) ≡ true)
+unfolding show_log show_log_within
+crowd_facts_are = (refl, refl, refl)
 
 abbrev used : ℕ → ℕ → ℕ → RecipeFacts
 used user system peak = record known { usage = Some (record { user_ms = user; system_ms = system; peak_kb = peak }) }

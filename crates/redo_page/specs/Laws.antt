@@ -14,7 +14,7 @@ use Rattle.redo_view.specs.Event.{Event}
 use Rattle.redo_view.specs.LogLines.{text_lines}
 use Rattle.redo_view.specs.Event.Event.{Requested, Mentioned, EntryShown}
 use Rattle.redo_html.specs.declared.markup.Markup.{Markup}
-use Rattle.redo_html.specs.declared.markup.Markup.TheVariants.{BodyBad, BodyGood, BodyOpen, FailedSection, NewSection, SummarySection, TimelineSection, TreeSection, FailedLink, NewLink, SummaryLink, TimelineLink, TreeLink, TargetLink, EndLink, OutputLink, Article, TargetItem, Details, OpenDetails, Summary, Title3, EndTitle3, MetaParagraph, Paragraph, QuietParagraph, EndParagraph, Ordered, OrderedFrom, EndOrdered, Item, EndItem, RowHeading, EndRowHeading, NumberCell, EndCell, Title1, EndTitle1, Sign, EndSign, DescriptionList, EndDescriptionList, Div, EndDiv, Term, EndTerm, Description, EndDescription, Code, EndCode, Pre, EndPre}
+use Rattle.redo_html.specs.declared.markup.Markup.TheVariants.{BodyBad, BodyGood, BodyOpen, FailedSection, NewSection, EndSection, SummarySection, TimelineSection, TreeSection, FailedLink, NewLink, SummaryLink, TimelineLink, TreeLink, TargetLink, EndLink, OutputLink, Article, TargetItem, Details, OpenDetails, Summary, Title3, EndTitle3, MetaParagraph, Paragraph, QuietParagraph, EndParagraph, Ordered, OrderedFrom, EndOrdered, Item, EndItem, RowHeading, EndRowHeading, NumberCell, EndCell, Title1, EndTitle1, Sign, EndSign, DescriptionList, EndDescriptionList, Div, EndDiv, Term, EndTerm, Description, EndDescription, Code, EndCode, Pre, EndPre}
 use Rattle.redo_html.specs.declared.chart.GroupKind.{GroupKind}
 use Rattle.redo_html.specs.Chart.{Drawing, drawing_links}
 use Rattle.redo_html.specs.Html.{Token, is_one_of, read}
@@ -35,10 +35,9 @@ use Rattle.redo_page.specs.Article.{article_parts, article_took, cause_parts, ma
 use Rattle.redo_page.specs.Failed.{is_dependent_failure, is_unclosed, positions_where}
 use Rattle.redo_page.specs.NewSection.{new_in}
 use Rattle.redo_page.specs.News.{NewsValue, has_news}
-use Rattle.redo_page.specs.Page.{Request, options_of, page_contents, page_events, page_facts, page_html, page_outline}
+use Rattle.redo_page.specs.Page.{Request, options_of, page_contents, page_events, page_facts, page_html, page_outline, page_parts}
 use Rattle.redo_page.specs.Recipe.{recipe_at}
 use Rattle.redo_page.specs.Scope.{began_parts, max_rows}
-use Rattle.redo_page.specs.Timeline.{facts_drawing}
 use Rattle.redo_chart.specs.Laws.{DrawsAll, shapes_of}
 use Rattle.redo_summary.specs.declared.rank.Rank.{Rank}
 use Rattle.redo_summary.specs.Summary.{Facts, is_timed}
@@ -434,13 +433,15 @@ news_shown news =
 abbrev pub news_link : List Part
 news_link = MarkupPart Item ∷ MarkupPart NewLink ∷ TextPart NEW_SINCE.now ∷ MarkupPart EndLink ∷ MarkupPart EndItem ∷ []
 
--- With these two, parts are a page, and without them another page.
-pub record HasMore (first second page other : List Part) : Type 0 where
+-- A page has the section of what is new, and the item that leads to it. Without them, it is another page.
+pub record HasNewSection (page other : List Part) : Type 0 where
   pub before : List Part
   pub middle : List Part
+  pub inside : List Part
   pub after : List Part
-  pub with_both : before ++ (first ++ (middle ++ (second ++ after))) ≡ page
+  pub with_both : before ++ (news_link ++ (middle ++ (MarkupPart NewSection ∷ (inside ++ MarkupPart EndSection ∷ after)))) ≡ page
   pub without : before ++ (middle ++ after) ≡ other
+  pub one_section : section_ids inside ≡ []
 
 -- ---- recipes
 
@@ -541,17 +542,15 @@ module _ (request : Request) (logs : List Log) (requested : List (List ℕ)) whe
   abbrev pub page_recipes : KnownRecipes
   page_recipes = record { facts = request.recipes; spans = (page_facts request logs requested).recipes }
 
-  -- The chart of a page with this window.
-  abbrev pub page_chart : Window → Drawing
-  page_chart window = facts_drawing logs (page_outline request logs requested) (page_facts request logs requested) window
-
   -- Whether the page has a timeline, with this window.
   abbrev pub HasTimeline : Window → Type 0
   HasTimeline window = ((page_facts request logs requested).window ≡ Some window) × (is_timed (page_facts request logs requested) ≡ true)
 
-  -- Whether the chart draws these spans as its bars of one kind.
-  abbrev pub ChartDraws : Window → GroupKind → List Span → Type 0
-  ChartDraws window kind spans = DrawsAll logs (page_outline request logs requested) window kind spans (shapes_of kind (page_chart window))
+  -- Each chart of the page draws these spans as its bars of one kind.
+  abbrev pub ChartsDraw : Window → GroupKind → List Span → Type 0
+  ChartsDraw window kind spans =
+      AllByRecursion (λ drawing. DrawsAll logs (page_outline request logs requested) window kind spans (shapes_of kind drawing))
+      (charts (page_parts request logs requested))
 
 -- ---- elements of logs
 

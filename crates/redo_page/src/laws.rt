@@ -16,19 +16,18 @@ ghost use Rattle.redo_options.specs.declared.options.Options.{Options};
 ghost use Rattle.redo_view.specs.View.{find_unknown};
 ghost use Rattle.redo_outline.specs.declared.node.Node.{Node};
 ghost use Rattle.redo_outline.specs.Contents.{Contents};
-ghost use Rattle.redo_page.specs.Laws.{AreNewLines, HasMore, ListsNews, news_link, news_shown, AreInOrderOfEnd, ContainRoots, ListsFailures, ShowsRecipe, HaveSameLogs, IsOfTarget, IsOwnTag, IsPartOf, IsRead, IsRed, ShowsItsLines, AreCountable, budget_of_tree, TellsItsTarget, article_ids, article_links, blanked, event_lines, is_among, kept_lines, lines_at, log_bytes, markups, numbers_from, page_article, page_chart, page_lines, page_recipe, page_recipes, page_tree, positioned_bytes, section_ids, section_links, target_ids, target_links, texts_of, unmoved_lines, charts, ChartDraws, HasTimeline, end_shown, first, heading_shown, heading_tag, requested_shown, summary_shown, took_shown, page_limit, says_failed, shows_failure, title_in};
+ghost use Rattle.redo_page.specs.Laws.{AreNewLines, HasNewSection, ListsNews, news_shown, AreInOrderOfEnd, ContainRoots, ListsFailures, ShowsRecipe, HaveSameLogs, IsOfTarget, IsOwnTag, IsPartOf, IsRead, IsRed, ShowsItsLines, AreCountable, budget_of_tree, TellsItsTarget, article_ids, article_links, blanked, event_lines, is_among, kept_lines, lines_at, log_bytes, markups, numbers_from, page_article, page_lines, page_recipe, page_recipes, page_tree, positioned_bytes, section_ids, section_links, target_ids, target_links, texts_of, unmoved_lines, charts, ChartsDraw, HasTimeline, end_shown, first, heading_shown, heading_tag, requested_shown, summary_shown, took_shown, page_limit, says_failed, shows_failure, title_in};
 ghost use Rattle.redo_page.specs.Command.{command};
 ghost use Rattle.redo_page.specs.Failed.{is_dependent_failure, positions_where};
 ghost use Rattle.redo_page.specs.Limits.{bytes_shown, highest_cap};
-ghost use Rattle.redo_page.specs.NewSection.{news_parts, news_since};
-ghost use Rattle.redo_page.specs.Page.{Request, page_build, page_events, page_facts, page_html, page_news, page_outline, page_parts, page_usage, page_view};
+ghost use Rattle.redo_page.specs.NewSection.{news_since};
+ghost use Rattle.redo_page.specs.Page.{Request, page_build, page_events, page_facts, page_html, page_news, page_outline, page_parts, page_usage};
 ghost use Rattle.redo_page.specs.Tree.{articles, root_failures, has_failed, is_moved, tree_parts};
-ghost use Rattle.redo_chart.specs.Laws.{DrawsAll, shapes_of};
 ghost use Rattle.redo_html.specs.declared.chart.GroupKind.TheVariants.{Callers, Recipes, Untimed};
 ghost use Rattle.redo_trim.specs.Laws.{head_and_tail};
 ghost use Rattle.redo_summary.specs.Laws.{AreSplit, IsOverTimes};
 ghost use Rattle.redo_timeline.specs.declared.span.Window.{Window};
-ghost use Rattle.redo_page.specs.Timeline.{facts_drawing, has_timeline};
+ghost use Rattle.redo_page.specs.Timeline.{has_timeline};
 
 use redo_chart::{bars_lead_to_positions, bars_say_when_targets_ran};
 use redo_html::{
@@ -167,10 +166,12 @@ pub fn news_are_shown()
     ensures lines { (baseline : BaselineValue) (logs : List Log) (nodes : List Node) →
         AreNewLines baseline logs nodes (news_since baseline logs nodes).lines }
     ensures otherwise { (request : Request) (logs : List Log) (requested : List (List ℕ)) → is_some request.baseline ≡ true →
-        HasMore news_link (news_parts (page_view request logs requested)) (page_parts request logs requested)
-        (page_parts (record request { baseline = None }) logs requested) }
+        HasNewSection (page_parts request logs requested) (page_parts (record request { baseline = None }) logs requested) }
 {
     page_is_read();
+    positions_are_of_nodes();
+    bars_lead_to_positions();
+    trimmed_events_are_in_tree();
 }
 
 /// The contents of a page have the text lines of the events, each once and in order, if each requested target has a log. The tree shows
@@ -267,8 +268,7 @@ pub fn tags_are_its_own()
 /// least 0.1 % of the chart. The text of its tooltip is `title_of` of its spans. The chart shows marks in the same way.
 pub fn times_are_shown()
     ensures chart { (request : Request) (logs : List Log) (requested : List (List ℕ)) (window : Window) →
-        HasTimeline request logs requested window →
-        charts (page_parts request logs requested) ≡ page_chart request logs requested window ∷ [] }
+        HasTimeline request logs requested window → length (charts (page_parts request logs requested)) ≡ 1 }
     ensures no_chart { (request : Request) (logs : List Log) (requested : List (List ℕ)) →
         has_timeline (page_facts request logs requested) ≡ false → charts (page_parts request logs requested) ≡ [] }
     ensures window { (request : Request) (logs : List Log) (requested : List (List ℕ)) (window : Window) →
@@ -277,11 +277,14 @@ pub fn times_are_shown()
     ensures spans { (request : Request) (logs : List Log) (requested : List (List ℕ)) →
         AreSplit (page_outline request logs requested) request.times (page_facts request logs requested) }
     ensures callers { (request : Request) (logs : List Log) (requested : List (List ℕ)) (window : Window) →
-        ChartDraws request logs requested window Callers (page_facts request logs requested).callers }
+        HasTimeline request logs requested window →
+        ChartsDraw request logs requested window Callers (page_facts request logs requested).callers }
     ensures recipes { (request : Request) (logs : List Log) (requested : List (List ℕ)) (window : Window) →
-        ChartDraws request logs requested window Recipes (page_facts request logs requested).recipes }
+        HasTimeline request logs requested window →
+        ChartsDraw request logs requested window Recipes (page_facts request logs requested).recipes }
     ensures marks { (request : Request) (logs : List Log) (requested : List (List ℕ)) (window : Window) →
-        ChartDraws request logs requested window Untimed (page_facts request logs requested).marks }
+        HasTimeline request logs requested window →
+        ChartsDraw request logs requested window Untimed (page_facts request logs requested).marks }
 {
     window_is_over_known_times();
     spans_are_callers_or_recipes();

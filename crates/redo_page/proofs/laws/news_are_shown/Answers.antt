@@ -1,5 +1,6 @@
 use Rattle.redo_page.proofs.NewsLemmas.{are_new_lines}
-use Rattle.redo_page.proofs.NewsParts.{news_read, page_has_more, page_lists_news}
+use Rattle.redo_page.proofs.NewsParts.{compared, news_read, page_has_more, page_lists_news}
+use Rattle.redo_page.proofs.PageIds.{new_section}
 use Rattle.redo_page.proofs.laws.news_are_shown.Goals as goal
 
 pub returns-clause-numbers : goal.returns-clause-numbers
@@ -13,4 +14,7 @@ pub returns-clause-lines : goal.returns-clause-lines
 returns-clause-lines c = are_new_lines
 
 pub returns-clause-otherwise : goal.returns-clause-otherwise
-returns-clause-otherwise c = page_has_more
+returns-clause-otherwise c = λ request logs requested some.
+    page_has_more request logs requested some
+    (new_section c.positions_are_of_nodes.ensures.times c.positions_are_of_nodes.ensures.memory c.bars_lead_to_positions.ensures
+    c.trimmed_events_are_in_tree.ensures.logs request logs requested (compared request logs requested some))
