@@ -6,7 +6,7 @@ it."""
 import os
 import re
 
-from contracts import TOP, Names, closing, contracts, read
+from contracts import TOP, Names, clauses, closing, contracts, read
 
 PAGE = "docs/theorem.md"
 CLAUSE_OF = "redo_run/src/running.rt"
@@ -14,6 +14,10 @@ CLAUSE_OF = "redo_run/src/running.rt"
 MOST_LINES = 400
 # The maximum number of other lines that the laws of a page depend on. docs/guarantees.md says it.
 MOST_PAGE_LINES = 2970
+# The same without the definitions of the page and of its parts, for all laws and for a law by itself.
+MOST_READ_LINES = 2480
+MOST_LAW_LINES = 1230
+UNREAD = [("Rattle.redo_page.specs.Page", "page_html"), ("Rattle.redo_page.specs.Page", "page_parts")]
 PART = r"\w+ \w+(?:: (?:[^\s;]+ to )?[^\s;]+)?"
 MARK = re.compile(rf"^(<!-- ({PART}(?:; {PART})*) -->\n)(?:```\n.*?\n```\n)?", re.M | re.S)
 
@@ -27,13 +31,18 @@ def clause():
     return whole, set(Names(text).cited(text[begin:end]))
 
 
-def reached(specs, places):
-    """Returns the definitions that a reader of these needs. Names of fields do not count, because a variable may have the same name."""
-    found, left = set(), {place for place in places if place in specs.texts}
+def reached(specs, places, unread=()):
+    """Returns the definitions that a reader of these needs. Names of fields do not count, because a variable may have the same name. The
+    reader needs nothing of the definitions in `unread`, nor what only they cite."""
+    found, left = set(), {place for place in places if place in specs.texts} - set(unread)
     while left:
         found |= left
-        left = {place for one in left for place in specs.texts[one][0].cited(specs.texts[one][1]) if place in specs.texts} - found
+        left = {place for one in left for place in specs.texts[one][0].cited(specs.texts[one][1]) if place in specs.texts} - found - set(unread)
     return found
+
+
+def lines_of(specs, place):
+    return sum(bool(line.strip()) for line in specs.texts[place][1].split("\n"))
 
 
 def lines_of_page(specs):
@@ -41,22 +50,45 @@ def lines_of_page(specs):
     laws = {place for where, _, cites in contracts("redo_page") if where.endswith("/laws.rt") for place in cites}
     counts = {}
     for place in sorted(reached(specs, laws) - reached(specs, clause()[1])):
-        counts[place[0]] = counts.get(place[0], 0) + sum(bool(line.strip()) for line in specs.texts[place][1].split("\n"))
+        counts[place[0]] = counts.get(place[0], 0) + lines_of(specs, place)
     return counts
+
+
+def lines_of_laws(specs):
+    """Returns the number of lines that each law of a page depends on by itself, beyond those of a run, and that of all laws. The definitions
+    of the page and of its parts don't count: a law holds of what `write_page` writes, however this is defined."""
+    text = read("crates", "redo_page", "src", "laws.rt")
+    cites = {}
+    for where, _, cited, _, _, begin, _ in clauses("redo_page"):
+        if where.endswith("/laws.rt"):
+            cites.setdefault(re.findall(r"pub fn (\w+)", text[:begin])[-1], set()).update(cited)
+    known = reached(specs, clause()[1])
+    count = lambda places: sum(lines_of(specs, place) for place in reached(specs, places, UNREAD) - known)
+    return {law: count(places) for law, places in cites.items()}, count(set().union(*cites.values()))
 
 
 def faults_of_page(specs):
     lines = sum(lines_of_page(specs).values())
+    laws, read_lines = lines_of_laws(specs)
     found = [f"the laws depend on {lines} lines, more than {MOST_PAGE_LINES}"] * (lines > MOST_PAGE_LINES)
-    if f"at most {MOST_PAGE_LINES:,} lines" not in read("docs/guarantees.md"):
-        found.append(f"docs/guarantees.md doesn't say that the laws depend on at most {MOST_PAGE_LINES:,} lines")
+    found += [f"the laws depend on {read_lines} lines without the page, more than {MOST_READ_LINES}"] * (read_lines > MOST_READ_LINES)
+    found += [f"{law} depends on {lines} lines, more than {MOST_LAW_LINES}" for law, lines in laws.items() if lines > MOST_LAW_LINES]
+    for most in (MOST_PAGE_LINES, MOST_READ_LINES, MOST_LAW_LINES):
+        if f"at most {most:,}" not in read("docs/guarantees.md"):
+            found.append(f"docs/guarantees.md doesn't say that laws depend on at most {most:,} lines")
     return found
 
 
 def rows_of_page(specs):
     counts = lines_of_page(specs)
+    laws, read_lines = lines_of_laws(specs)
     rows = sorted(((lines, module) for module, lines in counts.items()), reverse=True)
-    return [f"{lines} {module}" for lines, module in rows] + [f"lines that the laws of a page depend on: {sum(counts.values())}"]
+    return (
+        [f"{lines} {module}" for lines, module in rows]
+        + [f"{lines} {law}" for lines, law in sorted((lines, law) for law, lines in laws.items())]
+        + [f"without the definitions of the page: {read_lines}"]
+        + [f"lines that the laws of a page depend on: {sum(counts.values())}"]
+    )
 
 
 def quoted(specs, crate, file, name):
