@@ -1,4 +1,4 @@
-"""Pages of the built program: cut logs, numbers with units, parts of a page, and failed writes. The values were worked out by hand."""
+"""Pages of the built program: cut logs, groups, numbers with units, parts of a page, and failed writes. The values were worked out by hand."""
 import os
 import re
 import subprocess
@@ -87,6 +87,33 @@ def expect_cut_logs_in_others(checks, program, expected_page):
     for what, logs, targets, wanted in NESTED:
         page = made_page(checks, program, expected_page, what, logs, [b"--max-bytes=1", b"--", *targets])
         checks.expect(f"cut logs: {what}", shown(part(page, b'<ul class="tree">', b"</section>")), wanted)
+
+
+# ---- groups ----------------------------------------------------------------------------------------------------------
+
+QUIET = [b"a", b"b", b"c", b"d", b"e"]
+FAILED = record(b"done", b"2 f")
+
+
+def quiet(names):
+    return b"".join(record(b"do", name) + record(b"done", b"0 " + name) for name in names)
+
+
+# What `all` has after the mention of `f`, which fails, and the sizes of its groups.
+ROWS = [
+    ("five in a row", FAILED + quiet(QUIET), [5]),
+    ("the record of the failure after them", quiet(QUIET) + FAILED, [5]),
+    ("the record of the failure among them", quiet(QUIET[:3]) + FAILED + quiet(QUIET[3:]), []),
+    ("four in a row", FAILED + quiet(QUIET[:4]), []),
+    ("a line among them", quiet(QUIET[:3]) + b"x\n" + quiet(QUIET[3:]) + FAILED, []),
+]
+
+
+def expect_groups(checks, program, expected_page):
+    for what, log, wanted in ROWS:
+        logs = {b"all": record(b"do", b"f") + log, b"f": b"", **{name: b"" for name in QUIET}}
+        page = made_page(checks, program, expected_page, f"groups: {what}", logs)
+        checks.expect(f"groups: {what}", [int(size) for size in re.findall(rb"<summary>([0-9]+) targets that printed nothing", page)], wanted)
 
 
 # ---- numbers with units ----------------------------------------------------------------------------------------------
@@ -192,6 +219,7 @@ def expect_failed_writes(checks, program):
 def expect_pages(checks, program, expected_page):
     expect_cut_logs(checks, program, expected_page)
     expect_cut_logs_in_others(checks, program, expected_page)
+    expect_groups(checks, program, expected_page)
     expect_units(checks, program, expected_page)
     expect_parts(checks, program, expected_page)
     expect_failed_writes(checks, program)

@@ -259,8 +259,14 @@ class Page:
         self.put(b"</ul></section>")
 
     def contents(self, around, expanded, depth):
-        """Writes what a log contains. A row of five silent logs or more is a group; lines in a row are blocks."""
-        items = [item for item in self.items_of(around) if self.is_seen(item, around)]
+        """Writes what a log contains. A row of five silent logs or more is a group; lines in a row are blocks. The record of a failure that
+        isn't shown splits a row, but not lines."""
+        items, splits = [], set()
+        for item in self.items_of(around):
+            if self.is_seen(item, around):
+                items.append(item)
+            else:
+                splits.add(len(items))
         at = 0
         while at < len(items):
             item = items[at]
@@ -272,8 +278,8 @@ class Page:
                     self.blocks([text.line for text in items[at:end]])
                 at = end
             elif isinstance(item, Shown) and item.silent and not (around.target is not None and around.silent):
-                end = at
-                while end < len(items) and isinstance(items[end], Shown) and items[end].silent:
+                end = at + 1
+                while end < len(items) and isinstance(items[end], Shown) and items[end].silent and end not in splits:
                     end += 1
                 if end - at >= 5:
                     self.put(b'<li><details class="s"><summary>%d targets that printed nothing</summary><ul>' % (end - at))
