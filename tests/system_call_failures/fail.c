@@ -1,6 +1,6 @@
 /* Preloaded into a program: makes calls to the system fail, stops the process before them, or shortens reads and writes.
    Environment variables say how:
-     FAIL_CALL    open, read, write or pthread_create
+     FAIL_CALL    open, read, write, lseek, statx or pthread_create
      FAIL_FIRST   the number of the first such call that fails, counted from 1 over all threads
      FAIL_LAST    the number of the last such call that fails
      FAIL_ERROR   the error number; if it is 0, the call doesn't fail, but the process stops itself before it
@@ -15,6 +15,7 @@
 #include <stdarg.h>
 #include <stdlib.h>
 #include <string.h>
+#include <sys/stat.h>
 #include <sys/syscall.h>
 #include <unistd.h>
 
@@ -68,6 +69,24 @@ ssize_t read(int file, void *bytes, size_t count) {
         return -1;
     }
     return syscall(SYS_read, file, bytes, at_most(count));
+}
+
+off_t lseek(int file, off_t offset, int whence) {
+    int error = error_of("lseek");
+    if (error != 0) {
+        errno = error;
+        return -1;
+    }
+    return syscall(SYS_lseek, file, offset, whence);
+}
+
+int statx(int directory, const char *restrict path, int flags, unsigned mask, struct statx *restrict found) {
+    int error = error_of("statx");
+    if (error != 0) {
+        errno = error;
+        return -1;
+    }
+    return (int)syscall(SYS_statx, directory, path, flags, mask, found);
 }
 
 ssize_t write(int file, const void *bytes, size_t count) {

@@ -1,5 +1,5 @@
 -- Rows of texts that a program reports by its exit status.
-use Rattle.std.proofs.Common.{◌≡◌, true, false, [], ◌∷◌, None, Some, inl, inr, refl}
+use Rattle.std.proofs.Common.{◌≡◌, true, false, [], None, Some, inl, inr, refl}
 use Rattle.std.specs.Prelude.{codes}
 use Rattle.redo_command.specs.Alarm.{IsStatusWith, is_alarm}
 use Rattle.redo_command.specs.FirstByte.{IsUnwritten, first_taken}

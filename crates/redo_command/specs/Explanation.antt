@@ -1,5 +1,5 @@
 -- What to do about a failure: a line that may follow its error message.
-use Rattle.std.specs.Prelude.{◌≡◌, ℕ, ◌==◌, ◌+◌, nat_eq, leb, List, [], ◌∷◌, ◌++◌, Option, None, Some, Result, Ok, Err, take, length, codes, decimal, get_or, if◌then◌else◌}
+use Rattle.std.specs.Prelude.{◌≡◌, ℕ, ◌==◌, nat_eq, leb, List, [], ◌∷◌, ◌++◌, Option, None, Some, Result, Ok, Err, take, length, codes, decimal, get_or, if◌then◌else◌}
 use Rattle.std.specs.List.{ends_with, filter, flat_map, starts_with}
 use Rattle.clap.specs.Simple.{App}
 use Rattle.redo_args.specs.Rejection.{rejection}

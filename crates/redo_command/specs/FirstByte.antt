@@ -1,5 +1,5 @@
 -- The first byte of a text.
-use Rattle.std.specs.Prelude.{◌≡◌, ℕ, List, [], Option, None, Some, slice_get}
+use Rattle.std.specs.Prelude.{◌≡◌, ℕ, [], Option, None, Some, slice_get}
 use Rattle.redo_device.specs.Sink.{Output}
 
 -- Whether a writer took no byte yet, as far as its output is known.

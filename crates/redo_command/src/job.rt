@@ -3,9 +3,9 @@
 //! A [`Job`] reads and renders, and starts no thread. [`write_job`] and [`show_job`] are functions, because Rattle can't prove that
 //! what the threads of a trait's method get is `Send`.
 //!
-//! A baseline is read before the job's own logs, and its fault is kept. A fault of the job's own capture comes first, so that it isn't
-//! hidden: the own logs are then read as always, but no text is written of them.
-ghost use Rattle.std.specs.Prelude.{◌≡◌, ◌≢◌, ℕ, true, None, IfErr, IfOk, List, [], Option, is_some, length, option_copied, option_map};
+//! A baseline is read before the job's own logs are opened, and its fault is kept. A fault of the job's own capture comes first, so that
+//! it isn't hidden: the own logs are then read as always, but no text is written of them.
+ghost use Rattle.std.specs.Prelude.{◌≡◌, ◌≢◌, ℕ, true, None, IfErr, IfOk, List, [], Option, is_some, length, map, option_copied, option_map};
 ghost use Rattle.std.specs.List.{list_all};
 ghost use Rattle.redo_device.specs.Feed.{Stream};
 ghost use Rattle.redo_index.specs.declared.index_entry.IndexEntry.{IndexEntry};
@@ -17,7 +17,7 @@ ghost use Rattle.redo_view.specs.View.{find_unknown};
 ghost use Rattle.redo_command.specs.Baseline.{IsReadIfAsked, IsReadOfFiles};
 ghost use Rattle.redo_command.specs.Failure.{IsReportable, status_of};
 ghost use Rattle.redo_command.specs.Job.{IsBaselineReported, IsJobWritten, IsTextWritten};
-ghost use Rattle.redo_command.specs.Logs.{IsWriteResult, logs_call, opaque_logs};
+ghost use Rattle.redo_command.specs.Logs.{AllGive, IsWriteResult, known_logs, logs_call, opaque_logs};
 ghost use Rattle.redo_command.specs.Shown.{IsShown, IsShownOrNotCreated};
 
 use crate::baseline::{BaselineFiles, BaselineLogs, open_baseline, read_baseline};
@@ -31,7 +31,7 @@ use crate::log_file::{LogFiles, RegularLogFiles};
 use crate::logs::{OpenFacts, OpenLog, write_logs};
 use crate::output::{Output, close_output, create_output};
 use redo_index::Index;
-use redo_line::{Sink, TargetName};
+use redo_line::{Feed, Sink, TargetName};
 use redo_logs::LogTable;
 use redo_view::{FormFault, Render};
 use std::alloc::{AllocError, Global};
@@ -68,8 +68,8 @@ pub trait Job {
     /// Returns the path of the file that the text is written to. Without it, the text goes to standard output.
     fn output(&self) -> Option<&str>;
 
-    /// Returns the number of senders.
-    fn senders(&self) -> u32
+    /// Returns the number of senders, if these are the facts.
+    fn senders(&self, facts: &Self::Facts) -> u32
         ensures { IsSenderCount result };
 
     /// Returns the capacity of the mailbox in items.
@@ -80,14 +80,17 @@ pub trait Job {
     fn targets(&self) -> &[Vec<u8>]
         ensures { argument_bytes result.now ≡ arguments self.now };
 
-    /// Reads the facts. The only error is that an allocation failed.
-    fn read_facts<L: OpenLog + OpenFacts>(
+    /// Opens the logs that an index lists, and reads the facts. Returns the facts, and the logs, which are at their starts. The only error
+    /// is that an allocation failed.
+    fn open<L: OpenFacts>(
         &self,
         alloc: Global,
         files: &L,
         index: &Index,
-    ) -> Result<Self::Facts, AllocError>
-        ensures { IfOk result (are_facts self.now (L.known files.now) (L.known_facts files.now) index.now) };
+    ) -> Result<(Self::Facts, Vec<L::Log>), AllocError>
+        ensures facts { IfOk result (λ opened. are_facts self.now (L.known files.now) (L.known_facts files.now) index.now opened.0) }
+        ensures given { IfOk result (λ opened. AllGive (known_logs (L.known files.now) index.now) (map L.Log.contents opened.1.items)) }
+        ensures count { IfOk result (λ opened. length opened.1.items ≡ length index.now) };
 
     /// Writes the text, as [`Render::render`] does.
     fn render<W: Sink>(
@@ -145,90 +148,94 @@ impl Render for NoText {
     }
 }
 
-/// Writes the text of a job, from the logs that an index lists. It reads the facts from `first`, then the logs of the baseline, if
-/// there is one, and then all logs from `second`. Nothing is written before that. `out` isn't flushed.
+/// Writes the text of a job, from the logs that an index lists. It reads the logs of the baseline, if there is one, then the facts, and
+/// then all logs. Nothing is written before that. `out` isn't flushed.
 ///
 /// The clause states the text, for any logs and writer. It may be of other streams than its facts: a file may change between the
 /// two readings.
 pub fn write_job<
     T: Threads + Wait + Sync + AllocGlobal,
     J: Job,
-    F: OpenLog + OpenFacts,
-    S: OpenLog<Log: Send>,
+    F: OpenFacts + OpenLog<Log: Send>,
     B: OpenLog,
     W: Sink,
 >(
     rt: &T,
     job: &J,
-    first: &F,
-    second: &S,
+    files: &F,
     index: &Index,
     baseline: Option<&BaselineFiles<B>>,
     out: &mut W,
 ) -> Result<(), Failure>
-    ensures written { IsJobWritten (J.are_facts job.now (F.known first.now) (F.known_facts first.now) index.now)
-        (IsReadOfFiles B.known (option_copied baseline.entry)) (J.text job.now) (S.known second.now) index.now (J.arguments job.now)
+    ensures written { IsJobWritten (J.are_facts job.now (F.known files.now) (F.known_facts files.now) index.now)
+        (IsReadOfFiles B.known (option_copied baseline.entry)) (J.text job.now) (F.known files.now) index.now (J.arguments job.now)
         (W.written out.old) (W.written out.new) result }
     ensures reportable { IfErr result (IsReportable (length index.now) (length (J.arguments job.now))) }
     ensures nonzero_status { IfErr result (λ failure. status_of failure ≢ 0) }
 {
     let alloc = rt.alloc();
-    let facts = job.read_facts(alloc, first, index)?;
     let read = read_baseline(alloc, baseline)?;
-    write_with(rt, job, &facts, &read, second, index, out)
+    let (facts, logs) = job.open(alloc, files, index)?;
+    write_with(rt, job, &facts, &read, logs, index, out)
 }
 
 // Writes the text of a job with these facts and what was read of its baseline, or reports the baseline's fault.
-fn write_with<T: Threads + Wait + Sync + AllocGlobal, J: Job, S: OpenLog<Log: Send>, W: Sink>(
+fn write_with<T: Threads + Wait + Sync + AllocGlobal, J: Job, R: Feed + Send, W: Sink>(
     rt: &T,
     job: &J,
     facts: &J::Facts,
     read: &Option<Result<BaselineLogs, BaselineFault>>,
-    logs: &S,
+    logs: Vec<R>,
     index: &Index,
     out: &mut W,
 ) -> Result<(), Failure>
-    ensures written { IsTextWritten (J.text job.now facts.now) read.now (S.known logs.now) index.now (J.arguments job.now)
-        (W.written out.old) (W.written out.new) result }
+    requires { length logs.items ≡ length index.now }
+    ensures written { (known : ℕ → Option Stream) → AllGive (known_logs known index.now) (map R.contents logs.items)
+        → IsTextWritten (J.text job.now facts.now) read.now known index.now (J.arguments job.now) (W.written out.old) (W.written out.new)
+        result }
     ensures reportable { IfErr result (IsReportable (length index.now) (length (J.arguments job.now))) }
     ensures nonzero_status { IfErr result (λ failure. status_of failure ≢ 0) }
 {
     match read {
         None => write_text(rt, job, facts, None, logs, index, out),
         Some(Ok(baseline)) => write_text(rt, job, facts, Some(baseline), logs, index, out),
-        Some(Err(fault)) => report_baseline(rt, job, *fault, logs, index, out),
+        Some(Err(fault)) => report_baseline(rt, job, facts, *fault, logs, index, out),
     }
 }
 
 // Reports the fault of a baseline, unless the job's own logs or arguments have one.
-fn report_baseline<T: Threads + Wait + Sync + AllocGlobal, J: Job, S: OpenLog<Log: Send>, W: Sink>(
+fn report_baseline<T: Threads + Wait + Sync + AllocGlobal, J: Job, R: Feed + Send, W: Sink>(
     rt: &T,
     job: &J,
+    facts: &J::Facts,
     fault: BaselineFault,
-    logs: &S,
+    logs: Vec<R>,
     index: &Index,
     out: &mut W,
 ) -> Result<(), Failure>
-    ensures written { IsBaselineReported fault (S.known logs.now) index.now (J.arguments job.now) (W.written out.old) (W.written out.new)
-        result }
+    requires { length logs.items ≡ length index.now }
+    ensures written { (known : ℕ → Option Stream) → AllGive (known_logs known index.now) (map R.contents logs.items)
+        → IsBaselineReported fault known index.now (J.arguments job.now) (W.written out.old) (W.written out.new) result }
     ensures reportable { IfErr result (IsReportable (length index.now) (length (J.arguments job.now))) }
     ensures nonzero_status { IfErr result (λ failure. status_of failure ≢ 0) }
 {
-    write_rendered(rt, job, &NoText, logs, index, out).and(Err(Failure::Baseline(fault)))
+    write_rendered(rt, job, facts, &NoText, logs, index, out).and(Err(Failure::Baseline(fault)))
 }
 
 // Writes the text of a job with these facts and this baseline, from the logs that an index lists.
-fn write_text<'a, T: Threads + Wait + Sync + AllocGlobal, J: Job, S: OpenLog<Log: Send>, W: Sink>(
+fn write_text<'a, T: Threads + Wait + Sync + AllocGlobal, J: Job, R: Feed + Send, W: Sink>(
     rt: &T,
     job: &'a J,
     facts: &'a J::Facts,
     baseline: Option<&'a BaselineLogs>,
-    logs: &S,
+    logs: Vec<R>,
     index: &Index,
     out: &mut W,
 ) -> Result<(), Failure>
-    ensures written { IsWriteResult (logs_call (S.known logs.now) (J.text job.now facts.now (option_copied baseline.entry)) index.now
-        (J.arguments job.now)) (W.written out.old) (W.written out.new) result }
+    requires { length logs.items ≡ length index.now }
+    ensures written { (known : ℕ → Option Stream) → AllGive (known_logs known index.now) (map R.contents logs.items)
+        → IsWriteResult (logs_call known (J.text job.now facts.now (option_copied baseline.entry)) index.now (J.arguments job.now))
+        (W.written out.old) (W.written out.new) result }
     ensures reportable { IfErr result (IsReportable (length index.now) (length (J.arguments job.now))) }
     ensures nonzero_status { IfErr result (λ failure. status_of failure ≢ 0) }
 {
@@ -237,7 +244,7 @@ fn write_text<'a, T: Threads + Wait + Sync + AllocGlobal, J: Job, S: OpenLog<Log
         facts,
         baseline,
     };
-    write_rendered(rt, job, &text, logs, index, out)
+    write_rendered(rt, job, facts, &text, logs, index, out)
 }
 
 // Writes a text, from the logs that an index lists, as the job requests.
@@ -245,11 +252,20 @@ fn write_rendered<
     T: Threads + Wait + Sync + AllocGlobal,
     J: Job,
     V: Render,
-    S: OpenLog<Log: Send>,
+    R: Feed + Send,
     W: Sink,
->(rt: &T, job: &J, text: &V, logs: &S, index: &Index, out: &mut W) -> Result<(), Failure>
-    ensures written { IsWriteResult (logs_call (S.known logs.now) (V.text text.now) index.now (J.arguments job.now))
-        (W.written out.old) (W.written out.new) result }
+>(
+    rt: &T,
+    job: &J,
+    facts: &J::Facts,
+    text: &V,
+    logs: Vec<R>,
+    index: &Index,
+    out: &mut W,
+) -> Result<(), Failure>
+    requires { length logs.items ≡ length index.now }
+    ensures written { (known : ℕ → Option Stream) → AllGive (known_logs known index.now) (map R.contents logs.items)
+        → IsWriteResult (logs_call known (V.text text.now) index.now (J.arguments job.now)) (W.written out.old) (W.written out.new) result }
     ensures reportable { IfErr result (IsReportable (length index.now) (length (J.arguments job.now))) }
     ensures nonzero_status { IfErr result (λ failure. status_of failure ≢ 0) }
 {
@@ -257,7 +273,7 @@ fn write_rendered<
         rt,
         logs,
         index,
-        job.senders(),
+        job.senders(facts),
         job.capacity(),
         text,
         job.targets(),
@@ -350,8 +366,7 @@ fn show_logs<
     }
 }
 
-// Writes the text of a job through a buffer, from the log files that an index lists, and sets `first` to its first byte. Facts are read
-// from regular files only, because a pipe can be read only once.
+// Writes the text of a job through a buffer, from the log files that an index lists, and sets `first` to its first byte.
 fn show_text<
     R: Files<File: Send> + RandomSource + Threads + Wait + Sync + AllocGlobal,
     J: Job,
@@ -362,20 +377,11 @@ fn show_text<
     ensures reportable { IfErr result (IsReportable (length index.now) (length (J.arguments job.now))) }
     ensures nonzero_status { IfErr result (λ failure. status_of failure ≢ 0) }
 {
-    let regular_files = RegularLogFiles { rt, dir: job.dir() };
     let files = LogFiles { rt, dir: job.dir() };
     let baseline = job_baseline(rt, job)?;
     let buffer = buffered(rt.alloc(), out)?;
     let mut writer = FirstByte::new(buffer);
-    let outcome = write_job(
-        rt,
-        job,
-        &regular_files,
-        &files,
-        index,
-        baseline.as_ref(),
-        &mut writer,
-    );
+    let outcome = write_job(rt, job, &files, index, baseline.as_ref(), &mut writer);
     let (buffer, byte) = writer.into_parts();
     *first = byte;
     flush_after(outcome, buffer)

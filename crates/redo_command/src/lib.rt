@@ -18,6 +18,7 @@ mod explanation;
 mod facts;
 mod failure;
 mod first_byte;
+mod first_reading;
 mod job;
 mod laws;
 mod log_file;
@@ -38,9 +39,10 @@ pub use explanation::{
     explain_arguments_as, explain_fault, explain_shown, explanation_as, fault_explanation_as,
     outcome_explanation_as,
 };
-pub use facts::{BuildFacts, read_build_facts, read_log_times, read_recipe_facts};
+pub use facts::{BuildFacts, read_build_facts, read_recipe_facts};
 pub use failure::{Failure, status};
 pub use first_byte::FirstByte;
+pub use first_reading::{FirstReading, open_first, rewind_all};
 pub use job::{Job, show_job, write_job};
 pub use laws::{baseline_fails_last, suggestions_are_listed_targets};
 pub use log_file::{LogFile, LogFiles, RegularLogFiles};

@@ -7,8 +7,8 @@ use crate::logs::{OpenFacts, OpenLog};
 use itoa::Buffer;
 use redo_line::{Broken, Feed, Reading};
 use std::alloc::{AllocError, Global};
-use std::fs::Metadata;
-use std::io::{ErrorKind, Read};
+use std::fs::{Metadata, OpenFile};
+use std::io::{ErrorKind, Read, Seek};
 use std::rt::Files;
 use std::{fs, io};
 
@@ -57,9 +57,37 @@ impl<R: Files<File: Send> + AllocGlobal> OpenLog for LogFiles<'_, R> {
     }
 }
 
-/// The log files of a directory and its file `facts`, if they are regular files, or symbolic links to one. Any other file is taken as
-/// missing and isn't opened, because a pipe can be read only once. Such a log and one that can't be opened have no times; if a run
-/// reads them later, it reports the error.
+/// A log that is a regular file can be read twice; a pipe can't. The file `facts` is read if it is a regular file, and otherwise taken as
+/// missing.
+impl<R: Files<File: Send> + AllocGlobal> OpenFacts for LogFiles<'_, R> {
+    type File = LogFile<R::File>;
+
+    ghost known_facts = { λ files. None };
+
+    fn open_facts(&self) -> Result<LogFile<R::File>, AllocError> {
+        open_regular(self.rt, facts_path(self.rt.alloc(), self.dir)?)
+    }
+
+    fn can_rewind(&self, _fid: u32, log: &LogFile<R::File>) -> bool {
+        match log {
+            LogFile::Open(file) => is_regular_file(&file.0),
+            _ => true,
+        }
+    }
+
+    fn rewind(&self, _fid: u32, log: &mut LogFile<R::File>) {
+        let failed = match log {
+            LogFile::Open(file) => fails_to_rewind(&mut file.0),
+            _ => false,
+        };
+        if failed {
+            *log = LogFile::Unreadable;
+        }
+    }
+}
+
+/// The log files of a directory that are regular files, or symbolic links to one. Any other file is taken as missing and isn't opened,
+/// because a pipe may never end.
 #[derive(Drop)]
 pub struct RegularLogFiles<'a, R> {
     pub rt: &'a R,
@@ -78,13 +106,19 @@ impl<R: Files<File: Send> + AllocGlobal> OpenLog for RegularLogFiles<'_, R> {
     }
 }
 
-impl<R: Files<File: Send> + AllocGlobal> OpenFacts for RegularLogFiles<'_, R> {
-    type File = LogFile<R::File>;
+// Goes back to the start of an open file, and returns whether this failed. A pipe, of which nothing was read, is at its start.
+fn fails_to_rewind<F: Seek>(file: &mut F) -> bool {
+    match file.rewind() {
+        Ok(()) => false,
+        Err(error) => !matches!(error.kind(), ErrorKind::NotSeekable),
+    }
+}
 
-    ghost known_facts = { λ files. None };
-
-    fn open_facts(&self) -> Result<LogFile<R::File>, AllocError> {
-        open_regular(self.rt, facts_path(self.rt.alloc(), self.dir)?)
+// Returns whether an open file is a regular file.
+fn is_regular_file<F: OpenFile>(file: &F) -> bool {
+    match file.metadata() {
+        Ok(found) => found.is_file(),
+        Err(_) => false,
     }
 }
 

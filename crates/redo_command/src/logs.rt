@@ -1,5 +1,5 @@
 //! The logs of a directory, and a text of them.
-ghost use Rattle.std.specs.Prelude.{◌≡◌, ◌≢◌, ℕ, Option, IfOk, IfErr, length, map};
+ghost use Rattle.std.specs.Prelude.{◌≡◌, ◌≢◌, ℕ, false, Option, None, IfOk, IfErr, length, map};
 ghost use Rattle.redo_device.specs.Feed.{Stream};
 ghost use Rattle.redo_options.specs.Arguments.{argument_bytes};
 ghost use Rattle.redo_options.specs.Limits.{IsCapacity, IsSenderCount};
@@ -32,8 +32,8 @@ pub trait OpenLog {
         ensures { IfOk result (λ log. Gives (known self.now fid) (Self.Log.contents log)) };
 }
 
-/// Opens the file `facts` of a directory.
-pub trait OpenFacts {
+/// Opens what facts are read from: the file `facts` of a directory, and logs, which are read for their times before they are shown.
+pub trait OpenFacts: OpenLog {
     /// A reader of the file.
     type File: Feed;
 
@@ -43,6 +43,14 @@ pub trait OpenFacts {
     /// Opens the file. The only error is that an allocation failed.
     fn open_facts(&self) -> Result<Self::File, AllocError>
         ensures { IfOk result (λ file. Gives (known_facts self.now) (Self.File.contents file)) };
+
+    /// Returns whether the log with this number, which was opened, can be read twice. If it can't, nothing is known of it.
+    fn can_rewind(&self, fid: u32, log: &Self::Log) -> bool
+        ensures { result ≡ false → Self.known self.now fid ≡ None };
+
+    /// Goes back to the start of the log with this number, which was opened.
+    fn rewind(&self, fid: u32, log: &mut Self::Log)
+        ensures { Gives (Self.known self.now fid) (Self.Log.contents log.new) };
 }
 
 /// Opens the logs of all targets, in the order of the index.
@@ -64,19 +72,14 @@ pub fn open_logs<L: OpenLog>(
     Ok(readers)
 }
 
-/// Writes any text of the logs that an index lists, such as a page. `arguments` name the requested targets. They are
-/// looked up before a log is read, and nothing is written before all logs were read. `out` isn't flushed.
+/// Writes any text of the logs that an index lists, such as a page. There must be a reader for each, in order. `arguments` name the
+/// requested targets. They are looked up before a log is read, and nothing is written before all logs were read. `out` isn't flushed.
 ///
 /// For any logs and writer, the text is written, or a prefix of it until a write failed or memory ran out. An unknown argument
 /// or a stream's fault is the result of the run, and then nothing is written.
-pub fn write_logs<
-    T: Threads + Wait + Sync + AllocGlobal,
-    L: OpenLog<Log: Send>,
-    V: Render,
-    W: Sink,
->(
+pub fn write_logs<T: Threads + Wait + Sync + AllocGlobal, R: Feed + Send, V: Render, W: Sink>(
     rt: &T,
-    logs: &L,
+    readers: Vec<R>,
     index: &Index,
     senders: u32,
     capacity: u32,
@@ -84,15 +87,16 @@ pub fn write_logs<
     arguments: &[Vec<u8>],
     out: &mut W,
 ) -> Result<(), Failure>
+    requires count { length readers.items ≡ length index.now }
     requires senders { IsSenderCount senders }
     requires capacity { IsCapacity capacity }
-    ensures written { IsWriteResult (logs_call (L.known logs.now) (V.text renderer.now) index.now (argument_bytes arguments.now))
+    ensures written { (known : ℕ → Option Stream) → AllGive (known_logs known index.now) (map R.contents readers.items)
+        → IsWriteResult (logs_call known (V.text renderer.now) index.now (argument_bytes arguments.now))
         (W.written out.old) (W.written out.new) result }
     ensures reportable { IfErr result (IsReportable (length index.now) (length arguments.now)) }
     ensures nonzero_status { IfErr result (λ failure. status_of failure ≢ 0) }
 {
     let alloc = rt.alloc();
-    let readers = open_logs(alloc, logs, index)?;
     let plan = plan_of(senders, capacity);
     match run_as(
         rt, alloc, index, readers, &plan, renderer, arguments, &Free, out,

@@ -2,7 +2,7 @@ ghost use Rattle.std.specs.Prelude.{⊤, true, None};
 ghost use Rattle.redo_view.specs.Expansion.{expansion};
 
 use redo_args::Job;
-use redo_command::{BaselineLogs, Index, OpenFacts, OpenLog};
+use redo_command::{BaselineLogs, Index, OpenFacts, open_logs};
 use redo_line::{Sink, TargetName};
 use redo_logs::LogTable;
 use redo_view::{FormFault, PlainText, Render};
@@ -38,7 +38,7 @@ impl redo_command::Job for TextJob {
         None
     }
 
-    fn senders(&self) -> u32 {
+    fn senders(&self, _facts: &()) -> u32 {
         self.job.senders()
     }
 
@@ -50,13 +50,13 @@ impl redo_command::Job for TextJob {
         self.job.targets()
     }
 
-    fn read_facts<L: OpenLog + OpenFacts>(
+    fn open<L: OpenFacts>(
         &self,
-        _alloc: Global,
-        _files: &L,
-        _index: &Index,
-    ) -> Result<(), AllocError> {
-        Ok(())
+        alloc: Global,
+        files: &L,
+        index: &Index,
+    ) -> Result<((), Vec<L::Log>), AllocError> {
+        Ok(((), open_logs(alloc, files, index)?))
     }
 
     fn render<W: Sink>(

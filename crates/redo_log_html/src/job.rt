@@ -5,7 +5,7 @@ ghost use Rattle.redo_command.specs.Facts.{AreBuildFacts};
 ghost use Rattle.redo_log_html.specs.Request.{baseline_for, request_for, title_for};
 
 use redo_args::html::PageJob;
-use redo_command::{BaselineLogs, BuildFacts, Index, Job, OpenFacts, OpenLog, read_build_facts};
+use redo_command::{BaselineLogs, BuildFacts, Index, Job, OpenFacts, read_build_facts};
 use redo_compare::Baseline;
 use redo_line::{HashKeys, Sink, TargetName};
 use redo_logs::LogTable;
@@ -47,8 +47,8 @@ impl Job for HtmlJob {
         self.job.output()
     }
 
-    fn senders(&self) -> u32 {
-        self.job.senders()
+    fn senders(&self, facts: &BuildFacts) -> u32 {
+        facts.senders(self.job.senders())
     }
 
     fn capacity(&self) -> u32 {
@@ -59,12 +59,12 @@ impl Job for HtmlJob {
         self.job.targets()
     }
 
-    fn read_facts<L: OpenLog + OpenFacts>(
+    fn open<L: OpenFacts>(
         &self,
         alloc: Global,
         files: &L,
         index: &Index,
-    ) -> Result<BuildFacts, AllocError> {
+    ) -> Result<(BuildFacts, Vec<L::Log>), AllocError> {
         read_build_facts(alloc, files, index)
     }
 

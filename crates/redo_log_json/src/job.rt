@@ -8,7 +8,7 @@ ghost use Rattle.redo_json.specs.Build.{request_of};
 ghost use Rattle.redo_log_json.specs.Request.{job_json, json_of_targets, request_for};
 
 use redo_args::json::JsonJob;
-use redo_command::{BaselineLogs, BuildFacts, Index, Job, OpenFacts, OpenLog, read_build_facts};
+use redo_command::{BaselineLogs, BuildFacts, Index, Job, OpenFacts, read_build_facts};
 use redo_compare::Baseline;
 use redo_json::{BuildRequest, every_target, json_options, write_build};
 use redo_line::{Sink, TargetName};
@@ -49,8 +49,8 @@ impl Job for BuildJob {
         self.job.output()
     }
 
-    fn senders(&self) -> u32 {
-        self.job.senders()
+    fn senders(&self, facts: &BuildFacts) -> u32 {
+        facts.senders(self.job.senders())
     }
 
     fn capacity(&self) -> u32 {
@@ -61,12 +61,12 @@ impl Job for BuildJob {
         self.job.targets()
     }
 
-    fn read_facts<L: OpenLog + OpenFacts>(
+    fn open<L: OpenFacts>(
         &self,
         alloc: Global,
         files: &L,
         index: &Index,
-    ) -> Result<BuildFacts, AllocError> {
+    ) -> Result<(BuildFacts, Vec<L::Log>), AllocError> {
         read_build_facts(alloc, files, index)
     }
 

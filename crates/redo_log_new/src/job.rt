@@ -6,7 +6,7 @@ ghost use Rattle.redo_view.specs.View.{find_unknown};
 ghost use Rattle.redo_log_new.specs.Job.{job_news};
 
 use redo_args::new::NewJob;
-use redo_command::{BaselineLogs, Index, Job, OpenFacts, OpenLog};
+use redo_command::{BaselineLogs, Index, Job, OpenFacts, open_logs};
 use redo_json::every_target;
 use redo_line::{HashKeys, Sink, TargetName};
 use redo_logs::LogTable;
@@ -47,7 +47,7 @@ impl Job for NewsJob {
         self.job.output()
     }
 
-    fn senders(&self) -> u32 {
+    fn senders(&self, _keys: &HashKeys) -> u32 {
         self.job.senders()
     }
 
@@ -59,13 +59,13 @@ impl Job for NewsJob {
         self.job.targets()
     }
 
-    fn read_facts<L: OpenLog + OpenFacts>(
+    fn open<L: OpenFacts>(
         &self,
-        _alloc: Global,
-        _files: &L,
+        alloc: Global,
+        files: &L,
         index: &Index,
-    ) -> Result<HashKeys, AllocError> {
-        Ok(index.keys())
+    ) -> Result<(HashKeys, Vec<L::Log>), AllocError> {
+        Ok((index.keys(), open_logs(alloc, files, index)?))
     }
 
     fn render<W: Sink>(

@@ -1,17 +1,16 @@
 -- Lines without an `@` have no reports.
 use Rattle.std.proofs.Common.{◌≡◌, ◌≢◌, ℕ, ◌+◌, ◌<◌, ◌≤◌, List, [], ◌∷◌, ◌++◌, None, get_or, length, take, drop, refl, sym, ap, ◌∙◌, subst, arith}
-use Rattle.std.specs.Prelude.{filter_map}
 use Rattle.std.specs.List.{AllByRecursion, cons_option, flat_map}
 use Rattle.std.proofs.lemmas.Bool.{eq-eqb, ne_eqb}
-use Rattle.std.proofs.lemmas.List.{append_assoc, get_or-take, get_or_default, length-take, take_all, take-append-drop, take-take}
+use Rattle.std.proofs.lemmas.List.{append_assoc, get_or-take, get_or_default, length-take, take-append-drop, take-take}
 use Rattle.std.proofs.lemmas.List.Elements.{recursion_from_All}
-use Rattle.memchr.specs.Find.{NoneAfter, Nowhere, Passes, is_byte}
+use Rattle.memchr.specs.Find.{Nowhere, Passes, is_byte}
 use Rattle.redo_line.specs.Lines.{ended, line_feed, rest, with_line_feed}
 use Rattle.redo_line.specs.Parts.{after_prefix}
 use Rattle.redo_line.specs.Record.{at_sign, record_fields}
 use Rattle.redo_line.proofs.CutLemmas.{upto_feed}
 use Rattle.redo_line.proofs.LineLemmas.{are_lines, rest-append, rest-free, rest-line}
-use Rattle.redo_times.specs.Report.{report_of, reports_in}
+use Rattle.redo_times.specs.Report.{reports_in}
 use Rattle.redo_times.proofs.ReportLemmas.{no_record}
 
 -- None of the bytes is this one.

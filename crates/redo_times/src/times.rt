@@ -28,8 +28,9 @@ pub struct Times {
     pub ended: Option<u64>,
 }
 
-/// Reads the streams of the targets of an index, and returns the times of each target, in the order of the index. Each
-/// reader gives the stream of the target at the same position, so there must be as many readers as targets.
+/// Reads the streams of the targets of an index, and returns the times of each target, in the order of the index, and then the readers.
+/// Each reader gives the stream of the target at the same position, so there must be as many readers as targets. Nothing is known of
+/// what a returned reader still gives.
 ///
 /// Only ended lines within the first `max_bytes` bytes of a stream count, and no more bytes are read. A failed read ends
 /// the stream: the bytes before it count. A record that is not valid is skipped.
@@ -43,16 +44,17 @@ pub fn read_times<R: Feed>(
     index: &Index,
     readers: Vec<R>,
     max_bytes: u64,
-) -> Result<Vec<Times>, AllocError>
+) -> Result<(Vec<Times>, Vec<R>), AllocError>
     requires { length readers.items ≡ length index.now }
     // These are the times of the streams that the readers give; for an opaque reader, of some stream.
-    ensures times { IfOk result (λ times.
-        AreTimesOfReaders max_bytes (listed_targets index.now) (map R.contents readers.items) times.items) }
-    ensures in_range { IfOk result (λ times. AllByRecursion AreInRange times.items) }
+    ensures times { IfOk result (λ read.
+        AreTimesOfReaders max_bytes (listed_targets index.now) (map R.contents readers.items) read.0.items) }
+    ensures in_range { IfOk result (λ read. AllByRecursion AreInRange read.0.items) }
+    ensures readers { IfOk result (λ read. length read.1.items ≡ length index.now) }
 {
-    let tallies = read_tallies(alloc, index, readers, max_bytes)?;
+    let (tallies, readers) = read_tallies(alloc, index, readers, max_bytes)?;
     let times = to_times(alloc, &tallies)?;
-    Ok(times)
+    Ok((times, readers))
 }
 
 // Returns when each target began and ended.
@@ -62,20 +64,21 @@ fn to_times(alloc: Global, tallies: &[Tally]) -> Result<Vec<Times>, AllocError>
     tallies.iter().map(|tally| tally.times()).collect(alloc)
 }
 
-// Reads the streams, and returns the tally of each target.
+// Reads the streams, and returns the tally of each target, and the readers.
 fn read_tallies<R: Feed>(
     alloc: Global,
     index: &Index,
     readers: Vec<R>,
     max_bytes: u64,
-) -> Result<Vec<Tally>, AllocError>
+) -> Result<(Vec<Tally>, Vec<R>), AllocError>
     requires { length readers.items ≡ length index.now }
-    ensures { IfOk result (λ tallies.
-        AreTalliesOfReaders max_bytes (listed_targets index.now) (map R.contents readers.items) tallies.items) }
+    ensures tallies { IfOk result (λ read.
+        AreTalliesOfReaders max_bytes (listed_targets index.now) (map R.contents readers.items) read.0.items) }
+    ensures readers { IfOk result (λ read. length read.1.items ≡ length index.now) }
 {
     let mut chunk = vec![in alloc; 0u8; READ_BYTES]?;
     let mut tallies = empty_tallies(alloc, index)?;
-    add_streams(
+    let readers = add_streams(
         alloc,
         index,
         tallies.as_mut_slice(),
@@ -83,7 +86,7 @@ fn read_tallies<R: Feed>(
         max_bytes,
         chunk.as_mut_slice(),
     )?;
-    Ok(tallies)
+    Ok((tallies, readers))
 }
 
 // Returns an empty tally for each target.
@@ -95,7 +98,7 @@ fn empty_tallies(alloc: Global, index: &Index) -> Result<Vec<Tally>, AllocError>
     Ok(tallies)
 }
 
-// Adds the reports of all logs to empty tallies.
+// Adds the reports of all logs to empty tallies, and returns the readers.
 fn add_streams<R: Feed>(
     alloc: Global,
     index: &Index,
@@ -103,14 +106,16 @@ fn add_streams<R: Feed>(
     readers: Vec<R>,
     max_bytes: u64,
     chunk: &mut [u8],
-) -> Result<(), AllocError>
+) -> Result<Vec<R>, AllocError>
     requires index { IsIndex index.now }
     requires begins { AreTallies (listed_targets index.now) [] tallies.old }
     requires readers { length readers.items ≡ length index.now }
     requires room { 0 < length chunk.old }
-    ensures { OnOk result (
+    ensures tallies { OnOk result (
         AreTalliesOfReaders max_bytes (listed_targets index.now) (map R.contents readers.items) tallies.new) }
+    ensures readers { IfOk result (λ read. length read.items ≡ length index.now) }
 {
+    let mut read = Vec::with_capacity(alloc, readers.len())?;
     let mut partial = Vec::new(alloc);
     let mut i = 0;
     for mut reader in readers {
@@ -125,7 +130,8 @@ fn add_streams<R: Feed>(
             chunk,
             &mut partial,
         )?;
+        read.push(reader)?;
         i += 1;
     }
-    Ok(())
+    Ok(read)
 }

@@ -1,4 +1,4 @@
-use Rattle.std.proofs.Common.{◌≡◌, ◌≢◌, ◌∙◌, ℕ, List, ap, length, sym, take}
+use Rattle.std.proofs.Common.{◌≢◌, ◌∙◌, ℕ, List, ap, length, sym, take}
 use Rattle.std.proofs.lemmas.Bool.{eqb-false, eqb-true}
 use Rattle.std.proofs.lemmas.Result.{IfOk-weaker}
 use Rattle.redo_index.specs.Index.{listed_targets}

@@ -1,7 +1,4 @@
 use Rattle.std.proofs.lemmas.Result.{IfOk-weaker}
-use Rattle.redo_device.specs.Feed.{Stream}
-use Rattle.redo_facts.specs.Reading.{facts_of_stream}
-use Rattle.redo_command.specs.NamesFile.{byte_limit}
 use Rattle.redo_command.proofs.FactLemmas.{of_file}
 use Rattle.redo_command.proofs.facts.read_recipe_facts.Goals as goal
 

@@ -4,7 +4,7 @@ use Rattle.redo_command.proofs.BaselineLemmas.{if_err, nonzero_baseline}
 use Rattle.redo_command.proofs.job.report_baseline.Goals as goal
 
 pub returns-clause-written : goal.returns-clause-written
-returns-clause-written g c = (c.write_rendered.result, c.write_rendered.ensures.written, c.and.ensures)
+returns-clause-written g c known give = (c.write_rendered.result, c.write_rendered.ensures.written known give, c.and.ensures)
 
 pub returns-clause-reportable : goal.returns-clause-reportable
 returns-clause-reportable g c =

@@ -14,6 +14,7 @@ loop-reader-init g c =
           ∙ length-map index (λ (entry : IndexEntry). entry.target);
       readers = c.into_iter-reader-iterator.ensures.into_iter_gives.0;
       number = refl;
+      read = ap length c.in_ok-read.ensures.items;
       tallies = none_read c.args.max_bytes (listed_targets index) c.args.tallies.now c.requires.begins;
     }
 
@@ -27,6 +28,7 @@ loop-reader-preserved g c =
       readers = append_assoc yielded (reader ∷ []) c.next.new.self.rest.items ∙ ap (λ rest. yielded ++ rest) (sym c.in-Some.ensures.steps.0)
           ∙ kept.readers;
       number = omega (arith, kept.number, length-append yielded (reader ∷ []));
+      read = ap length c.in_ok-push.ensures.items ∙ search (arith, kept.read, length-append);
       tallies =
           one_more_read g.R.Feed.contents c.args.max_bytes
           (listed_targets c.args.index.now) yielded reader c.loop-reader.i c.name-log.result.now c.loop-reader.tallies
@@ -34,8 +36,8 @@ loop-reader-preserved g c =
           kept.tallies c.in_ok-add_stream.ensures.tallies;
     }
 
-pub returns : goal.returns
-returns g c =
+pub returns-clause-tallies : goal.returns-clause-tallies
+returns-clause-tallies g c =
     let kept = c.loop-reader.invariant in
     let none : length c.loop-reader.reader-iterator.rest.items ≡ 0 =
     omega (arith, c.in-None.ensures.steps.0, c.loop-reader.reader-iterator.rest.ok) in

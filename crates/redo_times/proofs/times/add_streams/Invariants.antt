@@ -10,5 +10,6 @@ invariant-loop-reader g l = record {
   count : length l.tallies ≡ length l.index;
   readers : l.yielded ++ l.reader-iterator.rest.items ≡ l.fn.readers.items;
   number : l.i ≡ length l.yielded;
+  read : length l.read.items ≡ length l.yielded;
   tallies : AreTalliesOfReaders l.max_bytes (listed_targets l.index) (map g.R.Feed.contents l.yielded) l.tallies;
 }

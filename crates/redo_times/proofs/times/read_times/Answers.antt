@@ -13,7 +13,7 @@ returns-clause-times g c =
     let known = map g.R.Feed.contents c.args.readers.items in
     subst (λ (times : List Times). AreTimesOfReaders c.args.max_bytes targets known times)
     (sym (c.in_ok-times.ensures ∙ ap (map times_from) c.deref.ensures.value))
-    (times_of_tallies c.args.max_bytes targets known c.in_ok-tallies.tallies.items c.in_ok-tallies.ensures)
+    (times_of_tallies c.args.max_bytes targets known _ c.in_ok-tallies.ensures.tallies)
 
 pub returns-clause-in_range : goal.returns-clause-in_range
 returns-clause-in_range g c =
