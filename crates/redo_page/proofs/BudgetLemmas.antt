@@ -34,7 +34,7 @@ use Rattle.redo_trim.specs.declared.limit.Gauge.{Gauge}
 use Rattle.redo_trim.specs.declared.limit.Limit.{Limit}
 use Rattle.redo_trim.specs.Laws.{head_and_tail}
 use Rattle.redo_trim.specs.Trim.{after_shown, gauge_of, kept, limit_of, no_limit, trim, with_shown_all}
-use Rattle.redo_page.specs.Laws.{PositionedLine, event_lines, log_bytes, page_tree, positioned_at, positioned_bytes, positioned_lines, unmoved_lines}
+use Rattle.redo_page.specs.Laws.{PositionedLine, event_lines, log_bytes, positioned_bytes, positioned_lines, unmoved_lines}
 use Rattle.redo_page.specs.Page.{Request, options_of, page_contents, page_events, page_outline, run_times}
 use Rattle.redo_page.specs.Limits.{at_most, bytes_shown, cap_for, fit_in, highest_cap, limit_at, limit_if, limits_from, limits_of, min_cap, position_limit, tree_limits}
 use Rattle.redo_page.specs.Tree.{Build, articles, is_moved, is_moved_if, node_at, position_of}
@@ -43,7 +43,8 @@ use Rattle.redo_page.proofs.LimitLemmas.{highest_fits}
 use Rattle.redo_page.proofs.OpeningLemmas.{AreNamed, ArePlaced, NamesItsLog, contents_named, target_named, trim_named}
 use Rattle.redo_page.proofs.PageIds.{outline_counted}
 use Rattle.redo_page.proofs.PageNames.{page_placed}
-use Rattle.redo_page.proofs.PageLines.{Have, direct_lines, printed_lines, whole_has_none}
+use Rattle.redo_page.proofs.PagePartLemmas.{page_tree}
+use Rattle.redo_page.proofs.PageLines.{Have, direct_lines, positioned_at, printed_lines, whole_has_none}
 use Rattle.redo_page.proofs.TreeItems.{tree_is_streamed}
 use Rattle.redo_page.proofs.TreeNames.{event_name}
 use Rattle.redo_page.proofs.TreeLines.{bytes-append, tree_text}

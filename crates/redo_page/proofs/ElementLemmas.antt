@@ -1,15 +1,13 @@
 -- The contents of the elements of logs.
 use Rattle.std.proofs.Common.{◌≡◌, ℕ, suc, ◌+◌, ◌<◌, ◌≤◌, ◌⊎◌, inl, inr, Bool, true, false, List, [], ◌∷◌, ◌++◌, Option, None, Some, refl, sym, ◌∙◌, ap, subst, arith}
-use Rattle.std.specs.Prelude.{◌&&◌, ◌==◌, bytes_eq, nat_le, if◌then◌else◌}
-use Rattle.std.specs.List.{AllByRecursion, filter, flat_map}
+use Rattle.std.specs.Prelude.{◌&&◌, nat_le, if◌then◌else◌}
+use Rattle.std.specs.List.{AllByRecursion, filter}
 use Rattle.std.proofs.lemmas.Bool.{and_from, le-leb, lt-leb}
 use Rattle.std.proofs.lemmas.Grind.{flat_map-append}
 use Rattle.std.proofs.lemmas.List.{append_assoc, append-nil}
 use Rattle.std.proofs.lemmas.List.Elements.{filter-append}
 use Rattle.redo_html.specs.declared.markup.Markup.{Markup}
 use Rattle.redo_html.specs.declared.markup.Markup.TheVariants as markup
-use Rattle.redo_html.specs.Html.{after_end_tag, is_void, nests_in, start_name}
-use Rattle.redo_html.specs.Laws.{markup_tag}
 use Rattle.redo_html.specs.Parts.{Part}
 use Rattle.redo_html.specs.Parts.Part.{MarkupPart}
 use Rattle.redo_line.specs.declared.entry.Entry.TheVariants.{Text, Mention, Done, Closing, Note}
@@ -24,29 +22,35 @@ use Rattle.redo_outline.specs.Outline.{log_count}
 use Rattle.redo_page.specs.declared.block.Pending.{Pending}
 use Rattle.redo_page.specs.declared.block.Pending.TheVariants as pending
 use Rattle.redo_page.specs.declared.level.Level.{Level}
-use Rattle.redo_page.specs.Laws.{PositionedLine, ShowsItsLines, is_between, is_within, log_bytes, log_text, positioned_at, positioned_bytes, positioned_lines, target_id, target_ids, unmoved_lines}
+use Rattle.redo_page.specs.Laws.{IsInside, PositionedLine, is_within, log_bytes, log_text, positioned_bytes, positioned_lines, target_id, target_ids, unmoved_lines}
 use Rattle.redo_page.specs.Tree.{Build, articles, closing_parts, depth_parts, empty_start, flat_end, flat_start, heading_parts, is_empty, is_expanded, level_of, max_depth, moved_parts, nested_start, node_at, opening_parts, section_end, section_start, top_level, nested_end}
 use Rattle.redo_page.specs.Private.Streaming.{after_log, after_shown, contents_parts, end_parts, group_end, group_left, group_start, shown_parts, streamed_tree}
 use Rattle.redo_page.proofs.Ids.{Bare, same_found, target_id_part}
+use Rattle.redo_page.proofs.InsideLemmas.{Closed, after_start, nest_closed, one_end}
 use Rattle.redo_page.proofs.NameLemmas.{FromEach, from_here}
 use Rattle.redo_page.proofs.Nesting.{Nest, joined}
 use Rattle.redo_page.proofs.OpeningLemmas.{ArePlaced}
+use Rattle.redo_page.proofs.PageLines.{positioned_at}
 use Rattle.redo_page.proofs.TreeIds.{end_bare, group_end_bare, group_start_bare, heading_bare, moved_refers, shown_refers}
 use Rattle.redo_page.proofs.TreeLines.{bare_quiet, contents_text, moved_quiet}
 use Rattle.redo_page.proofs.TreeNesting.{contents_lead, heading_nests, moved_nests}
 
 -- ---- positions
 
-between : (lowest highest position : ℕ) → lowest ≤ position → position ≤ highest → is_between lowest highest (Some position) ≡ true
-between lowest highest position low high =
-    and_from (nat_le lowest position) (nat_le position highest) (le-leb lowest position low) (le-leb position highest high)
+abbrev line_within : ℕ → ℕ → PositionedLine → Bool
+line_within position below positioned = is_within position below positioned.position
 
-outside : (lowest highest position : ℕ) → (position < lowest) ⊎ (highest < position) → is_between lowest highest (Some position) ≡ false
-outside lowest highest position (inl less) = ap (λ (b : Bool). b && nat_le position highest) (lt-leb lowest position less)
-outside lowest highest position (inr more) = by (nat_le lowest position)
+between : (lowest below position : ℕ) → lowest ≤ position → position ≤ lowest + below → is_within lowest below (Some position) ≡ true
+between lowest below position low high =
+    and_from (nat_le lowest position) (nat_le position (lowest + below)) (le-leb lowest position low)
+    (le-leb position (lowest + below) high)
+
+outside : (lowest below position : ℕ) → (position < lowest) ⊎ (lowest + below < position) → is_within lowest below (Some position) ≡ false
+outside lowest below position (inl less) = ap (λ (b : Bool). b && nat_le position (lowest + below)) (lt-leb lowest position less)
+outside lowest below position (inr more) = by (nat_le lowest position)
   where
-    by : (b : Bool) → (b && nat_le position highest) ≡ false
-    by true = lt-leb position highest more
+    by : (b : Bool) → (b && nat_le position (lowest + below)) ≡ false
+    by true = lt-leb position (lowest + below) more
     by false = refl
 
 -- The log around some contents has a position before the positions of the logs that are opened in them.
@@ -54,10 +58,10 @@ abbrev IsBefore : Option ℕ → ℕ → Type 0
 IsBefore None position = Unit {0}
 IsBefore (Some around) position = around < position
 
-around_outside : (around : Option ℕ) (position lowest highest : ℕ) → IsBefore around position → position ≤ lowest
-    → is_between lowest highest around ≡ false
-around_outside None position lowest highest before low = refl
-around_outside (Some around) position lowest highest before low = outside lowest highest around (inl (omega (arith, before, low)))
+around_outside : (around : Option ℕ) (position lowest below : ℕ) → IsBefore around position → position ≤ lowest
+    → is_within lowest below around ≡ false
+around_outside None position lowest below before low = refl
+around_outside (Some around) position lowest below before low = outside lowest below around (inl (omega (arith, before, low)))
 
 before_later : (around : Option ℕ) (position later : ℕ) → IsBefore around position → position ≤ later → IsBefore around later
 before_later None position later before after = tt
@@ -124,30 +128,30 @@ lines_placed around position (Opened event number inside rest) =
 
 module _ (lowest below : ℕ) where
   abbrev left : List PositionedLine → List PositionedLine
-  left lines = filter (is_within lowest below) lines
+  left lines = filter (line_within lowest below) lines
 
-  all_left : (lines : List PositionedLine) → AllByRecursion (λ line. is_within lowest below line ≡ true) lines → left lines ≡ lines
+  all_left : (lines : List PositionedLine) → AllByRecursion (λ line. line_within lowest below line ≡ true) lines → left lines ≡ lines
   all_left [] all = refl
   all_left (line ∷ lines) all =
       ap (λ (b : Bool). if b then line ∷ left lines else left lines) all.0
       ∙ ap (λ (t : List PositionedLine). line ∷ t) (all_left lines all.1)
 
-  none_left : (lines : List PositionedLine) → AllByRecursion (λ line. is_within lowest below line ≡ false) lines → left lines ≡ []
+  none_left : (lines : List PositionedLine) → AllByRecursion (λ line. line_within lowest below line ≡ false) lines → left lines ≡ []
   none_left [] all = refl
   none_left (line ∷ lines) all =
       ap (λ (b : Bool). if b then line ∷ left lines else left lines) all.0 ∙ none_left lines all.1
 
-  event_left : (around : Option ℕ) (event : Event) → is_between lowest (lowest + below) around ≡ false
+  event_left : (around : Option ℕ) (event : Event) → is_within lowest below around ≡ false
       → left (positioned_at around event) ≡ []
   event_left around event own =
       none_left (positioned_at around event) (weaker by (positioned_at around event) (event_placed around 0 0 event))
     where
-      by : (line : PositionedLine) → IsPlaced around 0 0 line → is_within lowest below line ≡ false
-      by line (inl same) = ap (is_between lowest (lowest + below)) same ∙ own
+      by : (line : PositionedLine) → IsPlaced around 0 0 line → line_within lowest below line ≡ false
+      by line (inl same) = ap (is_within lowest below) same ∙ own
       by line (inr found) = let high = found.3 in absurd (omega (arith, high))
 
   -- Lines of contents whose logs are all before these positions, or all after them.
-  others_left : (around : Option ℕ) (position : ℕ) (contents : Contents) → is_between lowest (lowest + below) around ≡ false
+  others_left : (around : Option ℕ) (position : ℕ) (contents : Contents) → is_within lowest below around ≡ false
       → (position + log_count contents ≤ lowest) ⊎ (lowest + below < position) → left (positioned_lines around position contents) ≡ []
   others_left around position contents own apart =
       none_left (positioned_lines around position contents)
@@ -158,10 +162,10 @@ module _ (lowest below : ℕ) where
       far at low high (inl before) = inl (omega (arith, low, high, before))
       far at low high (inr after) = inr (omega (arith, low, high, after))
 
-      by : (line : PositionedLine) → IsPlaced around position (log_count contents) line → is_within lowest below line ≡ false
-      by line (inl same) = ap (is_between lowest (lowest + below)) same ∙ own
-      by line (inr found) = ap (is_between lowest (lowest + below)) found.1
-          ∙ outside lowest (lowest + below) found.0 (far found.0 found.2 found.3 apart)
+      by : (line : PositionedLine) → IsPlaced around position (log_count contents) line → line_within lowest below line ≡ false
+      by line (inl same) = ap (is_within lowest below) same ∙ own
+      by line (inr found) = ap (is_within lowest below) found.1
+          ∙ outside lowest below found.0 (far found.0 found.2 found.3 apart)
 
 -- All lines of a log, and of the logs below it.
 own_left : (position : ℕ) (inside : Contents)
@@ -172,14 +176,14 @@ own_left position inside =
     (weaker by (positioned_lines (Some position) (suc position) inside) (lines_placed (Some position) (suc position) inside))
   where
     by : (line : PositionedLine) → IsPlaced (Some position) (suc position) (log_count inside) line
-        → is_within position (log_count inside) line ≡ true
-    by line (inl same) = ap (is_between position (position + log_count inside)) same
-        ∙ between position (position + log_count inside) position (omega arith) (omega arith)
+        → line_within position (log_count inside) line ≡ true
+    by line (inl same) = ap (is_within position (log_count inside)) same
+        ∙ between position (log_count inside) position (omega arith) (omega arith)
     by line (inr found) =
         let low = found.2 in
         let high = found.3 in
-        ap (is_between position (position + log_count inside)) found.1
-        ∙ between position (position + log_count inside) found.0 (omega (arith, low)) (omega (arith, high))
+        ap (is_within position (log_count inside)) found.1
+        ∙ between position (log_count inside) found.0 (omega (arith, low)) (omega (arith, high))
 
 -- ---- the lines of each log
 
@@ -199,7 +203,7 @@ Lacks position count lines =
 both_lack : (position count : ℕ) (lines others : List PositionedLine) → Lacks position count lines → Lacks position count others
     → Lacks position count (lines ++ others)
 both_lack position count lines others first last lowest below low high =
-    filter-append (is_within lowest below) lines others
+    filter-append (line_within lowest below) lines others
     ∙ ap (λ (t : List PositionedLine). t ++ left lowest below others) (first lowest below low high) ∙ last lowest below low high
 
 fewer_lack : (position count later fewer : ℕ) (lines : List PositionedLine) → position ≤ later → later + fewer ≤ position + count
@@ -217,7 +221,7 @@ located around position (Shown event rest) front back before first last =
     (located around position rest (front ++ own) back before
     (both_lack position (log_count rest) front own first
     (λ lowest below low high. event_left lowest below around event
-    (around_outside around position lowest (lowest + below) before low))) last)
+    (around_outside around position lowest below before low))) last)
   where
     moved : (a b c d : List PositionedLine) → (a ++ b) ++ (c ++ d) ≡ a ++ ((b ++ c) ++ d)
     moved a b c d = simp (append_assoc)
@@ -226,14 +230,14 @@ located around position (Opened event number inside rest) front back before firs
     let others = positioned_lines around (suc position + log_count inside) rest in (
       here inner others (own_left position inside)
           (others_left position (log_count inside) around (suc position + log_count inside) rest
-          (around_outside around position position (position + log_count inside) before (omega arith)) (inr (omega arith))),
+          (around_outside around position position (log_count inside) before (omega arith)) (inr (omega arith))),
       subst (λ (all : List PositionedLine). Located all (suc position) inside) (right front inner others back)
           (located (Some position) (suc position) inside front (others ++ back) (omega arith)
           (fewer_lack position (suc (log_count inside + log_count rest)) (suc position) (log_count inside) front (omega arith) (omega arith)
           first)
           (both_lack (suc position) (log_count inside) others back
           (λ lowest below low high. others_left lowest below around (suc position + log_count inside) rest
-          (around_outside around position lowest (lowest + below) before (omega (arith, low))) (inr (omega (arith, high))))
+          (around_outside around position lowest below before (omega (arith, low))) (inr (omega (arith, high))))
           (fewer_lack position (suc (log_count inside + log_count rest)) (suc position) (log_count inside) back (omega arith) (omega arith)
           last))),
       subst (λ (all : List PositionedLine). Located all (suc position + log_count inside) rest) (after front inner others back)
@@ -243,7 +247,7 @@ located around position (Opened event number inside rest) front back before firs
           (fewer_lack position (suc (log_count inside + log_count rest)) (suc position + log_count inside) (log_count rest) front
           (omega arith) (omega arith) first)
           (λ lowest below low high. others_left lowest below (Some position) (suc position) inside
-          (outside lowest (lowest + below) position (inl (omega (arith, low)))) (inl (omega (arith, low)))))
+          (outside lowest below position (inl (omega (arith, low)))) (inl (omega (arith, low)))))
           (fewer_lack position (suc (log_count inside + log_count rest)) (suc position + log_count inside) (log_count rest) back
           (omega arith) (omega arith) last)),
     )
@@ -258,7 +262,7 @@ located around position (Opened event number inside rest) front back before firs
         → left position (log_count inside) others ≡ []
         → left position (log_count inside) (front ++ ((inner ++ others) ++ back)) ≡ inner
     here inner others own none =
-        let test = is_within position (log_count inside) in
+        let test = line_within position (log_count inside) in
         filter-append test front ((inner ++ others) ++ back)
         ∙ ap (λ (t : List PositionedLine). t ++ left position (log_count inside) ((inner ++ others) ++ back))
         (first position (log_count inside) (omega arith) (omega arith))
@@ -269,86 +273,22 @@ located around position (Opened event number inside rest) front back before firs
         ∙ ap (λ (t : List PositionedLine). t ++ left position (log_count inside) others) own
         ∙ ap (λ (t : List PositionedLine). inner ++ t) none ∙ append-nil inner
 
--- ---- where an element ends
+-- ---- the tree
 
 abbrev end : Part
 end = MarkupPart markup.EndDetails
 
--- If the elements that are open before some tags end in them, none is open after them.
-all_closed : (names tags more : List (List ℕ)) → nests_in names tags ≡ true → nests_in names (tags ++ more) ≡ nests_in [] more
-all_closed [] [] more nests = refl
-all_closed (name ∷ names) [] more nests = absurd (cc)
-all_closed names ([] ∷ tags) more nests = absurd (cc)
-all_closed names ((byte ∷ bytes) ∷ tags) more nests =
-    by (byte == 47) (is_void (start_name (byte ∷ bytes))) names nests (λ others closed. all_closed others tags more closed)
-  where
-    ended : (names : List (List ℕ)) → after_end_tag bytes names (λ outer. nests_in outer tags) ≡ true
-        → ((others : List (List ℕ)) → nests_in others tags ≡ true → nests_in others (tags ++ more) ≡ nests_in [] more)
-        → after_end_tag bytes names (λ outer. nests_in outer (tags ++ more)) ≡ nests_in [] more
-    ended [] nest behind = absurd (cc)
-    ended (inner ∷ outer) nest behind = same (bytes_eq bytes inner) nest
-      where
-        same : (is : Bool) → (is && nests_in outer tags) ≡ true → (is && nests_in outer (tags ++ more)) ≡ nests_in [] more
-        same true closed = behind outer closed
-        same false closed = absurd (cc)
+module _ (build : Build) (lines : List PositionedLine) where
+  -- Parts show exactly the lines of the log at a position and of the logs below it.
+  abbrev ShowsLinesFrom : ℕ → List Part → Type 0
+  ShowsLinesFrom position parts =
+      log_bytes parts ≡ positioned_bytes (unmoved_lines build (left position (node_at build.nodes position).below lines))
 
-    by : (ends void : Bool) (names : List (List ℕ))
-        → (if ends then after_end_tag bytes names (λ outer. nests_in outer tags)
-        else if void then nests_in names tags else nests_in (start_name (byte ∷ bytes) ∷ names) tags) ≡ true
-        → ((others : List (List ℕ)) → nests_in others tags ≡ true → nests_in others (tags ++ more) ≡ nests_in [] more)
-        → (if ends then after_end_tag bytes names (λ outer. nests_in outer (tags ++ more))
-        else if void then nests_in names (tags ++ more) else nests_in (start_name (byte ∷ bytes) ∷ names) (tags ++ more))
-        ≡ nests_in [] more
-    by true void names nest behind = ended names nest behind
-    by false true names nest behind = behind names nest
-    by false false names nest behind = behind (start_name (byte ∷ bytes) ∷ names) nest
-
--- Two beginnings of the same parts, each before an end tag.
-abbrev Longer : List Part → List Part → Type 0
-Longer parts others = (more : List Part) × (others ≡ parts ++ (end ∷ more))
-
-compared : (parts others after rest : List Part) → parts ++ (end ∷ after) ≡ others ++ (end ∷ rest)
-    → (parts ≡ others) ⊎ (Longer parts others ⊎ Longer others parts)
-compared [] [] after rest same = inl refl
-compared [] (other ∷ others) after rest same =
-    let head : end ≡ other = cc in inr (inl (others, ap (λ (p : Part). p ∷ others) (sym head)))
-compared (part ∷ parts) [] after rest same =
-    let head : part ≡ end = cc in inr (inr (parts, ap (λ (p : Part). p ∷ parts) head))
-compared (part ∷ parts) (other ∷ others) after rest same =
-    let head : part ≡ other = cc in
-    let tail : parts ++ (end ∷ after) ≡ others ++ (end ∷ rest) = cc in
-    by head (compared parts others after rest tail)
-  where
-    by : part ≡ other → (parts ≡ others) ⊎ (Longer parts others ⊎ Longer others parts)
-        → (part ∷ parts ≡ other ∷ others) ⊎ (Longer (part ∷ parts) (other ∷ others) ⊎ Longer (other ∷ others) (part ∷ parts))
-    by head (inl equal) = inl (ap (λ (p : Part). p ∷ parts) head ∙ ap (λ (t : List Part). other ∷ t) equal)
-    by head (inr (inl longer)) =
-        inr (inl (longer.0, ap (λ (t : List Part). other ∷ t) longer.1 ∙ ap (λ (p : Part). p ∷ (parts ++ (end ∷ longer.0))) (sym head)))
-    by head (inr (inr longer)) =
-        inr (inr (longer.0, ap (λ (t : List Part). part ∷ t) longer.1 ∙ ap (λ (p : Part). p ∷ (others ++ (end ∷ longer.0))) head))
-
-abbrev Closed : List Part → Type 0
-Closed parts = nests_in [] (flat_map markup_tag parts) ≡ true
-
-not_longer : (parts others : List Part) → Closed parts → Closed others → Longer parts others → ⊥
-not_longer parts others first last longer =
-    let tags = flat_map markup_tag (end ∷ longer.0) in
-    let is : false ≡ true = sym (ap (nests_in []) (flat_map-append markup_tag parts (end ∷ longer.0))
-    ∙ all_closed [] (flat_map markup_tag parts) tags first)
-    ∙ (sym (ap (λ (p : List Part). nests_in [] (flat_map markup_tag p)) longer.1) ∙ last) in
-    absurd (cc)
-
--- There is only one end.
-one_end : (parts others after rest : List Part) → Closed parts → Closed others → parts ++ (end ∷ after) ≡ others ++ (end ∷ rest)
-    → parts ≡ others
-one_end parts others after rest first last same = by (compared parts others after rest same)
-  where
-    by : (parts ≡ others) ⊎ (Longer parts others ⊎ Longer others parts) → parts ≡ others
-    by (inl equal) = equal
-    by (inr (inl longer)) = absurd (not_longer parts others first last longer)
-    by (inr (inr longer)) = absurd (not_longer others parts last first longer)
-
--- ---- the tree
+  -- If the element of a log begins with this tag, it contains the lines of this log.
+  abbrev pub ShowsItsLines : Markup → List Part → Type 0
+  ShowsItsLines (markup.Details position) inside = ShowsLinesFrom position inside
+  ShowsItsLines (markup.OpenDetails position) inside = ShowsLinesFrom position inside
+  ShowsItsLines tag inside = Unit {0}
 
 module _ (build : Build) (all : List PositionedLine) where
   -- If a log's element begins here, it shows the log's lines.
@@ -425,8 +365,7 @@ module _ (build : Build) (all : List PositionedLine) where
     between_tags = MarkupPart markup.Summary ∷ (start_inside ++ (in_log ++ MarkupPart markup.EndUnordered ∷ []))
 
     between_closed : Closed between_tags
-    between_closed =
-        ap (nests_in []) (sym (append-nil (flat_map markup_tag between_tags))) ∙ nest.leads [] []
+    between_closed = nest_closed nest
       where
         nest : Nest between_tags
         nest = record {
@@ -465,7 +404,7 @@ module _ (build : Build) (all : List PositionedLine) where
     here : (rest found after : List Part) → found ++ (end ∷ after) ≡ between_tags ++ (end ∷ rest) → Closed found
         → log_bytes found ≡ positioned_bytes (unmoved_lines build (left position (node_at build.nodes position).below all))
     here rest found after is closed =
-        ap log_bytes (one_end found between_tags after rest closed between_closed is) ∙ between_text
+        ap log_bytes (one_end end (λ others. refl) found between_tags after rest closed between_closed is) ∙ between_text
 
     details_show : (expanded : Bool)
         → Shows (MarkupPart (if expanded then markup.OpenDetails position else markup.Details position) ∷ (between_tags ++ (end ∷ [])))
@@ -539,19 +478,23 @@ module _ (build : Build) (all : List PositionedLine) where
       split : (a o i c g r : List Part) → a ++ ((o ++ (i ++ c)) ++ (g ++ r)) ≡ (a ++ o) ++ (i ++ ((c ++ g) ++ r))
       split a o i c g r = simp (append_assoc)
 
+-- Between parts without ids of logs, the tree shows the lines of each log.
 pub tree_shows : (logs : List Log) (options : Options) (nodes : List Node) (contents : Contents) → ArePlaced nodes 0 contents
-    → (before : List Part) (tag : Markup) (inside after : List Part)
-    → before ++ (MarkupPart tag ∷ (inside ++ (end ∷ after))) ≡ streamed_tree logs options nodes contents → Closed inside
+    → (front back : List Part) → target_ids front ≡ [] → target_ids back ≡ [] → (tag : Markup) (inside : List Part)
+    → IsInside tag markup.EndDetails inside (front ++ (streamed_tree logs options nodes contents ++ back))
     → ShowsItsLines (record { logs = logs; options = options; nodes = nodes; articles = articles nodes }) (positioned_lines None 0 contents)
     tag inside
-tree_shows logs options nodes contents placed before tag inside after is closed =
+tree_shows logs options nodes contents placed front back first last tag inside is =
     let build : Build = record { logs = logs; options = options; nodes = nodes; articles = articles nodes } in
     let lines = positioned_lines None 0 contents in
     let are = subst (λ (all : List PositionedLine). Located all 0 contents) (append-nil lines)
     (located None 0 contents [] [] tt (λ lowest below low high. refl) (λ lowest below low high. refl)) in
-    let shows = then_show build lines (plain_show build lines section_start refl)
+    let tree = then_show build lines (plain_show build lines section_start refl)
     (then_show build lines (contents_show build lines top_level 0 pending.Nothing contents placed are)
     (plain_show build lines section_end refl)) in
-    from_here (ShowsHere build lines) before (MarkupPart tag) (inside ++ (end ∷ after))
-    (subst (FromEach (ShowsHere build lines)) (append-nil (streamed_tree logs options nodes contents) ∙ sym is) (shows.before [] tt))
-    inside after refl closed
+    let shows = then_show build lines (plain_show build lines front first)
+    (then_show build lines tree (plain_show build lines back last)) in
+    from_here (ShowsHere build lines) is.0.before (MarkupPart tag) (inside ++ (end ∷ is.0.after))
+    (subst (FromEach (ShowsHere build lines)) (append-nil (front ++ (streamed_tree logs options nodes contents ++ back))
+    ∙ sym (sym (after_start is.0.before inside is.0.after (MarkupPart tag) end) ∙ is.0.splits)) (shows.before [] tt))
+    inside is.0.after refl is.1

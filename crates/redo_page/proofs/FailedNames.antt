@@ -39,7 +39,7 @@ use Rattle.redo_page.specs.Excerpt.{Stretch, cut_to, emphasized_if, error_positi
 use Rattle.redo_page.specs.Excerpt.Stretch.{Shown, LeftOut}
 use Rattle.redo_page.specs.Article.{article_of, article_parts, article_took, cause_of_node, cause_parts, line_of_node, max_path, nothing_parts, output_line_parts, output_parts, path_parts, printed_by, whole_parts}
 use Rattle.redo_page.specs.Failed.{failed_parts}
-use Rattle.redo_page.specs.Laws.{BeginWith, IsList, IsRow, KnownRecipes, TellsItsTarget, item_with, line_item, list_item, target_name}
+use Rattle.redo_page.specs.Laws.{BeginWith, IsList, IsRow, TellsItsTarget, item_with, line_item, list_item, target_name}
 use Rattle.redo_page.specs.NewSection.{news_parts}
 use Rattle.redo_page.specs.Scope.{View, count_of, holds, max_rows, measure_words, positions_of, row_name, row_view, rows_of, target_view}
 use Rattle.redo_page.specs.Recipe.{recipe_at, recipe_parts}
@@ -50,7 +50,7 @@ use Rattle.redo_page.specs.Tree.{is_short, node_at}
 use Rattle.redo_page.specs.Words.{word_part, words_parts}
 use Rattle.redo_page.proofs.FailedIds.{article_took_bare, path_bare}
 use Rattle.redo_page.proofs.Ids.{Bare, badge_bare, bare_each, is_reference, is_section, word_bare}
-use Rattle.redo_page.proofs.NameLemmas.{Tells, article_link_tells, bare_tell, calm_tell, is_calm, is_calm_tag, linked_tells, log_link_tells, none_tell, place_link_tells, target_link_tells, tell_each, tell_if, then_tell}
+use Rattle.redo_page.proofs.NameLemmas.{KnownRecipes, Tells, article_link_tells, bare_tell, calm_tell, is_calm, is_calm_tag, linked_tells, log_link_tells, none_tell, place_link_tells, target_link_tells, tell_each, tell_if, then_tell}
 use Rattle.redo_page.proofs.RecipeLemmas.{recipe_bare}
 use Rattle.redo_page.proofs.TemplateIds.{Place, began_bare, body_bare, is_row, none_refer, only_known, only_tag}
 use Rattle.redo_page.proofs.TemplateIds.Place.{Outside, Failing, InTargets, InRows, InList}
@@ -244,7 +244,7 @@ module _ (view : View) where
   -- A list, and the parts after it.
   items_then : {X : Type 0} (item : X → List Part) → ((x : X) → TellingOf (item x)) → (list : Markup) (xs : List X)
       → ((rest : List Part) → BeginWith (flat_map item xs ++ MarkupPart markup.EndOrdered ∷ []) rest
-      → TellsItsTarget view.logs view.nodes (known_in view) list rest)
+      → TellsItsTarget view.logs view.nodes view.recipes view.facts.recipes list rest)
       → (others : List Part) → TellingOf others
       → TellingOf (MarkupPart list ∷ (flat_map item xs ++ (MarkupPart markup.EndOrdered ∷ others)))
   items_then item tells list xs says others more =
@@ -260,7 +260,8 @@ module _ (view : View) where
 
   -- A list of targets, and the parts after it.
   list_then : (link : ℕ → Markup) (causes : Bool) → LinksTell link → (list : Markup)
-      → ((after : List Part) → IsList view.logs view.nodes link after → TellsItsTarget view.logs view.nodes (known_in view) list after)
+      → ((after : List Part) → IsList view.logs view.nodes link after
+      → TellsItsTarget view.logs view.nodes view.recipes view.facts.recipes list after)
       → (positions : List ℕ) (others : List Part) → TellingOf others
       → TellingOf (MarkupPart list
       ∷ (flat_map (list_item view.logs view.nodes link causes) positions ++ (MarkupPart markup.EndOrdered ∷ others)))
@@ -298,7 +299,7 @@ module _ (view : View) where
 
   more_tell : (list : Markup) (causes : Bool)
       → ((after : List Part) → IsList view.logs view.nodes (λ position. markup.TargetLink position) after
-      → TellsItsTarget view.logs view.nodes (known_in view) list after)
+      → TellsItsTarget view.logs view.nodes view.recipes view.facts.recipes list after)
       → (these : Listed) (heading : List ℕ)
       → TellingOf (MarkupPart markup.MoreDetails ∷ MarkupPart markup.Summary ∷ NumberPart (count_of view (All these)) ∷ TextPart heading
       ∷ MarkupPart markup.EndSummary ∷ MarkupPart list
@@ -678,7 +679,7 @@ module _ {T B : Type 0} (text_of : T → List ℕ) (inner : B → View → List 
       ++ (MarkupPart markup.EndRowHeading ∷ MarkupPart markup.NumberCell ∷ (value ++ MarkupPart markup.EndCell ∷ [])))))
 
   row_shown : (rows : Rows) (items : List (Item T B)) → begin_row (InRows rows) items ≡ true → IsNamedRow (InRows rows) view
-      → (rest : List Part) → IsRow view.logs view.nodes (known_in view) (all_shown items ++ rest)
+      → (rest : List Part) → IsRow view.logs view.nodes view.recipes view.facts.recipes (all_shown items ++ rest)
   row_shown rows items is row rest = by rows is row.1 (rows_begin rows (steps_shown (row_steps rows) items is))
     where
       rows_begin : (rows : Rows) → BeginWith (steps_parts (row_steps rows)) (all_shown items)
@@ -692,7 +693,7 @@ module _ {T B : Type 0} (text_of : T → List ℕ) (inner : B → View → List 
       by : (rows : Rows) → begin_row (InRows rows) items ≡ true
           → IsValueOf (known_in view) rows (node_at view.nodes view.rank.position) view.rank
           → BeginWith (row_of (node_at view.nodes view.rank.position) (value_parts rows)) (all_shown items ++ rest)
-          → IsRow view.logs view.nodes (known_in view) (all_shown items ++ rest)
+          → IsRow view.logs view.nodes view.recipes view.facts.recipes (all_shown items ++ rest)
       by ranking.New is value begins =
           absurd (never_begin (is_link ∷ is_badge ∷ is_heading_end ∷ is_cell ∷ []) (is_cell_end ∷ []) items is)
       by Longest is value begins =
@@ -808,7 +809,7 @@ module _ {B : Type 0} (inner : B → View → List Part) (only : Place → B →
       by (is_heading item) refl known.0 rows.0 (items_tell text_of place items rows.1 row)
     where
       here : (place : Place) → begin_row place items ≡ true → IsNamedRow place view → (rest : List Part)
-          → IsRow view.logs view.nodes (known_in view) (parts_of_items text_of inner view items ++ rest)
+          → IsRow view.logs view.nodes view.recipes view.facts.recipes (parts_of_items text_of inner view items ++ rest)
       here (InRows rows) is row rest = row_shown text_of inner view rows items is row rest
       here Outside is row rest = absurd (cc)
       here Failing is row rest = absurd row

@@ -1,12 +1,13 @@
 -- The elements of articles and causes nest.
-use Rattle.std.proofs.Common.{ℕ, zero, suc, Bool, true, false, List, [], ◌∷◌, Option, None, Some, refl}
+use Rattle.std.proofs.Common.{ℕ, zero, suc, Bool, true, false, List, [], ◌∷◌, ◌++◌, Option, None, Some, refl, sym, subst}
 use Rattle.std.specs.Prelude.{◌==◌, length, slice_get, if◌then◌else◌}
 use Rattle.redo_facts.specs.Facts.{RecipeFacts}
 use Rattle.redo_logs.specs.Logs.{Log}
 use Rattle.redo_html.specs.declared.style.Style.{Style}
 use Rattle.redo_html.specs.Lines.{style_after}
 use Rattle.redo_html.specs.Parts.{Part}
-use Rattle.redo_html.specs.Parts.Part.{LogPart, TextPart}
+use Rattle.redo_html.specs.declared.markup.Markup.TheVariants as markup
+use Rattle.redo_html.specs.Parts.Part.{LogPart, MarkupPart, TextPart}
 use Rattle.redo_html.specs.Style.{plain_style}
 use Rattle.redo_line.specs.Lines.{with_line_feed}
 use Rattle.redo_outline.specs.declared.node.Node.{Node}
@@ -15,9 +16,10 @@ use Rattle.redo_page.specs.Errors.{cause_of, is_error}
 use Rattle.redo_page.specs.Excerpt.{Stretch, cut_to, emphasized_if, error_position, excerpt_line_end, excerpt_line_parts, excerpt_parts, in_tree_parts, is_kept, left_out_parts, max_excerpt_line, stretch_parts, stretches_from}
 use Rattle.redo_page.specs.Excerpt.Stretch.{Shown, LeftOut}
 use Rattle.redo_units.specs.Durations.{duration_words}
-use Rattle.redo_page.specs.Article.{article_of, article_parts, article_took, cause_of_node, cause_parts, line_of_node, max_path, nothing_parts, output_line_parts, output_parts, path_parts, printed_by, whole_parts}
+use Rattle.redo_page.specs.Article.{article_parts, article_took, cause_of_node, cause_parts, line_of_node, max_path, nothing_parts, output_line_parts, output_parts, path_parts, printed_by, whole_parts}
 use Rattle.redo_page.specs.Recipe.{recipe_at}
 use Rattle.redo_page.specs.Tree.{is_short, node_at}
+use Rattle.redo_page.proofs.ElementParts.{article_inside, article_is}
 use Rattle.redo_page.proofs.Nesting.{Nest, nest_each, then_lead, joined}
 use Rattle.redo_page.proofs.RecipeLemmas.{recipe_nests}
 use Rattle.redo_page.proofs.TargetNesting.{badge_nests, words_nest}
@@ -101,10 +103,13 @@ module _ (logs : List Log) (nodes : List Node) where
   path_nests (suc levels) (Some position) =
       then_lead (path_nests levels (node_at nodes position).parent) (record { leads = λ around tags. refl })
 
+in_article : (position : ℕ) {inside : List Part} → Nest inside
+    → Nest (MarkupPart (markup.Article position) ∷ (inside ++ MarkupPart markup.EndArticle ∷ []))
+in_article position nest = record { leads = λ around tags. simp (joined, nest.leads) }
+
 module _ (logs : List Log) (nodes : List Node) (recipes : List RecipeFacts) where
-  pub article_nests : (position : ℕ) → Nest (article_parts logs nodes recipes position)
-  unfolding article_parts article_of
-  article_nests position =
+  pub article_inside_nests : (position : ℕ) → Nest (article_inside logs nodes recipes position)
+  article_inside_nests position =
       let node = node_at nodes position in
       record {
         leads = λ around tags. simp (
@@ -117,3 +122,6 @@ module _ (logs : List Log) (nodes : List Node) (recipes : List RecipeFacts) wher
           (output_nests logs position node).leads,
         );
       }
+
+  pub article_nests : (position : ℕ) → Nest (article_parts logs nodes recipes position)
+  article_nests position = subst Nest (sym (article_is logs nodes recipes position)) (in_article position (article_inside_nests position))

@@ -4,6 +4,7 @@ mod CauseLemmas
 mod CauseRows
 mod CommandLemmas
 mod ElementLemmas
+mod ElementParts
 mod ErrorLemmas
 mod ErrorRows
 mod ExcerptLemmas
@@ -18,6 +19,7 @@ mod FormLemmas
 mod FoundLemmas
 mod FrameRows
 mod Ids
+mod InsideLemmas
 mod ItemLemmas
 mod JoinLemmas
 mod KeptLines
@@ -33,6 +35,7 @@ mod NewsRows
 mod OpeningLemmas
 mod OtherTags
 mod OwnLinks
+mod PageElements
 mod PageIds
 mod PageLemmas
 mod PageLines

@@ -4,6 +4,7 @@ use Rattle.std.specs.List.{flat_map, list_all}
 use Rattle.std.proofs.lemmas.Bool.{and_parts}
 use Rattle.std.proofs.lemmas.List.{append_assoc}
 use Rattle.std.proofs.lemmas.List.Folds.{list_all-append}
+use Rattle.redo_facts.specs.Facts.{RecipeFacts}
 use Rattle.redo_html.specs.declared.markup.Markup.{Markup}
 use Rattle.redo_html.specs.declared.markup.Markup.TheVariants as markup
 use Rattle.redo_html.specs.Parts.{Part}
@@ -11,8 +12,9 @@ use Rattle.redo_html.specs.Parts.Part.{MarkupPart, TextPart}
 use Rattle.redo_logs.specs.Logs.{Log}
 use Rattle.redo_outline.specs.declared.node.Node.{Node}
 use Rattle.redo_page.specs.declared.labels.TheConstants.{IN_ITS_LOG, PLACE_IN_TREE, SHOWN_ABOVE}
-use Rattle.redo_page.specs.Laws.{KnownRecipes, TellsItsTarget, target_name}
+use Rattle.redo_page.specs.Laws.{TellsItsTarget, target_name}
 use Rattle.redo_page.specs.Targets.{linked_parts, name_parts, parts_if}
+use Rattle.redo_timeline.specs.declared.span.Span.{Span}
 use Rattle.redo_page.proofs.Ids.{Bare, reference, references}
 
 -- Whether a part is no link to a target or to an article, has no id of one, and begins no list and no row of targets.
@@ -42,9 +44,14 @@ pub from_here : (Holds : List Part → Type 0) (before : List Part) (part : Part
 from_here Holds [] part after all = all.0
 from_here Holds (other ∷ before) part after all = from_here Holds before part after all.1
 
+-- What is known of recipes: their facts, by the numbers of their logs, and the spans of those that ran no others.
+pub record KnownRecipes : Type 0 where
+  pub facts : List RecipeFacts
+  pub spans : List Span
+
 module _ (recipes : KnownRecipes) (logs : List Log) (nodes : List Node) where
   abbrev pub TellHere : List Part → Type 0
-  TellHere (MarkupPart tag ∷ after) = TellsItsTarget logs nodes recipes tag after
+  TellHere (MarkupPart tag ∷ after) = TellsItsTarget logs nodes recipes.facts recipes.spans tag after
   TellHere parts = Unit {0}
 
   abbrev pub Tell : List Part → Type 0

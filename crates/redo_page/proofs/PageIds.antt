@@ -47,7 +47,7 @@ use Rattle.redo_trim.specs.Trim.{trim}
 use Rattle.redo_page.proofs.TreeIds.{nodes_counted, tree_refers}
 use Rattle.redo_page.proofs.TreeItems.{tree_is_streamed}
 use Rattle.redo_summary.specs.Laws.{AreOfNodes, AreRanksBelow}
-use Rattle.redo_page.specs.Timeline.{facts_drawing, has_timeline}
+use Rattle.redo_page.specs.Timeline.{facts_drawing, has_timeline, timeline_parts}
 use Rattle.redo_summary.specs.Summary.{Facts, is_timed, summary_of}
 use Rattle.redo_summary.specs.Usage.{usage_of}
 use Rattle.redo_timeline.specs.declared.span.Span.{Span}
@@ -104,6 +104,19 @@ heading_tag_part (MarkupPart markup) = by markup
     by markup = refl
 heading_tag_part part = refl
 
+-- A number for the tag of the tree's section.
+abbrev pub tree_tag : Part → List ℕ
+tree_tag (MarkupPart TreeSection) = 0 ∷ []
+tree_tag part = []
+
+tree_tag_part : (part : Part) → flat_map tree_tag (section part) ≡ tree_tag part
+tree_tag_part (MarkupPart markup) = by markup
+  where
+    by : (markup : Markup) → flat_map tree_tag (section (MarkupPart markup)) ≡ tree_tag (MarkupPart markup)
+    by FailedSection = refl
+    by markup = refl
+tree_tag_part part = refl
+
 -- The heading, and the links to sections: what failed, what is new, the summary, the timeline, and the tree.
 abbrev links : Bool → Bool → Bool → Bool → List Part
 links failed compared some timed =
@@ -112,13 +125,17 @@ links failed compared some timed =
     ++ (parts_if compared (MarkupPart NewLink ∷ [])
     ++ (MarkupPart SummaryLink ∷ (some_if some (parts_if timed (MarkupPart TimelineLink ∷ []) ++ []) ++ MarkupPart TreeLink ∷ []))))
 
--- The tags of sections of a page, and its charts, if targets failed, if there is a baseline, and if a window and most times are known.
+-- The tags of sections at the top of a page, if targets failed, if there is a baseline, and if a window and most times are known.
+abbrev top_sections : Bool → Bool → Bool → Bool → List Part
+top_sections failed compared some timed =
+    links failed compared some timed
+    ++ ((parts_if failed (MarkupPart FailedSection ∷ []) ++ [])
+    ++ ((parts_if compared (MarkupPart NewSection ∷ []) ++ []) ++ MarkupPart SummarySection ∷ MarkupPart DescriptionList ∷ []))
+
+-- The tags of all sections of such a page, and its charts.
 abbrev page_sections : Bool → Bool → Bool → Bool → List Part → List Part
 page_sections failed compared some timed timeline =
-    (links failed compared some timed
-    ++ ((parts_if failed (MarkupPart FailedSection ∷ []) ++ [])
-    ++ ((parts_if compared (MarkupPart NewSection ∷ []) ++ []) ++ MarkupPart SummarySection ∷ MarkupPart DescriptionList ∷ [])))
-    ++ ((timeline ++ MarkupPart TreeSection ∷ []) ++ [])
+    top_sections failed compared some timed ++ ((timeline ++ MarkupPart TreeSection ∷ []) ++ [])
 
 chart_part : (part : Part) → flat_map part_chart (section part) ≡ part_chart part
 chart_part (MarkupPart markup) = by (is_section markup)
@@ -169,6 +186,28 @@ module _ (view : View) where
     where
       by : (failed compared timed : Bool) (window : Option Window)
           → section_links (sections_of failed compared timed window) ≡ section_ids (sections_of failed compared timed window)
+      by true true true None = refl
+      by true true true (Some window) = refl
+      by true true false None = refl
+      by true true false (Some window) = refl
+      by true false true None = refl
+      by true false true (Some window) = refl
+      by true false false None = refl
+      by true false false (Some window) = refl
+      by false true true None = refl
+      by false true true (Some window) = refl
+      by false true false None = refl
+      by false true false (Some window) = refl
+      by false false true None = refl
+      by false false true (Some window) = refl
+      by false false false None = refl
+      by false false false (Some window) = refl
+
+  -- One of them is the section of the tree.
+  trees_found : flat_map tree_tag view_sections ≡ 0 ∷ []
+  trees_found = by (nat_lt 0 (length (root_failures view.nodes))) view.news.is_compared (is_timed view.facts) view.facts.window
+    where
+      by : (failed compared timed : Bool) (window : Option Window) → flat_map tree_tag (sections_of failed compared timed window) ≡ 0 ∷ []
       by true true true None = refl
       by true true true (Some window) = refl
       by true true false None = refl
@@ -284,32 +323,52 @@ module _ (have : HavePositions) (memory : HavePositionsOfMemory) (lead : BarsLea
       by : (some : Bool) → some ≡ true → some_if some (take max_articles (position ∷ roots) ++ []) ≡ take max_articles (position ∷ roots)
       by some is = rw is (append-nil (take max_articles (position ∷ roots)))
 
+  rows_are : AreRows (length nodes) (articles nodes) view
+  rows_are = (rows_below (have nodes request.times), lists_below, articles_below nodes)
+
+  top_refers : Refers (length nodes) (articles nodes) (top_parts view) [] ((ids_of (root_failures nodes) ++ []) ++ [])
+      (top_sections (nat_lt 0 (length (root_failures nodes))) view.news.is_compared (is_some facts.window) (is_timed facts))
+  unfolding top_parts failed_parts news_parts summary_parts
+  top_refers =
+      let refers = λ (template : Template) (is : template_only Outside template ≡ true).
+      template_refers (length nodes) (articles nodes) Outside template is view tt rows_are in
+      let failures = template_refers (length nodes) (articles nodes) Failing FAILURES refl view tt rows_are in
+      let news = template_refers (length nodes) (articles nodes) Failing NEWS refl view tt rows_are in
+      then_refer (refers HEAD refl) (then_refer (refers HEADER refl) (then_refer failures (then_refer news (refers SECTION refl))))
+
+  times_refer : Refers (length nodes) (articles nodes) (timeline_parts view) [] []
+      (timeline_found view (is_timed facts) facts.window)
+  times_refer =
+      let positions = have nodes request.times in
+      timeline_refers lead (length nodes) (articles nodes) view rows_are positions.callers positions.recipes positions.marks
+
+  footer_refers : Refers (length nodes) (articles nodes) (footer_parts view) [] [] []
+  unfolding footer_parts
+  footer_refers = template_refers (length nodes) (articles nodes) Outside FOOTER refl view tt rows_are
+
   page_refers : Refers (length nodes) (articles nodes) parts (numbers_from 0 (log_count shown) ++ [])
       (((ids_of (root_failures nodes) ++ []) ++ []) ++ []) (view_sections view)
-  unfolding page_parts top_parts failed_parts news_parts footer_parts summary_parts
+  unfolding page_parts
   page_refers =
-      let positions = have nodes request.times in
-      let rows : AreRows (length nodes) (articles nodes) view =
-      (rows_below positions, lists_below, articles_below nodes) in
-      let refers = λ (template : Template) (is : template_only Outside template ≡ true).
-      template_refers (length nodes) (articles nodes) Outside template is view tt rows in
-      let failures = template_refers (length nodes) (articles nodes) Failing FAILURES refl view tt rows in
-      let news = template_refers (length nodes) (articles nodes) Failing NEWS refl view tt rows in
-      let timeline = timeline_refers lead (length nodes) (articles nodes) view rows positions.callers positions.recipes positions.marks in
       let tree = subst (λ (tree : List Part). Refers (length nodes) (articles nodes) tree (numbers_from 0 (log_count shown)) []
       (MarkupPart TreeSection ∷ [])) (sym (tree_is_streamed request logs requested)) (tree_refers logs (options_of request) nodes shown) in
-      then_refer (then_refer (refers HEAD refl)
-      (then_refer (refers HEADER refl) (then_refer failures (then_refer news (refers SECTION refl)))))
-      (then_refer (then_refer timeline tree) (refers FOOTER refl))
+      then_refer top_refers (then_refer (then_refer times_refer tree) footer_refers)
+
+  -- Only the tree has ids of logs.
+  pub before_tree : target_ids (top_parts view ++ timeline_parts view) ≡ []
+  before_tree = (then_refer top_refers times_refer).target_ids_are
+
+  pub after_tree : target_ids (footer_parts view) ≡ []
+  after_tree = footer_refers.target_ids_are
+
+  pub one_tree : flat_map tree_tag parts ≡ 0 ∷ []
+  one_tree = in_sections tree_tag tree_tag_part parts ∙ ap (flat_map tree_tag) page_refers.sections_are ∙ trees_found view
 
   -- The section of what is new is the only one that its parts begin.
   pub new_section : view.news.is_compared ≡ true → section_ids (news_parts view) ≡ codes "new" ∷ []
   unfolding news_parts
   new_section compared =
-      let positions = have nodes request.times in
-      let rows : AreRows (length nodes) (articles nodes) view =
-      (rows_below positions, lists_below, articles_below nodes) in
-      let news = template_refers (length nodes) (articles nodes) Failing NEWS refl view tt rows in
+      let news = template_refers (length nodes) (articles nodes) Failing NEWS refl view tt rows_are in
       in_sections section_id section_id_part (template_parts NEWS view) ∙ ap section_ids news.sections_are
       ∙ ap (λ (is : Bool). section_ids (parts_if is (MarkupPart NewSection ∷ []) ++ [])) compared
 

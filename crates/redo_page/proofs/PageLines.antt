@@ -1,5 +1,5 @@
 -- The text lines of a page, and of the logs that are opened.
-use Rattle.std.proofs.Common.{◌≡◌, ℕ, zero, suc, ◌+◌, ◌-◌, ◌<◌, ◌≤◌, ◌⊎◌, inl, inr, Bool, true, false, ℤ, List, [], ◌∷◌, ◌++◌, Option, None, Some, cond, get_or, length, refl, sym, ◌∙◌, ap, subst, arith}
+use Rattle.std.proofs.Common.{◌≡◌, ℕ, zero, suc, ◌+◌, ◌-◌, ◌<◌, ◌≤◌, ◌⊎◌, inl, inr, Bool, true, false, ℤ, List, [], ◌∷◌, ◌++◌, Option, None, Some, cond, get_or, length, map, refl, sym, ◌∙◌, ap, subst, arith}
 use Rattle.std.specs.Prelude.{◌==◌, nat_eq, nat_lt, option_and_then, if◌then◌else◌}
 use Rattle.std.specs.Cmp.Lexicographic.{pointwise, same_text}
 use Rattle.std.specs.List.{flat_map, list_all}
@@ -23,7 +23,7 @@ use Rattle.redo_outline.specs.Facts.{entries_at, text_of}
 use Rattle.redo_outline.specs.Facts as facts
 use Rattle.redo_outline.specs.Laws.{events_of}
 use Rattle.redo_outline.specs.Outline.{log_count, nodes_of}
-use Rattle.redo_page.specs.Laws.{PositionedLine, event_lines, is_among, lines_at, positioned_at, positioned_lines, texts_of}
+use Rattle.redo_page.specs.Laws.{PositionedLine, event_lines, is_among, lines_at, positioned_lines, texts_of}
 use Rattle.redo_page.specs.Tree.{is_same_position, no_node}
 use Rattle.redo_page.proofs.TreeIds.{nodes_counted}
 
@@ -31,6 +31,10 @@ use Rattle.redo_page.proofs.TreeIds.{nodes_counted}
 
 texts-append : (lines others : List PositionedLine) → texts_of (lines ++ others) ≡ texts_of lines ++ texts_of others
 texts-append lines others = map-append (λ (positioned : PositionedLine). positioned.line) lines others
+
+-- The text lines of an event, with the position of the log around it.
+abbrev pub positioned_at : Option ℕ → Event → List PositionedLine
+positioned_at position event = map (λ (line : List ℕ). record { position = position; line = line }) (event_lines event)
 
 positioned_texts : (around : Option ℕ) (event : Event) → texts_of (positioned_at around event) ≡ event_lines event
 positioned_texts around (Requested name opening) = refl

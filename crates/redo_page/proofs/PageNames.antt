@@ -17,7 +17,7 @@ use Rattle.redo_outline.specs.Facts.{target_status}
 use Rattle.redo_outline.specs.Outline.{log_count, nodes_of, outline_of, times_at, with_times}
 use Rattle.redo_page.specs.declared.frame.TheConstants.{FOOTER, HEAD, HEADER}
 use Rattle.redo_page.specs.declared.summary.TheConstants.{SECTION}
-use Rattle.redo_page.specs.Laws.{IsOfTarget, KnownRecipes, TellsItsTarget, page_recipes}
+use Rattle.redo_page.specs.Laws.{IsOfTarget, TellsItsTarget}
 use Rattle.redo_page.specs.Limits.{tree_limits}
 use Rattle.redo_page.specs.Page.{Request, options_of, page_contents, page_events, page_facts, page_news, page_outline, page_parts, page_usage, page_view, run_times, top_parts}
 use Rattle.redo_page.specs.Scope.{View, max_rows}
@@ -26,7 +26,7 @@ use Rattle.redo_page.specs.Tree.{node_at}
 use Rattle.redo_page.specs.declared.scope.Rows.TheVariants.{Longest, LongestAlone, MostMemory, Warned}
 use Rattle.redo_page.specs.declared.scope.Rows.TheVariants as rows
 use Rattle.redo_page.proofs.FailedNames.{HasValues, IsValueOf, failed_tells, known_in, news_tell, template_tells, timeline_tells}
-use Rattle.redo_page.proofs.NameLemmas.{Tell, TellHere, Tells, from_here, then_tell}
+use Rattle.redo_page.proofs.NameLemmas.{KnownRecipes, Tell, TellHere, Tells, from_here, then_tell}
 use Rattle.redo_page.proofs.OpeningLemmas.{AreNamed, ArePlaced, contents_named, nodes_placed, same_placed, target_named, timed_node, trim_named, trim_placed}
 use Rattle.redo_page.proofs.TreeItems.{tree_is_streamed}
 use Rattle.redo_page.proofs.TreeNames.{event_name, tree_tells}
@@ -116,7 +116,7 @@ module _ (request : Request) (logs : List Log) (requested : List (List ℕ)) whe
   nodes = page_outline request logs requested
 
   abbrev recipes : KnownRecipes
-  recipes = page_recipes request logs requested
+  recipes = record { facts = request.recipes; spans = (page_facts request logs requested).recipes }
 
   abbrev events : List Event
   events = page_events request logs requested
@@ -202,7 +202,8 @@ module _ (request : Request) (logs : List Log) (requested : List (List ℕ)) whe
       ((page_tells ranks).before [] tt)
 
   pub page_names : RanksHaveValues → (before : List Part) (tag : Markup) (after : List Part)
-      → before ++ (MarkupPart tag ∷ after) ≡ page_parts request logs requested → TellsItsTarget logs nodes recipes tag after
+      → before ++ (MarkupPart tag ∷ after) ≡ page_parts request logs requested
+      → TellsItsTarget logs nodes recipes.facts recipes.spans tag after
   page_names ranks before tag after is =
       from_here (TellHere recipes logs nodes) before (MarkupPart tag) after
       (subst (Tell recipes logs nodes) (sym is) (all_tell ranks))

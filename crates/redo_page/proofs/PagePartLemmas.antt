@@ -18,15 +18,15 @@ use Rattle.redo_page.specs.declared.scope.Test.TheVariants.{HasAny, HasFailed, H
 use Rattle.redo_page.specs.Article.{article_parts, cause_of_node}
 use Rattle.redo_page.specs.Failed.{failed_parts}
 use Rattle.redo_page.specs.Frame.{footer_parts, head_parts, header_parts}
-use Rattle.redo_page.specs.Laws.{IsPartOf, ListsFailures, is_among, list_item, page_article, page_tree, target_list}
+use Rattle.redo_page.specs.Laws.{IsPartOf, ListsFailures, is_among, list_item, target_list}
 use Rattle.redo_page.specs.Timeline.{timeline_parts}
-use Rattle.redo_page.specs.Page.{Request, page_outline, page_parts, page_view, top_parts}
+use Rattle.redo_page.specs.Page.{Request, options_of, page_contents, page_outline, page_parts, page_view, top_parts}
 use Rattle.redo_page.specs.Scope.{View, count_of, holds, max_rows, positions_of}
 use Rattle.redo_page.specs.NewSection.{news_parts}
 use Rattle.redo_page.specs.Summary.{summary_parts}
 use Rattle.redo_page.specs.Targets.{parts_if}
 use Rattle.redo_page.specs.Template.{Block, block_parts, nothing, parts_of_items}
-use Rattle.redo_page.specs.Tree.{articles, max_articles, root_failures}
+use Rattle.redo_page.specs.Tree.{articles, max_articles, root_failures, tree_parts}
 
 whole_part : (parts : List Part) → IsPartOf parts parts
 whole_part parts = record { before = []; after = []; splits = append-nil parts }
@@ -176,18 +176,24 @@ module _ (request : Request) (logs : List Log) (requested : List (List ℕ)) whe
   abbrev view : View
   view = page_view request logs requested
 
-  pub page_has_tree : IsPartOf (page_tree request logs requested) (page_parts request logs requested)
+  abbrev pub page_tree : List Part
+  page_tree = tree_parts logs (options_of request) (page_outline request logs requested) (page_contents request logs requested)
+
+  abbrev pub page_article : ℕ → List Part
+  page_article position = article_parts logs (page_outline request logs requested) request.recipes position
+
+  pub page_has_tree : IsPartOf page_tree (page_parts request logs requested)
   unfolding page_parts
   page_has_tree =
       part_later (top_parts view)
-      (part_earlier (footer_parts view) (part_later (timeline_parts view) (whole_part (page_tree request logs requested))))
+      (part_earlier (footer_parts view) (part_later (timeline_parts view) (whole_part page_tree)))
 
   pub top_in_page : {inner : List Part} → IsPartOf inner (top_parts view) → IsPartOf inner (page_parts request logs requested)
   unfolding page_parts
-  top_in_page part = part_earlier ((timeline_parts view ++ page_tree request logs requested) ++ footer_parts view) part
+  top_in_page part = part_earlier ((timeline_parts view ++ page_tree) ++ footer_parts view) part
 
   pub page_has_article : (position : ℕ) → is_among (articles (page_outline request logs requested)) position ≡ true
-      → IsPartOf (page_article request logs requested position) (page_parts request logs requested)
+      → IsPartOf (page_article position) (page_parts request logs requested)
   page_has_article position among = top_in_page (top_has_article view position among)
 
   pub page_lists_failures : 0 < length (root_failures (page_outline request logs requested))

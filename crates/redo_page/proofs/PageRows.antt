@@ -2,7 +2,7 @@
 use Rattle.std.proofs.Common.{Bor, ◌≡◌, ℕ, Bool, true, false, List, [], ◌∷◌, ◌++◌, map, Option, None, Some, pos, length, replicate, refl, sym, ◌∙◌, ap, inl, inr, ◌⊎◌}
 use Rattle.std.specs.Fmt.{digits}
 use Rattle.std.specs.List.{filter, flat_map, starts_with}
-use Rattle.std.specs.Prelude.{bytes_eq, codes, nat_eq, sum_by, take, if◌then◌else◌}
+use Rattle.std.specs.Prelude.{◌==◌, bytes_eq, codes, nat_eq, sum_by, take, if◌then◌else◌}
 use Rattle.std.proofs.lemmas.List.{append_assoc}
 use Rattle.redo_compare.specs.Baseline.{BaselineValue}
 use Rattle.redo_facts.specs.Facts.{RecipeFacts}
@@ -18,6 +18,8 @@ use Rattle.redo_outline.specs.Contents.Contents.{Nothing, Shown, Opened}
 use Rattle.redo_outline.specs.declared.node.Node.{Node}
 use Rattle.redo_outline.specs.declared.node.RunTimes.{RunTimes}
 use Rattle.redo_view.specs.Expansion.{show_log, show_log_within}
+use Rattle.redo_html.specs.Html.{is_one_of}
+use Rattle.redo_html.specs.Laws.{markup_tag}
 use Rattle.redo_html.specs.Passage.{passage_html}
 use Rattle.redo_html.specs.Shown.{is_unprintable, number_text, unprintable_text, notation}
 use Rattle.redo_html.specs.Style.{plain_style}
@@ -35,7 +37,7 @@ use Rattle.redo_page.specs.Command.{is_safe}
 use Rattle.redo_page.specs.Frame.{footer_parts}
 use Rattle.redo_page.specs.Recipe.{commands_parts, recipe_parts}
 use Rattle.redo_page.specs.Summary.{summary_parts}
-use Rattle.redo_page.specs.Laws.{article_ids, article_links, log_bytes, positioned_lines, BeginWith, IsList, line_item, line_list, list_item}
+use Rattle.redo_page.specs.Laws.{HasSameShape, article_ids, article_links, log_bytes, positioned_lines, BeginWith, IsList, line_item, line_list, list_item}
 use Rattle.redo_summary.specs.Summary.{is_timed}
 use Rattle.redo_summary.specs.declared.rank.Rank.{Rank}
 use Rattle.redo_page.specs.NewSection.{news_parts}
@@ -92,6 +94,47 @@ before_first is (part ∷ parts) = if is part then [] else part ∷ before_first
 abbrev after_first : (Part → Bool) → List Part → List Part
 after_first is [] = []
 after_first is (part ∷ parts) = if is part then parts else after_first is parts
+
+abbrev begins_tree : Part → Bool
+begins_tree (MarkupPart markup.TreeSection) = true
+begins_tree part = false
+
+abbrev begins_article : ℕ → Part → Bool
+begins_article position (MarkupPart (markup.Article number)) = number == position
+begins_article position part = false
+
+abbrev begins_log : ℕ → Part → Bool
+begins_log position (MarkupPart (markup.Details number)) = number == position
+begins_log position (MarkupPart (markup.OpenDetails number)) = number == position
+begins_log position part = false
+
+abbrev is_tag : List ℕ → Part → Bool
+is_tag tag part = is_one_of tag (markup_tag part)
+
+-- What the first element of a kind contains, and what follows it.
+abbrev inside_first : (Part → Bool) → List ℕ → List Part → List Part
+inside_first begins end parts = before_first (is_tag end) (after_first begins parts)
+
+abbrev rest_after : (Part → Bool) → List ℕ → List Part → List Part
+rest_after begins end parts = after_first (is_tag end) (after_first begins parts)
+
+abbrev in_tree : List Part → List Part
+in_tree parts = inside_first begins_tree (codes "/section") parts
+
+abbrev after_tree : List Part → List Part
+after_tree parts = rest_after begins_tree (codes "/section") parts
+
+abbrev in_article : ℕ → List Part → List Part
+in_article position parts = inside_first (begins_article position) (codes "/article") parts
+
+abbrev after_article : ℕ → List Part → List Part
+after_article position parts = rest_after (begins_article position) (codes "/article") parts
+
+abbrev in_log : ℕ → List Part → List Part
+in_log position parts = inside_first (begins_log position) (codes "/details") parts
+
+abbrev after_log : ℕ → List Part → List Part
+after_log position parts = rest_after (begins_log position) (codes "/details") parts
 
 abbrev log : List ℕ → List Entry → Log
 log target entries = record { target = target; entries = entries; state = Ended }
@@ -315,6 +358,16 @@ crowd_facts_are :
     × (is_timed (page_facts crowded crowd (codes "a" ∷ [])) ≡ true)
 unfolding show_log show_log_within
 crowd_facts_are = (refl, refl, refl)
+
+-- Two pages have one shape if the bytes of a line differ.
+abbrev one_line : List ℕ → List Log
+one_line line = log (codes "a") (Text line ∷ []) ∷ []
+
+same_shape :
+    HasSameShape (request [] false false) (one_line (codes "x")) (codes "a" ∷ []) (λ target. target) (request [] false false)
+    (one_line (codes "y")) (codes "a" ∷ [])
+unfolding show_log show_log_within
+same_shape = record { options = refl; numbers = λ target. refl; outline = refl; contents = refl }
 
 abbrev used : ℕ → ℕ → ℕ → RecipeFacts
 used user system peak = record known { usage = Some (record { user_ms = user; system_ms = system; peak_kb = peak }) }

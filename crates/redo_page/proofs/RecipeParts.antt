@@ -11,12 +11,13 @@ use Rattle.redo_html.specs.Parts.Part.{MarkupPart, TextPart}
 use Rattle.redo_logs.specs.Logs.{Log}
 use Rattle.redo_outline.specs.declared.node.Node.{Node}
 use Rattle.redo_page.specs.declared.labels.TheConstants.{DIRECTORY, PLACE_IN_TREE}
-use Rattle.redo_page.specs.Article.{article_of, article_parts, article_took, max_path, name_of, output_parts, path_parts}
+use Rattle.redo_page.specs.Article.{article_took, max_path, name_of, output_parts, path_parts}
 use Rattle.redo_page.specs.Excerpt.{cut_to, in_tree_parts, max_excerpt_line}
 use Rattle.redo_page.specs.Laws.{IsPartOf, ShowsRecipe}
 use Rattle.redo_page.specs.Recipe.{beginning_parts, collapsed_parts, command_block, command_parts, commands_parts, directory_parts, earlier_parts, max_command, recipe_at, recipe_parts, rest_parts, text_block}
 use Rattle.redo_page.specs.Targets.{badge_parts, name_parts}
 use Rattle.redo_page.specs.Tree.{node_at}
+use Rattle.redo_page.proofs.ElementParts.{article_inside}
 use Rattle.redo_page.proofs.PagePartLemmas.{part_earlier, part_later}
 
 whole_text : (text : List ℕ) → length text ≤ max_command → cut_to max_command text ≡ text
@@ -96,18 +97,16 @@ shown_in {recipe} {parts} {whole} in_whole shows = record {
 
 -- An article shows the recipe of its target.
 pub article_shows_recipe : (logs : List Log) (nodes : List Node) (recipes : List RecipeFacts) (position : ℕ)
-    → ShowsRecipe (recipe_at recipes (node_at nodes position).number) (article_parts logs nodes recipes position)
-unfolding article_parts article_of
+    → ShowsRecipe (recipe_at recipes (node_at nodes position).number) (article_inside logs nodes recipes position)
 article_shows_recipe logs nodes recipes position =
     let node = node_at nodes position in
-    let output = output_parts logs position node ++ MarkupPart markup.EndArticle ∷ [] in
     shown_in
-    (λ inner part. part_later (MarkupPart (markup.Article position) ∷ MarkupPart markup.Title3 ∷ [])
+    (λ inner part. part_later (MarkupPart markup.Title3 ∷ [])
     (part_later (name_parts (name_of logs node))
     (part_later (badge_parts node.status)
     (part_later (MarkupPart markup.EndTitle3 ∷ MarkupPart markup.MetaParagraph ∷ [])
     (part_later (article_took node.took)
     (part_later (path_parts logs nodes (max_path logs nodes) node.parent)
     (part_later (in_tree_parts position PLACE_IN_TREE.now)
-    (part_later (MarkupPart markup.EndParagraph ∷ []) (part_earlier output part)))))))))
+    (part_later (MarkupPart markup.EndParagraph ∷ []) (part_earlier (output_parts logs position node) part)))))))))
     (recipe_is_shown (recipe_at recipes node.number))

@@ -20,9 +20,9 @@ use Rattle.redo_page.specs.declared.block.Pending.TheVariants as pending
 use Rattle.redo_page.specs.declared.level.Level.{Level}
 use Rattle.redo_page.specs.Limits.{tree_limits}
 use Rattle.redo_page.specs.Page.{Request, options_of, page_build, page_contents, page_events, page_outline, run_times}
-use Rattle.redo_page.specs.Tree.{Build, is_in_level, items_of, level_of, node_at, position_of_name, section_end, section_start, top_level, tree_parts}
+use Rattle.redo_page.specs.Tree.{Build, is_in_level, items_of, items_parts, level_of, node_at, position_of_name, section_end, section_start, top_level, tree_parts}
 use Rattle.redo_page.specs.Tree.Items.{Seen}
-use Rattle.redo_page.specs.Private.Streaming.{streamed_tree}
+use Rattle.redo_page.specs.Private.Streaming.{contents_parts, streamed_tree}
 use Rattle.redo_page.proofs.ItemLemmas.{CountRows, CountsRow, contents_then, row_is, row_size}
 use Rattle.redo_page.proofs.OpeningLemmas.{at_length, trim_count}
 use Rattle.redo_page.proofs.TreeIds.{nodes_counted}
@@ -170,9 +170,13 @@ module _ (request : Request) (logs : List Log) (requested : List (List ℕ)) whe
       (same_count logs status own nodes (timed_silent (map run_times request.times) own) 0 (contents_of events)
       (nodes_count logs status None 0 (contents_of events) [] [] own refl (append-nil own)))
 
+  pub items_are_streamed : items_parts (page_build request logs requested) top_level
+      (items_of (page_build request logs requested) top_level 0 (page_contents request logs requested))
+      ≡ contents_parts (page_build request logs requested) top_level 0 pending.Nothing (page_contents request logs requested)
+  items_are_streamed =
+      sym (contents_then (page_build request logs requested) top_level 0 pending.Nothing (page_contents request logs requested)
+      page_rows tt)
+
   pub tree_is_streamed : tree_parts logs (options_of request) nodes (page_contents request logs requested)
       ≡ streamed_tree logs (options_of request) nodes (page_contents request logs requested)
-  tree_is_streamed =
-      ap (λ (ps : List Part). section_start ++ (ps ++ section_end))
-      (sym (contents_then (page_build request logs requested) top_level 0 pending.Nothing
-      (page_contents request logs requested) page_rows tt))
+  tree_is_streamed = ap (λ (ps : List Part). section_start ++ (ps ++ section_end)) items_are_streamed

@@ -25,12 +25,12 @@ use Rattle.redo_page.specs.declared.labels.TheConstants.{NEEDS, SHOWN_ABOVE}
 use Rattle.redo_page.specs.declared.block.Pending.{Pending}
 use Rattle.redo_page.specs.declared.block.Pending.TheVariants as pending
 use Rattle.redo_page.specs.declared.level.Level.{Level}
-use Rattle.redo_page.specs.Laws.{KnownRecipes, BeginWith, IsLogHeading, target_name}
+use Rattle.redo_page.specs.Laws.{BeginWith, IsLogHeading, target_name}
 use Rattle.redo_page.specs.Targets.{exit_parts, facts_parts, how_parts, name_parts}
 use Rattle.redo_page.specs.Tree.{Build, articles, depth_parts, done_parts, empty_start, flat_start, heading_parts, is_empty, is_expanded, is_moved, is_moved_if, is_seen, no_node, level_of, max_depth, mention_parts, moved_parts, nested_start, node_at, note_parts, opening_parts, opening_position, position_of, position_of_name, request_parts, section_end, section_start, top_level}
 use Rattle.redo_page.specs.Private.Streaming.{after_log, after_shown, contents_parts, end_parts, group_left, group_start, item_parts, line_parts, line_size, line_start, log_end, log_start, shown_parts, streamed_tree}
 use Rattle.redo_page.proofs.Ids.{Bare, how_bare}
-use Rattle.redo_page.proofs.NameLemmas.{IsNameAt, Tells, above_link_tells, bare_tell, calm_tell, linked_tells, none_tell, tell_if, then_tell}
+use Rattle.redo_page.proofs.NameLemmas.{IsNameAt, KnownRecipes, Tells, above_link_tells, bare_tell, calm_tell, linked_tells, none_tell, tell_if, then_tell}
 use Rattle.redo_page.proofs.OpeningLemmas.{AreNamed, ArePlaced, IsOpeningOf, NamesItsLog, target_named}
 use Rattle.redo_page.proofs.TreeIds.{end_bare, group_start_bare, heading_bare, line_start_bare, log_end_bare, note_bare}
 

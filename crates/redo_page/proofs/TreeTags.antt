@@ -1,5 +1,5 @@
 -- The tags of the tree stay the same if names and text lines are blanked.
-use Rattle.std.proofs.Common.{◌≡◌, ℤ, ℕ, zero, suc, ◌+◌, Bool, true, false, List, [], ◌∷◌, ◌++◌, Option, None, Some, length, map, refl, sym, ◌∙◌, ap, arith}
+use Rattle.std.proofs.Common.{◌≡◌, ℤ, ℕ, zero, suc, ◌+◌, Bool, true, false, List, [], ◌∷◌, ◌++◌, Option, None, Some, drop, length, map, refl, sym, ◌∙◌, ap, arith}
 use Rattle.std.specs.Prelude.{◌&&◌, not, bytes_eq, codes, nat_le, option_and_then, if◌then◌else◌}
 use Rattle.std.specs.List.{flat_map}
 use Rattle.std.proofs.lemmas.Grind.{flat_map-append}
@@ -8,7 +8,7 @@ use Rattle.std.proofs.lemmas.List.Sums.{sum_by-cons}
 use Rattle.redo_line.specs.declared.entry.Entry.TheVariants.{Text, Mention, Done, Closing, Note}
 use Rattle.redo_line.specs.declared.entry.How.{How}
 use Rattle.redo_line.specs.Lines.{with_line_feed}
-use Rattle.redo_logs.specs.Logs.{Log}
+use Rattle.redo_logs.specs.Logs.{Log, log_number}
 use Rattle.redo_options.specs.declared.options.Options.{Options}
 use Rattle.redo_view.specs.declared.event.Opening.{Opening}
 use Rattle.redo_view.specs.Event.{Event}
@@ -26,11 +26,16 @@ use Rattle.redo_outline.specs.Contents.Contents.{Nothing, Shown, Opened}
 use Rattle.redo_outline.specs.Facts.{is_failure, text_size}
 use Rattle.redo_outline.specs.Outline.{log_count}
 use Rattle.redo_page.specs.declared.level.Level.{Level}
-use Rattle.redo_page.specs.Laws.{HaveSameLogs, blank_event, blank_line, blanked, markup_of, markups}
+use Rattle.redo_page.specs.Laws.{blank_event, blank_line, blanked, markup_of, markups}
 use Rattle.redo_page.specs.Targets.{exit_parts, how_parts, linked_parts}
 use Rattle.redo_page.specs.Blocks.{lines_block, blocks_from, blocks_of, fit_together, max_block_bytes, max_block_lines, text_item}
-use Rattle.redo_page.specs.Tree.{Build, Items, are_group, articles, closing_parts, depth_parts, done_parts, empty_start, event_before, flat_end, flat_start, group_start_of, heading_parts, is_empty, is_expanded, is_in_level, is_moved_if, is_seen_done, items_of, items_parts, leading_logs, level_of, line_before, log_before, log_parts, max_depth, mention_parts, moved_parts, nested_end, nested_start, node_at, note_parts, note_prefix, opening_parts, opening_position, position_of, position_of_name, section_end, section_start, seen_parts, silent_parts, top_level, tree_parts}
+use Rattle.redo_page.specs.Tree.{Build, Items, are_group, articles, closing_parts, depth_parts, done_parts, empty_start, event_before, flat_end, flat_start, group_start_of, heading_parts, is_empty, is_expanded, is_in_level, is_moved_if, is_seen_done, items_of, items_parts, leading_logs, level_of, line_before, log_before, log_parts, max_depth, mention_parts, moved_parts, nested_end, nested_start, node_at, note_parts, note_prefix, opening_parts, opening_position, position_of, position_of_name, section_start, seen_parts, silent_parts, top_level}
 use Rattle.redo_page.specs.Tree.Items.{NoItems, Lines, Seen, LogItem, SilentLogs}
+use Rattle.redo_page.proofs.ElementParts.{tree_inside}
+
+-- Whether renamed targets have the same logs among others.
+abbrev HaveSameLogs : (List ℕ → List ℕ) → List Log → List Log → Type 0
+HaveSameLogs rename logs others = (name : List ℕ) → log_number (rename name) others ≡ log_number name logs
 
 -- ---- tags
 
@@ -342,15 +347,16 @@ module _ (rename : List ℕ → List ℕ) (logs others : List Log) (options : Op
 
 pub tree_same : (logs others : List Log) (rename : List ℕ → List ℕ) → HaveSameLogs rename logs others
     → (options : Options) (nodes : List Node) (contents : Contents)
-    → markups (tree_parts others options nodes (blanked rename contents)) ≡ markups (tree_parts logs options nodes contents)
+    → markups (tree_inside others options nodes (blanked rename contents)) ≡ markups (tree_inside logs options nodes contents)
 tree_same logs others rename numbers options nodes contents =
     let build : Build = record { logs = logs; options = options; nodes = nodes; articles = articles nodes } in
     let renamed : Build = record { logs = others; options = options; nodes = nodes; articles = articles nodes } in
     let items = items_of build top_level 0 contents in
     let blank = items_of renamed top_level 0 (blanked rename contents) in
-    both_same section_start (items_parts renamed top_level blank ++ section_end) section_start
-    (items_parts build top_level items ++ section_end) refl
-    (both_same (items_parts renamed top_level blank) section_end (items_parts build top_level items) section_end
+    let last : List Part = MarkupPart markup.EndUnordered ∷ [] in
+    both_same (drop 1 section_start) (items_parts renamed top_level blank ++ last) (drop 1 section_start)
+    (items_parts build top_level items ++ last) refl
+    (both_same (items_parts renamed top_level blank) last (items_parts build top_level items) last
     (ap (λ (these : Items). markups (items_parts renamed top_level these))
     (contents_blanked rename logs others options nodes (articles nodes) numbers top_level 0 contents)
     ∙ sym (items_same rename logs others options nodes (articles nodes) numbers top_level items)) refl)

@@ -14,11 +14,11 @@ use Rattle.redo_view.specs.Event.{Event}
 use Rattle.redo_view.specs.LogLines.{text_lines}
 use Rattle.redo_view.specs.Event.Event.{Requested, Mentioned, EntryShown}
 use Rattle.redo_html.specs.declared.markup.Markup.{Markup}
-use Rattle.redo_html.specs.declared.markup.Markup.TheVariants.{BodyBad, BodyGood, BodyOpen, FailedSection, NewSection, EndSection, SummarySection, TimelineSection, TreeSection, FailedLink, NewLink, SummaryLink, TimelineLink, TreeLink, TargetLink, EndLink, OutputLink, Article, TargetItem, Details, OpenDetails, Summary, Title3, EndTitle3, MetaParagraph, Paragraph, QuietParagraph, EndParagraph, Ordered, OrderedFrom, EndOrdered, Item, EndItem, RowHeading, EndRowHeading, NumberCell, EndCell, Title1, EndTitle1, Sign, EndSign, DescriptionList, EndDescriptionList, Div, EndDiv, Term, EndTerm, Description, EndDescription, Code, EndCode, Pre, EndPre}
+use Rattle.redo_html.specs.declared.markup.Markup.TheVariants.{BodyBad, BodyGood, BodyOpen, FailedSection, NewSection, EndSection, SummarySection, TimelineSection, TreeSection, FailedLink, NewLink, SummaryLink, TimelineLink, TreeLink, TargetLink, EndLink, OutputLink, Article, EndArticle, TargetItem, Details, OpenDetails, EndDetails, Summary, Title3, EndTitle3, MetaParagraph, Paragraph, QuietParagraph, EndParagraph, Ordered, OrderedFrom, EndOrdered, Item, EndItem, RowHeading, EndRowHeading, NumberCell, EndCell, Title1, EndTitle1, Sign, EndSign, DescriptionList, EndDescriptionList, Div, EndDiv, Term, EndTerm, Description, EndDescription, Code, EndCode, Pre, EndPre}
 use Rattle.redo_html.specs.declared.chart.GroupKind.{GroupKind}
 use Rattle.redo_html.specs.Chart.{Drawing, drawing_links}
-use Rattle.redo_html.specs.Html.{Token, is_one_of, read}
-use Rattle.redo_html.specs.Laws.{IsChartTag, is_highlight}
+use Rattle.redo_html.specs.Html.{is_one_of, nests_in, read}
+use Rattle.redo_html.specs.Laws.{IsChartTag, is_highlight, markup_tag}
 use Rattle.redo_html.specs.Parts.{Part, part_tokens}
 use Rattle.redo_html.specs.Parts.Part.{MarkupPart, LogPart, TextPart, NumberPart, TitlePart, ChartPart}
 use Rattle.redo_html.specs.Shown.{number_text}
@@ -31,7 +31,7 @@ use Rattle.redo_outline.specs.Outline.{log_count}
 use Rattle.redo_page.specs.declared.labels.TheConstants.{AND_COUNT, AS_ONE_TEXT, AT_MOST, AT_ONCE, BUILD_TOOK, DEPENDENT, DIRECTORY, FAILED, FAILED_SIGN, FIXED, GONE, IN_ITS_LOG, LOGS, LOGS_IN, LOG_IN, MADE_SIGN, NEWLY_FAILING, NEW_LINES, NEW_SINCE, NOTHING_NEW, OF, PLACE_IN_TREE, PROCESSOR_TIME, SENTENCE_END, SHOWN_ABOVE, SUM_OF_TIMES, TARGETS, TARGETS_FAILED, TARGETS_MADE, TARGETS_UNFINISHED, TARGET_FAILED, TARGET_MADE, TARGET_UNFINISHED, TOOK, UNFINISHED_SIGN, WARNED_LINES}
 use Rattle.redo_page.specs.Command.{command}
 use Rattle.redo_page.specs.Errors.{cause_of}
-use Rattle.redo_page.specs.Article.{article_parts, article_took, cause_parts, max_path, path_parts, printed_by}
+use Rattle.redo_page.specs.Article.{article_took, cause_parts, max_path, path_parts, printed_by}
 use Rattle.redo_page.specs.Failed.{is_dependent_failure, is_unclosed, positions_where}
 use Rattle.redo_page.specs.NewSection.{new_in}
 use Rattle.redo_page.specs.News.{NewsValue, has_news}
@@ -48,7 +48,7 @@ use Rattle.redo_timeline.specs.Alone.{alone}
 use Rattle.redo_timeline.specs.declared.span.Span.{Span}
 use Rattle.redo_timeline.specs.declared.span.Window.{Window}
 use Rattle.redo_times.specs.declared.times.Times.{Times}
-use Rattle.redo_page.specs.Tree.{Build, articles, has_failed, is_moved_if, is_root_failure, is_same_position, max_articles, node_at, root_failures, tree_parts}
+use Rattle.redo_page.specs.Tree.{Build, articles, has_failed, is_moved_if, is_root_failure, is_same_position, max_articles, node_at, root_failures}
 use Rattle.redo_page.specs.Verdict.{is_unfinished, unfinished_count}
 use Rattle.redo_page.specs.Limits.{tree_limits}
 use Rattle.redo_page.specs.Targets.{badge_parts, facts_parts, how_parts, name_parts, parts_if, plural}
@@ -159,20 +159,20 @@ is_among numbers number = list_any (λ other. number == other) numbers
 
 -- ---- names, statuses and durations
 
--- Whether these parts are in others, next to each other.
-pub record IsPartOf (inner whole : List Part) : Type 0 where
-  pub before : List Part
-  pub after : List Part
+-- Whether a list is in another one, in one piece.
+pub record IsPartOf {X : Type 0} (inner whole : List X) : Type 0 where
+  pub before : List X
+  pub after : List X
   pub splits : before ++ (inner ++ after) ≡ whole
+
+-- Whether parts are what an element of others contains: they are between its tags, and each element that begins in them ends in them.
+abbrev pub IsInside : Markup → Markup → List Part → List Part → Type 0
+IsInside start end inside whole =
+    IsPartOf (MarkupPart start ∷ (inside ++ MarkupPart end ∷ [])) whole × (nests_in [] (flat_map markup_tag inside) ≡ true)
 
 -- Whether some parts begin with others.
 abbrev pub BeginWith : List Part → List Part → Type 0
 BeginWith beginning parts = (rest : List Part) × (beginning ++ rest ≡ parts)
-
--- What is known of recipes: their facts, by the numbers of their logs, and the spans of those that ran no others.
-pub record KnownRecipes : Type 0 where
-  pub facts : List RecipeFacts
-  pub spans : List Span
 
 module _ (logs : List Log) (nodes : List Node) where
   -- The name of the target whose log is at a position.
@@ -261,17 +261,18 @@ module _ (logs : List Log) (nodes : List Node) where
       ∷ (badge_parts (node_at nodes position).status
       ++ (MarkupPart EndRowHeading ∷ MarkupPart NumberCell ∷ (value ++ MarkupPart EndCell ∷ [])))))) after
 
-  module _ (recipes : KnownRecipes) where
+  -- `recipes` is what is known of recipes, by the numbers of their logs. `spans` are the spans of recipes that ran no others.
+  module _ (recipes : List RecipeFacts) (spans : List Span) where
     -- The value is how long the target took, how many warnings it has, how much memory its recipe had, or how long the recipe was the only
     -- one that ran.
     abbrev pub IsRow : List Part → Type 0
     IsRow after =
         ((position : ℕ) × (took : ℕ) × ((node_at nodes position).took ≡ Some took) × IsRowWith (words_parts (duration_words (cut took))) position after)
         ⊎ (((position : ℕ) × IsRowWith (NumberPart (node_at nodes position).warnings ∷ []) position after)
-        ⊎ (((position : ℕ) × (usage : Usage) × (usage_at recipes.facts (node_at nodes position).number ≡ Some usage)
+        ⊎ (((position : ℕ) × (usage : Usage) × (usage_at recipes (node_at nodes position).number ≡ Some usage)
         × IsRowWith (words_parts (size_words (saturated (usage.peak_kb * 1024)))) position after)
-        ⊎ ((span : Span) × Contains recipes.spans span
-        × IsRowWith (words_parts (duration_words (cut (alone recipes.spans span)))) span.position after)))
+        ⊎ ((span : Span) × Contains spans span
+        × IsRowWith (words_parts (duration_words (cut (alone spans span)))) span.position after)))
 
     -- The parts after a link to a target or to its article, after a tag with the id of one of these, and after the start of a list of
     -- targets or of a row.
@@ -368,10 +369,8 @@ end_shown request requested nodes =
     ∷ TextPart AS_ONE_TEXT.now ∷ MarkupPart Code ∷ TextPart (command request.dir (options_of request) requested) ∷ MarkupPart EndCode ∷ []
 
 -- A browser reads these parts in a page, next to each other.
-pub record IsRead (inner : List Part) (request : Request) (logs : List Log) (requested : List (List ℕ)) : Type 0 where
-  pub before : List Token
-  pub after : List Token
-  pub splits : before ++ (flat_map part_tokens inner ++ after) ≡ read (page_html request logs requested)
+abbrev pub IsRead : List Part → Request → List Log → List (List ℕ) → Type 0
+IsRead inner request logs requested = IsPartOf (flat_map part_tokens inner) (read (page_html request logs requested))
 
 -- ---- what failed
 
@@ -483,13 +482,11 @@ pub record PositionedLine : Type 0 where
   pub position : Option ℕ
   pub line : List ℕ
 
-abbrev pub positioned_at : Option ℕ → Event → List PositionedLine
-positioned_at position event = map (λ (line : List ℕ). record { position = position; line = line }) (event_lines event)
-
 -- The text lines of some contents, in order. `around` is the position of the log that contains them, and `position` the next log's position.
 abbrev pub positioned_lines : Option ℕ → ℕ → Contents → List PositionedLine
 positioned_lines around position Nothing = []
-positioned_lines around position (Shown event rest) = positioned_at around event ++ positioned_lines around position rest
+positioned_lines around position (Shown event rest) =
+    map (λ (line : List ℕ). record { position = around; line = line }) (event_lines event) ++ positioned_lines around position rest
 positioned_lines around position (Opened event number inside rest) =
     positioned_lines (Some position) (suc position) inside ++ positioned_lines around (suc position + log_count inside) rest
 
@@ -512,6 +509,11 @@ lines_at position lines = filter (λ (positioned : PositionedLine). is_same_posi
 abbrev pub unmoved_lines : Build → List PositionedLine → List PositionedLine
 unmoved_lines build lines = filter (λ (positioned : PositionedLine). not (is_moved_if build positioned.position)) lines
 
+-- Whether the log that contains a line is the one at a position, or one of the `below` logs below it. These have the next positions.
+abbrev pub is_within : ℕ → ℕ → Option ℕ → Bool
+is_within position below None = false
+is_within position below (Some other) = nat_le position other && nat_le other (position + below)
+
 module _ (request : Request) (logs : List Log) (requested : List (List ℕ)) where
   abbrev pub page_lines : List PositionedLine
   page_lines = positioned_lines None 0 (contents_of (page_events request logs requested))
@@ -519,6 +521,11 @@ module _ (request : Request) (logs : List Log) (requested : List (List ℕ)) whe
   -- Those that are left in the tree.
   abbrev pub kept_lines : List PositionedLine
   kept_lines = positioned_lines None 0 (page_contents request logs requested)
+
+  -- The lines that are left of the log at a position and of the logs below it.
+  abbrev pub kept_within : ℕ → List PositionedLine
+  kept_within position =
+      filter (λ line. is_within position (node_at (page_outline request logs requested) position).below line.position) kept_lines
 
   -- The largest number of bytes that the tree shows: the limit that was asked for, but at least 4,096 bytes for each log.
   abbrev pub budget_of_tree : ℕ
@@ -529,18 +536,23 @@ module _ (request : Request) (logs : List Log) (requested : List (List ℕ)) whe
   page_limit position =
       limit_of (tree_limits logs (options_of request) (page_outline request logs requested) request.max_bytes) (node_at (page_outline request logs requested) position).number
 
-  abbrev pub page_tree : List Part
-  page_tree = tree_parts logs (options_of request) (page_outline request logs requested) (page_contents request logs requested)
+  -- What the section of the tree contains.
+  abbrev pub IsTree : List Part → Type 0
+  IsTree inside = IsInside TreeSection EndSection inside (page_parts request logs requested)
 
-  abbrev pub page_article : ℕ → List Part
-  page_article position = article_parts logs (page_outline request logs requested) request.recipes position
+  -- What the element of the log at a position contains.
+  abbrev pub IsLog : ℕ → List Part → Type 0
+  IsLog position inside =
+      IsInside (Details position) EndDetails inside (page_parts request logs requested)
+      ⊎ IsInside (OpenDetails position) EndDetails inside (page_parts request logs requested)
+
+  -- What the article about the target at a position contains.
+  abbrev pub IsArticle : ℕ → List Part → Type 0
+  IsArticle position inside = IsInside (Article position) EndArticle inside (page_parts request logs requested)
 
   -- What is known of the recipe of the target at a position.
   abbrev pub page_recipe : ℕ → RecipeFacts
   page_recipe position = recipe_at request.recipes (node_at (page_outline request logs requested) position).number
-
-  abbrev pub page_recipes : KnownRecipes
-  page_recipes = record { facts = request.recipes; spans = (page_facts request logs requested).recipes }
 
   -- Whether the page has a timeline, with this window.
   abbrev pub HasTimeline : Window → Type 0
@@ -551,28 +563,6 @@ module _ (request : Request) (logs : List Log) (requested : List (List ℕ)) whe
   ChartsDraw window kind spans =
       AllByRecursion (λ drawing. DrawsAll logs (page_outline request logs requested) window kind spans (shapes_of kind drawing))
       (charts (page_parts request logs requested))
-
--- ---- elements of logs
-
-abbrev pub is_between : ℕ → ℕ → Option ℕ → Bool
-is_between lowest highest None = false
-is_between lowest highest (Some position) = nat_le lowest position && nat_le position highest
-
--- Whether a line is in the log at a position, or in one of the `below` logs below it. These have the next positions.
-abbrev pub is_within : ℕ → ℕ → PositionedLine → Bool
-is_within position below positioned = is_between position (position + below) positioned.position
-
-module _ (build : Build) (lines : List PositionedLine) where
-  -- Parts show exactly the lines of the log at a position and of the logs below it.
-  abbrev pub ShowsLinesFrom : ℕ → List Part → Type 0
-  ShowsLinesFrom position parts =
-      log_bytes parts ≡ positioned_bytes (unmoved_lines build (filter (is_within position (node_at build.nodes position).below) lines))
-
-  -- If the element of a log begins with this tag, it contains the lines of this log.
-  abbrev pub ShowsItsLines : Markup → List Part → Type 0
-  ShowsItsLines (Details position) inside = ShowsLinesFrom position inside
-  ShowsItsLines (OpenDetails position) inside = ShowsLinesFrom position inside
-  ShowsItsLines tag inside = Unit {0}
 
 -- ---- tags
 
@@ -609,6 +599,11 @@ module _ (rename : List ℕ → List ℕ) where
   blanked (Shown event rest) = Shown (blank_event event) (blanked rest)
   blanked (Opened event number inside rest) = Opened (blank_event event) number (blanked inside) (blanked rest)
 
--- Whether renamed targets have the same logs among others.
-abbrev pub HaveSameLogs : (List ℕ → List ℕ) → List Log → List Log → Type 0
-HaveSameLogs rename logs others = (name : List ℕ) → log_number (rename name) others ≡ log_number name logs
+module _ (request : Request) (logs : List Log) (requested : List (List ℕ)) where
+  -- Another page has the same outline, and the same contents except for the names of targets, notes and the bytes of text lines. Renamed
+  -- targets have the same logs there.
+  pub record HasSameShape (rename : List ℕ → List ℕ) (other : Request) (others : List Log) (other_requested : List (List ℕ)) : Type 0 where
+    pub options : options_of other ≡ options_of request
+    pub numbers : (name : List ℕ) → log_number (rename name) others ≡ log_number name logs
+    pub outline : page_outline other others other_requested ≡ page_outline request logs requested
+    pub contents : blanked (λ name. name) (page_contents other others other_requested) ≡ blanked rename (page_contents request logs requested)

@@ -5,9 +5,9 @@ ghost use Rattle.std.specs.List.Sorted.{IsPermutation};
 ghost use Rattle.redo_compare.specs.Baseline.{BaselineValue};
 ghost use Rattle.redo_html.specs.Html.{nests_in, read, tags_of, text_of};
 ghost use Rattle.redo_html.specs.declared.markup.Markup.{Markup};
-ghost use Rattle.redo_html.specs.declared.markup.Markup.TheVariants.{DescriptionList, EndDetails, Title1};
+ghost use Rattle.redo_html.specs.declared.markup.Markup.TheVariants.{DescriptionList, Title1};
 ghost use Rattle.redo_html.specs.declared.text_kind.TextKind.TheVariants.{Monochrome};
-ghost use Rattle.redo_html.specs.Laws.{is_byte, markup_tag};
+ghost use Rattle.redo_html.specs.Laws.{is_byte};
 ghost use Rattle.redo_html.specs.Parts.{Part, part_text, part_tokens};
 ghost use Rattle.redo_html.specs.Parts.Part.{MarkupPart};
 ghost use Rattle.redo_html.specs.Shown.{shown_text};
@@ -15,14 +15,13 @@ ghost use Rattle.redo_logs.specs.Logs.{Log};
 ghost use Rattle.redo_options.specs.declared.options.Options.{Options};
 ghost use Rattle.redo_view.specs.View.{find_unknown};
 ghost use Rattle.redo_outline.specs.declared.node.Node.{Node};
-ghost use Rattle.redo_outline.specs.Contents.{Contents};
-ghost use Rattle.redo_page.specs.Laws.{AreNewLines, HasNewSection, ListsNews, news_shown, AreInOrderOfEnd, ContainRoots, ListsFailures, ShowsRecipe, HaveSameLogs, IsOfTarget, IsOwnTag, IsPartOf, IsRead, IsRed, ShowsItsLines, AreCountable, budget_of_tree, TellsItsTarget, article_ids, article_links, blanked, event_lines, is_among, kept_lines, lines_at, log_bytes, markups, numbers_from, page_article, page_lines, page_recipe, page_recipes, page_tree, positioned_bytes, section_ids, section_links, target_ids, target_links, texts_of, unmoved_lines, charts, ChartsDraw, HasTimeline, end_shown, first, heading_shown, heading_tag, requested_shown, summary_shown, took_shown, page_limit, says_failed, shows_failure, title_in};
+ghost use Rattle.redo_page.specs.Laws.{AreNewLines, HasNewSection, ListsNews, news_shown, AreInOrderOfEnd, ContainRoots, ListsFailures, ShowsRecipe, HasSameShape, IsArticle, IsLog, IsOfTarget, IsOwnTag, IsRead, IsTree, IsRed, AreCountable, budget_of_tree, TellsItsTarget, article_ids, article_links, event_lines, is_among, kept_lines, kept_within, lines_at, log_bytes, markups, numbers_from, page_lines, page_recipe, positioned_bytes, section_ids, section_links, target_ids, target_links, texts_of, unmoved_lines, charts, ChartsDraw, HasTimeline, end_shown, first, heading_shown, heading_tag, requested_shown, summary_shown, took_shown, page_limit, says_failed, shows_failure, title_in};
 ghost use Rattle.redo_page.specs.Command.{command};
 ghost use Rattle.redo_page.specs.Failed.{is_dependent_failure, positions_where};
 ghost use Rattle.redo_page.specs.Limits.{bytes_shown, highest_cap};
 ghost use Rattle.redo_page.specs.NewSection.{news_since};
 ghost use Rattle.redo_page.specs.Page.{Request, page_build, page_events, page_facts, page_html, page_news, page_outline, page_parts, page_usage};
-ghost use Rattle.redo_page.specs.Tree.{articles, root_failures, has_failed, is_moved, tree_parts};
+ghost use Rattle.redo_page.specs.Tree.{articles, root_failures, has_failed, is_moved};
 ghost use Rattle.redo_html.specs.declared.chart.GroupKind.TheVariants.{Callers, Recipes, Untimed};
 ghost use Rattle.redo_trim.specs.Laws.{head_and_tail};
 ghost use Rattle.redo_summary.specs.Laws.{AreSplit, IsOverTimes};
@@ -73,8 +72,8 @@ pub fn links_lead_to_ids()
         IsDistinct nat_eq (article_ids (page_parts request logs requested)) }
     ensures target_links { (request : Request) (logs : List Log) (requested : List (List ℕ)) →
         list_all (is_among (target_ids (page_parts request logs requested))) (target_links (page_parts request logs requested)) ≡ true }
-    ensures own_links { (request : Request) (logs : List Log) (requested : List (List ℕ)) (position : ℕ) →
-        list_all (λ number. number == position) (target_links (page_article request logs requested position)) ≡ true }
+    ensures own_links { (request : Request) (logs : List Log) (requested : List (List ℕ)) (position : ℕ) (inside : List Part) →
+        IsArticle request logs requested position inside → list_all (λ number. number == position) (target_links inside) ≡ true }
     ensures article_links { (request : Request) (logs : List Log) (requested : List (List ℕ)) →
         list_all (is_among (article_ids (page_parts request logs requested))) (article_links (page_parts request logs requested)) ≡ true }
     ensures section_links { (request : Request) (logs : List Log) (requested : List (List ℕ)) →
@@ -92,7 +91,7 @@ pub fn links_lead_to_ids()
 pub fn targets_have_their_names()
     ensures names { (request : Request) (logs : List Log) (requested : List (List ℕ)) →
         (before : List Part) (tag : Markup) (after : List Part) → before ++ (MarkupPart tag ∷ after) ≡ page_parts request logs requested →
-        TellsItsTarget logs (page_outline request logs requested) (page_recipes request logs requested) tag after }
+        TellsItsTarget logs (page_outline request logs requested) request.recipes (page_facts request logs requested).recipes tag after }
     ensures targets { (request : Request) (logs : List Log) (requested : List (List ℕ)) →
         AllByRecursion (IsOfTarget logs (page_events request logs requested) request.times) (page_outline request logs requested) }
     ensures requested { (request : Request) (logs : List Log) (requested : List (List ℕ)) →
@@ -182,8 +181,8 @@ pub fn news_are_shown()
 pub fn lines_are_shown()
     ensures complete { (request : Request) (logs : List Log) (requested : List (List ℕ)) → find_unknown logs requested ≡ None →
         texts_of (page_lines request logs requested) ≡ flat_map event_lines (page_events request logs requested) }
-    ensures tree { (request : Request) (logs : List Log) (requested : List (List ℕ)) →
-        log_bytes (page_tree request logs requested)
+    ensures tree { (request : Request) (logs : List Log) (requested : List (List ℕ)) (inside : List Part) →
+        IsTree request logs requested inside → log_bytes inside
         ≡ positioned_bytes (unmoved_lines (page_build request logs requested) (kept_lines request logs requested)) }
     ensures whole { (request : Request) (logs : List Log) (requested : List (List ℕ)) → request.max_bytes ≡ 0 →
         find_unknown logs requested ≡ None → kept_lines request logs requested ≡ page_lines request logs requested }
@@ -196,22 +195,23 @@ pub fn lines_are_shown()
         ≡ head_and_tail (page_limit request logs requested position) (texts_of (lines_at position (page_lines request logs requested))) }
     ensures bounded { (request : Request) (logs : List Log) (requested : List (List ℕ)) → 0 < request.max_bytes →
         request.max_bytes < 2 ^ 64 → AreCountable logs → find_unknown logs requested ≡ None →
-        length (log_bytes (page_tree request logs requested)) ≤ budget_of_tree request logs requested }
+        (inside : List Part) → IsTree request logs requested inside →
+        length (log_bytes inside) ≤ budget_of_tree request logs requested }
     ensures has_tree { (request : Request) (logs : List Log) (requested : List (List ℕ)) →
-        IsPartOf (page_tree request logs requested) (page_parts request logs requested) }
-    ensures inside { (request : Request) (logs : List Log) (requested : List (List ℕ)) →
-        (before : List Part) (tag : Markup) (inside after : List Part) →
-        before ++ (MarkupPart tag ∷ (inside ++ (MarkupPart EndDetails ∷ after))) ≡ page_tree request logs requested →
-        nests_in [] (flat_map markup_tag inside) ≡ true →
-        ShowsItsLines (page_build request logs requested) (kept_lines request logs requested) tag inside }
+        (inside : List Part) × IsTree request logs requested inside }
+    ensures inside { (request : Request) (logs : List Log) (requested : List (List ℕ)) (position : ℕ) (inside : List Part) →
+        IsLog request logs requested position inside → log_bytes inside
+        ≡ positioned_bytes (unmoved_lines (page_build request logs requested) (kept_within request logs requested position)) }
     ensures articles { (request : Request) (logs : List Log) (requested : List (List ℕ)) → find_unknown logs requested ≡ None →
         (position : ℕ) → is_moved (page_build request logs requested) position ≡ true →
-        log_bytes (page_article request logs requested position)
-        ≡ positioned_bytes (lines_at position (page_lines request logs requested)) }
+        (inside : List Part) → IsArticle request logs requested position inside →
+        log_bytes inside ≡ positioned_bytes (lines_at position (page_lines request logs requested)) }
     ensures has_articles { (request : Request) (logs : List Log) (requested : List (List ℕ)) →
         (position : ℕ) → is_moved (page_build request logs requested) position ≡ true →
-        IsPartOf (page_article request logs requested position) (page_parts request logs requested) }
+        (inside : List Part) × IsArticle request logs requested position inside }
 {
+    positions_are_of_nodes();
+    bars_lead_to_positions();
     events_are_in_contents();
     logs_show_their_lines();
     each_log_once();
@@ -234,10 +234,14 @@ pub fn command_is_shown_unchanged()
 pub fn recipes_are_shown()
     ensures articles { (request : Request) (logs : List Log) (requested : List (List ℕ)) (position : ℕ) →
         is_among (articles (page_outline request logs requested)) position ≡ true →
-        IsPartOf (page_article request logs requested position) (page_parts request logs requested) }
-    ensures recipes { (request : Request) (logs : List Log) (requested : List (List ℕ)) (position : ℕ) →
-        ShowsRecipe (page_recipe request logs requested position) (page_article request logs requested position) }
-{}
+        (inside : List Part) × IsArticle request logs requested position inside }
+    ensures recipes { (request : Request) (logs : List Log) (requested : List (List ℕ)) (position : ℕ) (inside : List Part) →
+        IsArticle request logs requested position inside → ShowsRecipe (page_recipe request logs requested position) inside }
+{
+    positions_are_of_nodes();
+    bars_lead_to_positions();
+    trimmed_events_are_in_tree();
+}
 
 /// Logs that have too many bytes together are cut at the highest cap at which they show at most `budget` bytes, or at 4,096 if that cap
 /// is lower. These clauses are about the cap before it is raised.
@@ -248,15 +252,19 @@ pub fn cap_is_highest()
 {}
 
 /// Each tag of a page is one of a page's own tags. The tags of the tree depend only on the outline, on which kind each event is, on numbers
-/// and on the lengths of text lines: they stay the same if targets are renamed, and notes and text lines are blanked. That no tag comes from
-/// a log or a name follows from `page_is_read` and `passages_are_read_as_shown`.
+/// and on the lengths of text lines: they stay the same if targets are renamed, and notes and the bytes of text lines are replaced. That no
+/// tag comes from a log or a name follows from `page_is_read` and `passages_are_read_as_shown`.
 pub fn tags_are_its_own()
     ensures tags { (request : Request) (logs : List Log) (requested : List (List ℕ)) →
         All IsOwnTag (tags_of (read (page_html request logs requested))) }
-    ensures tree { (logs others : List Log) (rename : List ℕ → List ℕ) → HaveSameLogs rename logs others →
-        (options : Options) (nodes : List Node) (contents : Contents) →
-        markups (tree_parts others options nodes (blanked rename contents)) ≡ markups (tree_parts logs options nodes contents) }
+    ensures tree { (request other : Request) (logs others : List Log) (requested other_requested : List (List ℕ)) →
+        (rename : List ℕ → List ℕ) → HasSameShape request logs requested rename other others other_requested →
+        (inside other_inside : List Part) → IsTree request logs requested inside → IsTree other others other_requested other_inside →
+        markups other_inside ≡ markups inside }
 {
+    positions_are_of_nodes();
+    bars_lead_to_positions();
+    trimmed_events_are_in_tree();
     page_is_read();
     passages_are_read_as_shown();
     charts_have_no_text_in_tags();

@@ -1,4 +1,4 @@
-use Rattle.std.proofs.Common.{◌≡◌, ℕ, zero, suc, ◌<◌, true, List, [], ◌∷◌, None, Some, length, map, refl, ◌∙◌, ap, sym, subst}
+use Rattle.std.proofs.Common.{◌≡◌, ℕ, zero, suc, ◌<◌, ◌≤◌, true, List, [], ◌∷◌, None, Some, length, map, refl, ◌∙◌, ap, sym, subst}
 use Rattle.std.proofs.lemmas.List.{length-map}
 use Rattle.redo_outline.specs.Outline.{outline_of, with_times}
 use Rattle.std.specs.Prelude.{nat_eq}
@@ -13,9 +13,10 @@ use Rattle.redo_outline.specs.declared.node.RunTimes.{RunTimes}
 use Rattle.redo_outline.specs.Facts.{entries_at, target_status, texts_of}
 use Rattle.redo_view.specs.LogLines.{lines_left_after}
 use Rattle.redo_page.specs.Laws as laws
-use Rattle.redo_page.specs.Laws.{event_lines, lines_at, log_bytes, page_article, page_lines, positioned_bytes, positioned_lines}
+use Rattle.redo_page.specs.Laws.{budget_of_tree, event_lines, lines_at, log_bytes, log_text, page_lines, positioned_bytes, positioned_lines}
 use Rattle.redo_page.specs.Page.{Request, options_of, page_build, page_contents, page_events, page_outline, run_times}
-use Rattle.redo_page.specs.Tree.{articles, has_article, is_moved, is_short, node_at}
+use Rattle.redo_page.specs.Tree as tree
+use Rattle.redo_page.specs.Tree.{articles, is_moved, is_short, node_at}
 use Rattle.redo_page.specs.Limits.{tree_limits}
 use Rattle.redo_trim.specs.declared.limit.Limit.{Limit}
 use Rattle.redo_trim.specs.Laws.{head_and_tail}
@@ -25,12 +26,12 @@ use Rattle.redo_page.proofs.BudgetLemmas.{page_bytes}
 use Rattle.redo_page.proofs.KeptLines.{bytes_small, fitting_limits, limits_fit, lines_left, nodes_small, trimmed_have}
 use Rattle.redo_page.proofs.PageIds.{outline_counted}
 use Rattle.redo_page.proofs.FailedIds.{articles_below}
-use Rattle.redo_page.proofs.ElementLemmas.{tree_shows}
-use Rattle.redo_page.proofs.PageNames.{page_placed}
+use Rattle.redo_page.proofs.ElementParts.{in_article, in_tree}
+use Rattle.redo_page.proofs.PageElements.{has_article, has_tree, in_article_of, in_tree_section, log_shows, only_article, only_tree}
 use Rattle.redo_page.proofs.TreeItems.{tree_is_streamed}
 use Rattle.redo_page.proofs.TreeLines.{tree_text}
 use Rattle.redo_page.proofs.FailedLines.{article_text}
-use Rattle.redo_page.proofs.PagePartLemmas.{page_has_tree, page_has_article}
+use Rattle.redo_page.proofs.PagePartLemmas.{page_article}
 use Rattle.redo_page.proofs.PageLines.{all_lines, among_below, contents_have_lines, lines_of_position}
 use Rattle.redo_page.proofs.laws.lines_are_shown.Goals as goal
 
@@ -42,8 +43,11 @@ returns-clause-complete c = λ request logs requested known.
     ∙ ap (flat_map event_lines) (c.events_are_in_contents.ensures logs (options_of request) requested known)
 
 pub returns-clause-tree : goal.returns-clause-tree
-returns-clause-tree c = λ request logs requested.
-    ap log_bytes (tree_is_streamed request logs requested)
+returns-clause-tree c = λ request logs requested inside is.
+    ap log_bytes (only_tree request logs requested c.positions_are_of_nodes.ensures.times c.positions_are_of_nodes.ensures.memory
+    c.bars_lead_to_positions.ensures c.trimmed_events_are_in_tree.ensures.logs inside is)
+    ∙ in_tree logs (options_of request) (page_outline request logs requested) (page_contents request logs requested) log_text refl refl
+    ∙ ap log_bytes (tree_is_streamed request logs requested)
     ∙ tree_text logs (options_of request) (page_outline request logs requested) (page_contents request logs requested)
 
 -- A node keeps its number.
@@ -61,7 +65,7 @@ moved_text : (request : Request) (logs : List Log) (requested : List (List ℕ))
 moved_text request logs requested shown position moved =
     let events = page_events request logs requested in
     let nodes = page_outline request logs requested in
-    let parts = and_parts (has_article (page_build request logs requested) position) (is_short (node_at nodes position)) moved in
+    let parts = and_parts (tree.has_article (page_build request logs requested) position) (is_short (node_at nodes position)) moved in
     article_text logs nodes request.recipes position parts.1
     ∙ ap (λ (number : ℕ). flat_map with_line_feed (texts_of (entries_at number logs)))
     (same_number (map run_times request.times) (outline_of logs events) position)
@@ -71,16 +75,19 @@ moved_text request logs requested shown position moved =
     (among_below (length nodes) (articles nodes) position (articles_below nodes) parts.0)))
 
 pub returns-clause-articles : goal.returns-clause-articles
-returns-clause-articles c = λ request logs requested known position moved.
-    moved_text request logs requested (c.logs_show_their_lines.ensures logs (options_of request) requested known) position moved
+returns-clause-articles c = λ request logs requested known position moved inside is.
+    ap log_bytes (only_article request logs requested c.positions_are_of_nodes.ensures.times c.positions_are_of_nodes.ensures.memory
+    c.bars_lead_to_positions.ensures c.trimmed_events_are_in_tree.ensures.logs position inside is)
+    ∙ in_article logs (page_outline request logs requested) request.recipes position log_text refl refl
+    ∙ moved_text request logs requested (c.logs_show_their_lines.ensures logs (options_of request) requested known) position moved
 
 pub returns-clause-inside : goal.returns-clause-inside
-returns-clause-inside c = λ request logs requested before tag inside after is.
-    tree_shows logs (options_of request) (page_outline request logs requested) (page_contents request logs requested)
-    (page_placed request logs requested) before tag inside after (is ∙ tree_is_streamed request logs requested)
+returns-clause-inside c = λ request logs requested.
+    log_shows request logs requested c.positions_are_of_nodes.ensures.times c.positions_are_of_nodes.ensures.memory
+    c.bars_lead_to_positions.ensures c.trimmed_events_are_in_tree.ensures.logs
 
 pub returns-clause-bounded : goal.returns-clause-bounded
-returns-clause-bounded c = λ request logs requested some small few known.
+returns-clause-bounded c = λ request logs requested some small few known inside is.
     let events = page_events request logs requested in
     let nodes = page_outline request logs requested in
     let options = options_of request in
@@ -89,22 +96,26 @@ returns-clause-bounded c = λ request logs requested some small few known.
     let fit = limits_fit logs options nodes request.max_bytes small
     (bytes_small (map run_times request.times) (outline_of logs events)
     (nodes_small logs (target_status logs events) None 0 (contents_of events))) in
-    page_bytes c.head_and_tail_are_kept.ensures.bounded request logs requested some few left
+    subst (λ (bytes : List ℕ). length bytes ≤ budget_of_tree request logs requested)
+    (sym (ap log_bytes (only_tree request logs requested c.positions_are_of_nodes.ensures.times c.positions_are_of_nodes.ensures.memory
+    c.bars_lead_to_positions.ensures c.trimmed_events_are_in_tree.ensures.logs inside is)
+    ∙ in_tree logs options nodes (page_contents request logs requested) log_text refl refl))
+    (page_bytes c.head_and_tail_are_kept.ensures.bounded request logs requested some few left
     (subst (IsDistinct (pointwise nat_eq)) (sym (c.each_log_once.ensures.events logs options requested known))
     (c.each_log_once.ensures.no_duplicates logs options requested))
     (c.events_are_in_contents.ensures logs options requested known)
     (trimmed_have logs limits (c.head_and_tail_are_kept.ensures.kept limits) fit [] (contents_of events)
     (contents_have_lines logs events left))
-    (c.trimmed_events_are_in_tree.ensures.logs limits (contents_of events))
+    (c.trimmed_events_are_in_tree.ensures.logs limits (contents_of events)))
 
 pub returns-clause-has_tree : goal.returns-clause-has_tree
-returns-clause-has_tree c = page_has_tree
+returns-clause-has_tree c = λ request logs requested. (in_tree_section request logs requested, has_tree request logs requested)
 
 pub returns-clause-has_articles : goal.returns-clause-has_articles
 returns-clause-has_articles c = λ request logs requested position moved.
-    page_has_article request logs requested position
-    (and_parts (has_article (page_build request logs requested) position)
-    (is_short (node_at (page_outline request logs requested) position)) moved).0
+    let parts = and_parts (tree.has_article (page_build request logs requested) position)
+    (is_short (node_at (page_outline request logs requested) position)) moved in
+    (in_article_of request logs requested position, has_article request logs requested position parts.0)
 
 -- Nothing is left out without limits.
 unlimited : (logs : List Log) (events : List Event) (limits : List Limit) → limits ≡ []
