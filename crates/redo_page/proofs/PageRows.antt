@@ -1,9 +1,11 @@
 -- Rows of whole pages, as the parts that are written. The model in tests/page gives the same tags and texts.
-use Rattle.std.proofs.Common.{Bor, ◌≡◌, ℕ, Bool, true, false, List, [], ◌∷◌, ◌++◌, map, Option, None, Some, pos, length, replicate, refl, sym, ◌∙◌, ap, inl, inr, ◌⊎◌}
+use Rattle.std.proofs.Common.{Bor, ◌≡◌, ℕ, zero, suc, Bool, true, false, List, [], ◌∷◌, ◌++◌, map, Option, None, Some, pos, length, replicate, refl, sym, ◌∙◌, ap, inl, inr, ◌⊎◌}
 use Rattle.std.specs.Fmt.{digits}
-use Rattle.std.specs.List.{filter, flat_map, starts_with}
+use Rattle.std.specs.List.{filter, flat_map, list_all, starts_with}
 use Rattle.std.specs.Prelude.{◌==◌, bytes_eq, codes, nat_eq, sum_by, take, if◌then◌else◌}
+use Rattle.std.proofs.lemmas.Bool.{and_from, and_parts}
 use Rattle.std.proofs.lemmas.List.{append_assoc}
+use Rattle.std.proofs.lemmas.List.Folds.{list_all-append}
 use Rattle.redo_compare.specs.Baseline.{BaselineValue}
 use Rattle.redo_facts.specs.Facts.{RecipeFacts}
 use Rattle.redo_line.specs.declared.entry.Entry.{Entry}
@@ -37,7 +39,7 @@ use Rattle.redo_page.specs.Command.{is_safe}
 use Rattle.redo_page.specs.Frame.{footer_parts}
 use Rattle.redo_page.specs.Recipe.{commands_parts, recipe_parts}
 use Rattle.redo_page.specs.Summary.{summary_parts}
-use Rattle.redo_page.specs.Laws.{HasSameShape, article_ids, article_links, log_bytes, positioned_lines, BeginWith, IsList, line_item, line_list, list_item}
+use Rattle.redo_page.specs.Laws.{AreBeginnings, HasSameShape, article_ids, article_links, log_bytes, positioned_lines, BeginWith, IsList, line_item, line_list, list_item}
 use Rattle.redo_summary.specs.Summary.{is_timed}
 use Rattle.redo_summary.specs.declared.rank.Rank.{Rank}
 use Rattle.redo_page.specs.NewSection.{news_parts}
@@ -135,6 +137,25 @@ in_log position parts = inside_first (begins_log position) (codes "/details") pa
 
 abbrev after_log : ℕ → List Part → List Part
 after_log position parts = rest_after (begins_log position) (codes "/details") parts
+
+take_passes : (p : ℕ → Bool) (size : ℕ) (line : List ℕ) → list_all p line ≡ true → list_all p (take size line) ≡ true
+take_passes p zero line all = refl
+take_passes p (suc size) [] all = refl
+take_passes p (suc size) (byte ∷ line) all =
+    let parts = and_parts (p byte) (list_all p line) all in
+    and_from (p byte) (list_all p (take size line)) parts.0 (take_passes p size line parts.1)
+
+-- What all bytes of lines pass is passed by the bytes of their beginnings.
+pub begins_pass : (p : ℕ → Bool) (lines : List (List ℕ)) (bytes : List ℕ) → AreBeginnings bytes lines → list_all (list_all p) lines ≡ true
+    → list_all p bytes ≡ true
+begins_pass p [] bytes is all = ap (list_all p) is
+begins_pass p (line ∷ lines) bytes (inl later) all =
+    begins_pass p lines bytes later (and_parts (list_all p line) (list_all (list_all p) lines) all).1
+begins_pass p (line ∷ lines) bytes (inr found) all =
+    let parts = and_parts (list_all p line) (list_all (list_all p) lines) all in
+    ap (list_all p) found.2 ∙ list_all-append p (take found.0 line) found.1
+    ∙ and_from (list_all p (take found.0 line)) (list_all p found.1) (take_passes p found.0 line parts.0)
+    (begins_pass p lines found.1 found.3 parts.1)
 
 abbrev log : List ℕ → List Entry → Log
 log target entries = record { target = target; entries = entries; state = Ended }

@@ -493,6 +493,12 @@ positioned_lines around position (Opened event number inside rest) =
 abbrev pub texts_of : List PositionedLine → List (List ℕ)
 texts_of lines = map (λ (positioned : PositionedLine). positioned.line) lines
 
+-- Whether bytes are the beginnings of some lines, in order. Other lines may be left out.
+abbrev pub AreBeginnings : List ℕ → List (List ℕ) → Type 0
+AreBeginnings bytes [] = bytes ≡ []
+AreBeginnings bytes (line ∷ lines) =
+    AreBeginnings bytes lines ⊎ ((size : ℕ) × (rest : List ℕ) × (bytes ≡ take size line ++ rest) × AreBeginnings rest lines)
+
 -- Lines with their line feeds.
 abbrev pub positioned_bytes : List PositionedLine → List ℕ
 positioned_bytes lines = flat_map with_line_feed (texts_of lines)

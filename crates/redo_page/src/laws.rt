@@ -1,5 +1,5 @@
 //! Laws about the definitions alone: their contracts are theorems, and their bodies are empty or cite laws of other crates.
-ghost use Rattle.std.specs.Prelude.{is_some, ◌==◌, ◌≡◌, ℕ, true, [], ◌∷◌, ◌++◌, List, None, Some, length, nat_eq, ◌<◌, ◌≤◌, false, ◌^◌};
+ghost use Rattle.std.specs.Prelude.{is_some, ◌==◌, ◌≡◌, ℕ, true, [], ◌∷◌, ◌++◌, List, None, Some, length, map, nat_eq, ◌<◌, ◌≤◌, false, ◌^◌};
 ghost use Rattle.std.specs.List.{All, AllByRecursion, IsDistinct, flat_map, list_all};
 ghost use Rattle.std.specs.List.Sorted.{IsPermutation};
 ghost use Rattle.redo_compare.specs.Baseline.{BaselineValue};
@@ -11,17 +11,19 @@ ghost use Rattle.redo_html.specs.Laws.{is_byte};
 ghost use Rattle.redo_html.specs.Parts.{Part, part_text, part_tokens};
 ghost use Rattle.redo_html.specs.Parts.Part.{MarkupPart};
 ghost use Rattle.redo_html.specs.Shown.{shown_text};
+ghost use Rattle.redo_line.specs.Lines.{with_line_feed};
 ghost use Rattle.redo_logs.specs.Logs.{Log};
 ghost use Rattle.redo_options.specs.declared.options.Options.{Options};
 ghost use Rattle.redo_view.specs.View.{find_unknown};
 ghost use Rattle.redo_outline.specs.declared.node.Node.{Node};
-ghost use Rattle.redo_page.specs.Laws.{AreNewLines, HasNewSection, ListsNews, news_shown, AreInOrderOfEnd, ContainRoots, ListsFailures, ShowsRecipe, HasSameShape, IsArticle, IsLog, IsOfTarget, IsOwnTag, IsRead, IsTree, IsRed, AreCountable, budget_of_tree, TellsItsTarget, article_ids, article_links, event_lines, is_among, kept_lines, kept_within, lines_at, log_bytes, markups, numbers_from, page_lines, page_recipe, positioned_bytes, section_ids, section_links, target_ids, target_links, texts_of, unmoved_lines, charts, ChartsDraw, HasTimeline, end_shown, first, heading_shown, heading_tag, requested_shown, summary_shown, took_shown, page_limit, says_failed, shows_failure, title_in};
+ghost use Rattle.redo_page.specs.Laws.{AreBeginnings, AreNewLines, HasNewSection, ListsNews, news_shown, AreInOrderOfEnd, ContainRoots, ListsFailures, ShowsRecipe, HasSameShape, IsArticle, IsLog, IsOfTarget, IsOwnTag, IsRead, IsTree, IsRed, AreCountable, budget_of_tree, TellsItsTarget, article_ids, article_links, event_lines, is_among, kept_lines, kept_within, lines_at, log_bytes, markups, numbers_from, page_lines, page_recipe, positioned_bytes, section_ids, section_links, target_ids, target_links, texts_of, unmoved_lines, charts, ChartsDraw, HasTimeline, end_shown, first, heading_shown, heading_tag, requested_shown, summary_shown, took_shown, page_limit, says_failed, shows_failure, title_in};
 ghost use Rattle.redo_page.specs.Command.{command};
 ghost use Rattle.redo_page.specs.Failed.{is_dependent_failure, positions_where};
 ghost use Rattle.redo_page.specs.Limits.{bytes_shown, highest_cap};
 ghost use Rattle.redo_page.specs.NewSection.{news_since};
 ghost use Rattle.redo_page.specs.Page.{Request, page_build, page_events, page_facts, page_html, page_news, page_outline, page_parts, page_usage};
-ghost use Rattle.redo_page.specs.Tree.{articles, root_failures, has_failed, is_moved};
+ghost use Rattle.redo_page.specs.Article.{printed_by};
+ghost use Rattle.redo_page.specs.Tree.{articles, root_failures, has_failed, is_moved, node_at};
 ghost use Rattle.redo_html.specs.declared.chart.GroupKind.TheVariants.{Callers, Recipes, Untimed};
 ghost use Rattle.redo_trim.specs.Laws.{head_and_tail};
 ghost use Rattle.redo_summary.specs.Laws.{AreSplit, IsOverTimes};
@@ -175,7 +177,7 @@ pub fn news_are_shown()
 
 /// The contents of a page have the text lines of the events, each once and in order, if each requested target has a log. The tree shows
 /// those that are left of long logs, in order, except the lines of logs whose output is in an article. Such an article shows exactly the
-/// lines of its log. Nothing is left out if the number of bytes isn't limited, or if all logs together don't have more bytes. Otherwise,
+/// lines of its log. Any article shows only beginnings of lines of its log, in order. Nothing is left out if the number of bytes isn't limited, or if all logs together don't have more bytes. Otherwise,
 /// the head and the tail of each log are left, as the limit of this log says. Between the tags of a log's element are exactly the lines of
 /// this log and of the logs below it. The tree shows at most as many bytes as was asked for, or 4,096 of each log.
 pub fn lines_are_shown()
@@ -206,6 +208,9 @@ pub fn lines_are_shown()
         (position : ℕ) → is_moved (page_build request logs requested) position ≡ true →
         (inside : List Part) → IsArticle request logs requested position inside →
         log_bytes inside ≡ positioned_bytes (lines_at position (page_lines request logs requested)) }
+    ensures excerpts { (request : Request) (logs : List Log) (requested : List (List ℕ)) (position : ℕ) (inside : List Part) →
+        IsArticle request logs requested position inside →
+        AreBeginnings (log_bytes inside) (map with_line_feed (printed_by logs (node_at (page_outline request logs requested) position))) }
     ensures has_articles { (request : Request) (logs : List Log) (requested : List (List ℕ)) →
         (position : ℕ) → is_moved (page_build request logs requested) position ≡ true →
         (inside : List Part) × IsArticle request logs requested position inside }

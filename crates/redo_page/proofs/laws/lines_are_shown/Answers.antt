@@ -12,8 +12,9 @@ use Rattle.redo_outline.specs.declared.node.Node.{Node}
 use Rattle.redo_outline.specs.declared.node.RunTimes.{RunTimes}
 use Rattle.redo_outline.specs.Facts.{entries_at, target_status, texts_of}
 use Rattle.redo_view.specs.LogLines.{lines_left_after}
+use Rattle.redo_page.specs.Article.{printed_by}
 use Rattle.redo_page.specs.Laws as laws
-use Rattle.redo_page.specs.Laws.{budget_of_tree, event_lines, lines_at, log_bytes, log_text, page_lines, positioned_bytes, positioned_lines}
+use Rattle.redo_page.specs.Laws.{AreBeginnings, budget_of_tree, event_lines, lines_at, log_bytes, log_text, page_lines, positioned_bytes, positioned_lines}
 use Rattle.redo_page.specs.Page.{Request, options_of, page_build, page_contents, page_events, page_outline, run_times}
 use Rattle.redo_page.specs.Tree as tree
 use Rattle.redo_page.specs.Tree.{articles, is_moved, is_short, node_at}
@@ -30,7 +31,7 @@ use Rattle.redo_page.proofs.ElementParts.{in_article, in_tree}
 use Rattle.redo_page.proofs.PageElements.{has_article, has_tree, in_article_of, in_tree_section, log_shows, only_article, only_tree}
 use Rattle.redo_page.proofs.TreeItems.{tree_is_streamed}
 use Rattle.redo_page.proofs.TreeLines.{tree_text}
-use Rattle.redo_page.proofs.FailedLines.{article_text}
+use Rattle.redo_page.proofs.FailedLines.{article_begins, article_text}
 use Rattle.redo_page.proofs.PagePartLemmas.{page_article}
 use Rattle.redo_page.proofs.PageLines.{all_lines, among_below, contents_have_lines, lines_of_position}
 use Rattle.redo_page.proofs.laws.lines_are_shown.Goals as goal
@@ -80,6 +81,15 @@ returns-clause-articles c = λ request logs requested known position moved insid
     c.bars_lead_to_positions.ensures c.trimmed_events_are_in_tree.ensures.logs position inside is)
     ∙ in_article logs (page_outline request logs requested) request.recipes position log_text refl refl
     ∙ moved_text request logs requested (c.logs_show_their_lines.ensures logs (options_of request) requested known) position moved
+
+pub returns-clause-excerpts : goal.returns-clause-excerpts
+returns-clause-excerpts c = λ request logs requested position inside is.
+    let nodes = page_outline request logs requested in
+    subst (λ (bytes : List ℕ). AreBeginnings bytes (map with_line_feed (printed_by logs (node_at nodes position))))
+    (sym (ap log_bytes (only_article request logs requested c.positions_are_of_nodes.ensures.times
+    c.positions_are_of_nodes.ensures.memory c.bars_lead_to_positions.ensures c.trimmed_events_are_in_tree.ensures.logs position inside is)
+    ∙ in_article logs nodes request.recipes position log_text refl refl))
+    (article_begins logs nodes request.recipes position)
 
 pub returns-clause-inside : goal.returns-clause-inside
 returns-clause-inside c = λ request logs requested.
