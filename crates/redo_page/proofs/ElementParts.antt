@@ -70,7 +70,7 @@ module _ (logs : List Log) (options : Options) (nodes : List Node) (contents : C
   abbrev build : Build
   build = record { logs = logs; options = options; nodes = nodes; articles = articles nodes }
 
-  -- The parts of the section around those of the contents.
+  -- The parts of the items of the tree, and what is around them in its section.
   abbrev pub around_items : List Part → List Part
   around_items items = drop 1 section_start ++ (items ++ MarkupPart markup.EndUnordered ∷ [])
 

@@ -111,7 +111,7 @@ distinct_right (number ∷ numbers) others distinct = distinct_right numbers oth
 
 -- A tag that has a number by `number_of`, and a number that is once in all parts.
 module _ (number_of : Part → List ℕ) (number : ℕ) (tag : Part) (is : number_of tag ≡ number ∷ []) where
-  -- The number is among those of parts with the tag.
+  -- The number is among the numbers of parts with the tag.
   not_apart : (before rest : List Part)
       → AllByRecursion (λ other. nat_eq number other ≡ false) (flat_map number_of (before ++ (tag ∷ rest))) → ⊥
   not_apart [] rest all =

@@ -36,7 +36,7 @@ later : (one other : Bool) → other ≡ true → (one || other) ≡ true
 later true other is = refl
 later false other is = is
 
--- The id of an article is among those of parts with its tag.
+-- The id of an article is among the ids of articles in parts with its tag.
 among_ids : (position : ℕ) (before rest : List Part)
     → is_among (flat_map article_id (before ++ (MarkupPart (markup.Article position) ∷ rest))) position ≡ true
 among_ids position [] rest =
@@ -102,7 +102,7 @@ module _ (request : Request) (logs : List Log) (requested : List (List ℕ)) whe
         same_inside tree_tag 0 markup.TreeSection markup.EndSection refl (λ rest. refl)
         (subst (IsDistinct nat_eq) (sym (one_tree have memory lead keep request logs requested)) (tt, tt)) is has_tree
 
-    -- The page has no article but those of `articles`.
+    -- The page has only the articles of `articles`.
     article_among : (position : ℕ) (inside : List Part) → IsArticle request logs requested position inside
         → is_among (articles nodes) position ≡ true
     article_among position inside is =

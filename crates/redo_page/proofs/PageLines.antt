@@ -19,7 +19,7 @@ use Rattle.redo_view.specs.LogLines.{LinesLeft, after_end, after_line, after_ope
 use Rattle.redo_outline.specs.declared.node.Node.{Node}
 use Rattle.redo_outline.specs.Contents.{Contents, contents_from, innermost, number_of_opening, with_first, with_opened, with_shown}
 use Rattle.redo_outline.specs.Contents.Contents.{Nothing, Shown, Opened}
-use Rattle.redo_outline.specs.Facts.{entries_at, text_of}
+use Rattle.redo_outline.specs.Facts.{entries_at}
 use Rattle.redo_outline.specs.Facts as facts
 use Rattle.redo_outline.specs.Laws.{events_of}
 use Rattle.redo_outline.specs.Outline.{log_count, nodes_of}
