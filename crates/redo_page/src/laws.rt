@@ -177,9 +177,10 @@ pub fn news_are_shown()
 
 /// The contents of a page have the text lines of the events, each once and in order, if each requested target has a log. The tree shows
 /// those that are left of long logs, in order, except the lines of logs whose output is in an article. Such an article shows exactly the
-/// lines of its log. Any article shows only beginnings of lines of its log, in order. Nothing is left out if the number of bytes isn't limited, or if all logs together don't have more bytes. Otherwise,
-/// the head and the tail of each log are left, as the limit of this log says. Between the tags of a log's element are exactly the lines of
-/// this log and of the logs below it. The tree shows at most as many bytes as was asked for, or 4,096 of each log.
+/// lines of its log. Any article shows only beginnings of lines of its log, in order. Nothing is left out if the number of bytes isn't
+/// limited, or if all logs together don't have more bytes. Otherwise, the head and the tail of each log are left, as the limit of this log
+/// says. Between the tags of a log's element are exactly the lines of this log and of the logs below it. The tree shows at most as many
+/// bytes as was asked for, or 4,096 of each log.
 pub fn lines_are_shown()
     ensures complete { (request : Request) (logs : List Log) (requested : List (List ℕ)) → find_unknown logs requested ≡ None →
         texts_of (page_lines request logs requested) ≡ flat_map event_lines (page_events request logs requested) }
