@@ -1,6 +1,7 @@
 ghost use Rattle.std.specs.Prelude.{◌≡◌, ◌∷◌, ◌++◌, ℕ, List, [], IfErr, IfOk, OnOk};
 ghost use Rattle.redo_diagnostics.specs.Counts.{AreCounts, stored, times_of};
 
+use crate::spare::SpareKeys;
 use crate::text::Text;
 use indexmap::IndexMap;
 use redo_line::HashKeys;
@@ -45,5 +46,12 @@ impl KeyCounts {
         let before = *count;
         *count = before.saturating_add(1);
         Ok(before)
+    }
+
+    /// Gives up the vectors of its keys.
+    pub fn into_spare(self, spare: &mut SpareKeys) {
+        for key in self.counts.into_keys() {
+            spare.keep(key.into_bytes());
+        }
     }
 }

@@ -9,6 +9,7 @@ use crate::key::key_of;
 use crate::place::{Place, origin_and_place};
 use crate::plain::push_plain;
 use crate::severity::Severity;
+use crate::spare::SpareKeys;
 use crate::word::{find_word, word_of};
 use memchr::{memchr, memmem};
 use redo_html::ESCAPE;
@@ -102,15 +103,28 @@ pub fn read_diagnostic<'a>(
 ) -> Result<Option<Diagnostic<'a>>, AllocError>
     ensures { IfOk result (λ diagnostic. diagnostic ≡ diagnostic_of line.now) }
 {
+    let mut spare = SpareKeys::new(alloc);
+    read_diagnostic_with(alloc, line, plain, &mut spare)
+}
+
+/// Does the same as [`read_diagnostic`], but the key may have a spare vector.
+pub fn read_diagnostic_with<'a>(
+    alloc: Global,
+    line: &'a [u8],
+    plain: &'a mut Vec<u8>,
+    spare: &mut SpareKeys,
+) -> Result<Option<Diagnostic<'a>>, AllocError>
+    ensures { IfOk result (λ diagnostic. diagnostic ≡ diagnostic_of line.now) }
+{
     if memchr(ESCAPE, line).is_none() {
-        return read_plain(alloc, line);
+        return read_plain(alloc, line, spare);
     }
     if memchr(b':', line).is_none() {
         return Ok(None);
     }
     plain.clear();
     push_plain(line, plain)?;
-    read_plain(alloc, plain)
+    read_plain(alloc, plain, spare)
 }
 
 /// Returns false only if none of these lines is a diagnostic. Each line ends with a line feed. How often it returns true changes only the
@@ -131,13 +145,17 @@ pub fn may_have_diagnostic(lines: &[u8]) -> bool
 }
 
 // Returns the diagnostic of a line without colours and links.
-fn read_plain<'a>(alloc: Global, plain: &'a [u8]) -> Result<Option<Diagnostic<'a>>, AllocError>
+fn read_plain<'a>(
+    alloc: Global,
+    plain: &'a [u8],
+    spare: &mut SpareKeys,
+) -> Result<Option<Diagnostic<'a>>, AllocError>
     ensures { IfOk result (λ diagnostic. diagnostic ≡ option_map diagnostic_from (parts_in plain.now)) }
 {
     let Some((at, severity)) = find_word(plain) else {
         return Ok(None);
     };
-    let diagnostic = from_parts(alloc, &plain[..at], severity, &plain[at..])?;
+    let diagnostic = from_parts(alloc, &plain[..at], severity, &plain[at..], spare)?;
     Ok(Some(diagnostic))
 }
 
@@ -147,6 +165,7 @@ fn from_parts<'a>(
     head: &'a [u8],
     severity: Severity,
     tail: &'a [u8],
+    spare: &mut SpareKeys,
 ) -> Result<Diagnostic<'a>, AllocError>
     ensures { IfOk result (λ diagnostic. diagnostic ≡ diagnostic_from (record { head = head.now; severity = severity; tail = tail.now })) }
 {
@@ -157,7 +176,7 @@ fn from_parts<'a>(
         place,
         message,
         flag,
-        key: key_of(alloc, origin, tail)?,
+        key: key_of(alloc, origin, tail, spare)?,
     })
 }
 

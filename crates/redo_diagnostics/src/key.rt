@@ -4,14 +4,20 @@ ghost use Rattle.std.specs.Char.{is_ascii_alphanumeric};
 ghost use Rattle.std.specs.List.{list_all};
 ghost use Rattle.redo_diagnostics.specs.Diagnostic as spec;
 
+use crate::spare::SpareKeys;
 use crate::split::split_text;
 use std::alloc::{AllocError, Global};
 
-/// Returns the key of a diagnostic, from the file or program that it names, and the bytes from its word on.
-pub fn key_of(alloc: Global, origin: &[u8], tail: &[u8]) -> Result<Vec<u8>, AllocError>
+/// Returns the key of a diagnostic, from the file or program that it names, and the bytes from its word on. It may have a spare vector.
+pub fn key_of(
+    alloc: Global,
+    origin: &[u8],
+    tail: &[u8],
+    spare: &mut SpareKeys,
+) -> Result<Vec<u8>, AllocError>
     ensures { IfOk result (λ key. key.items ≡ spec.masked (origin.now ++ codes ": " ++ tail.now)) }
 {
-    let bytes = whole_key(alloc, origin, tail)?;
+    let bytes = whole_key(alloc, origin, tail, spare)?;
     if has_temporary(&bytes) {
         masked(alloc, &bytes)
     } else {
@@ -19,12 +25,18 @@ pub fn key_of(alloc: Global, origin: &[u8], tail: &[u8]) -> Result<Vec<u8>, Allo
     }
 }
 
-// Returns the key before names of temporary files are replaced in it. One allocation has all of it.
-fn whole_key(alloc: Global, origin: &[u8], tail: &[u8]) -> Result<Vec<u8>, AllocError>
+// Returns the key before names of temporary files are replaced in it. It takes at most one allocation.
+fn whole_key(
+    alloc: Global,
+    origin: &[u8],
+    tail: &[u8],
+    spare: &mut SpareKeys,
+) -> Result<Vec<u8>, AllocError>
     ensures { IfOk result (λ key. key.items ≡ origin.now ++ codes ": " ++ tail.now) }
 {
     let size = origin.len().saturating_add(tail.len()).saturating_add(2);
-    let mut bytes = Vec::with_capacity(alloc, size)?;
+    let mut bytes = spare.take(alloc);
+    bytes.reserve(size)?;
     bytes.extend_from_slice(origin)?;
     bytes.extend_from_slice(b": ")?;
     bytes.extend_from_slice(tail)?;

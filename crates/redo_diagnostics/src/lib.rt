@@ -10,7 +10,8 @@
 //! - A word ends with its only colon, so the code looks for a word only before each colon. The definition tests each place.
 //!   [`may_have_diagnostic`] rules out many lines at once.
 //! - A diagnostic borrows from its line, or from the buffer that a line with colours or links is copied to without them. Only its key is
-//!   allocated, and the key moves into [`KeyCounts`] without a copy.
+//!   allocated, and the key moves into [`KeyCounts`] without a copy. All keys of a log are given up together, which takes the allocator
+//!   as long as their allocation; so [`SpareKeys`] keeps their vectors for the keys of the next log.
 //! - A key always has a colon and a space after its origin, even if the origin is empty: `warning: x` has the key `: warning: x`.
 //!   Otherwise `warning:y warning: z` and `warning: warning: z` would have the same key.
 //! - What precedes the word doesn't count without a colon. It names no file and no program, and is often a number that changes: of a
@@ -28,15 +29,17 @@ mod laws;
 mod place;
 mod plain;
 mod severity;
+mod spare;
 mod split;
 mod text;
 mod word;
 
 pub use counts::KeyCounts;
-pub use diagnostic::{Diagnostic, may_have_diagnostic, read_diagnostic};
+pub use diagnostic::{Diagnostic, may_have_diagnostic, read_diagnostic, read_diagnostic_with};
 pub use laws::{
     colours_and_links_say_nothing, ids_are_distinct, keys_ignore_places, keys_tell_apart,
 };
 pub use place::Place;
 pub use plain::push_plain;
 pub use severity::Severity;
+pub use spare::SpareKeys;

@@ -29,6 +29,10 @@ impl Text {
         Text { bytes }
     }
 
+    pub fn into_bytes(self) -> Vec<u8> {
+        self.bytes
+    }
+
     pub fn bytes(&self) -> &[u8]
         ensures { result.now ≡ self.now }
     {

@@ -1,6 +1,7 @@
 -- Objects that are joined in memory.
-use Rattle.std.proofs.Common.{◌≡◌, ℕ, Bool, List, [], ◌++◌, Option, Result, Ok, Err, ap, ◌∙◌, append_assoc}
-use Rattle.std.specs.Prelude.{OnOk}
+use Rattle.std.proofs.Common.{◌≡◌, ◌<◌, ◌≤◌, ◌/◌, ◌%◌, ℕ, Bool, List, [], ◌++◌, Option, Result, Ok, Err, sym, ap, ◌∙◌, arith, append_assoc}
+use Rattle.std.specs.Prelude.{OnOk, decimal}
+use Rattle.std.proofs.lemmas.Fmt.{decimal_digit, decimal_step}
 use Rattle.redo_diagnostics.specs.Counts.{stored, times_of}
 use Rattle.redo_diagnostics.specs.Diagnostic.{DiagnosticValue}
 use Rattle.redo_json.specs.Diagnostics.{LogDiagnostic}
@@ -21,6 +22,11 @@ pub appended_then : {E : Type 0} (done : Result (Unit {0}) E) (before middle aft
 appended_then (Ok u) before middle after first second one two =
     record { is = two.is ∙ ap (λ (l : List ℕ). l ++ second) one.is ∙ append_assoc before first second }
 appended_then (Err e) before middle after first second one two = tt
+
+-- A number and its last digit.
+pub last_digit : (n : ℕ) → 10 ≤ n → n < 1000 → decimal (n / 10) ++ decimal (n % 10) ≡ decimal n
+last_digit n low high =
+    ap (λ (l : List ℕ). decimal (n / 10) ++ l) (decimal_digit (n % 10) (omega arith)) ∙ sym (decimal_step n low (omega (arith, high)))
 
 -- The three parts of an object.
 pub object_is : (is_first : Bool) (position nth : ℕ) (value : DiagnosticValue) (new : Option Bool) (keys : List (List ℕ))

@@ -15,6 +15,7 @@ use crate::needs::needs_of;
 use crate::object::{LogObject, write_object};
 use redo_compare::{Baseline, TargetChanges};
 use redo_device::Sink;
+use redo_diagnostics::SpareKeys;
 use redo_facts::{Command, Facts, Usage};
 use redo_line::{HashKeys, TargetName};
 use redo_logs::LogTable;
@@ -99,13 +100,23 @@ fn write_logs<W: Sink>(
         (flat_map (λ node. with_line_feed (object_text (node_values (request_of request.now) table.now nodes.now node))) nodes.now) result }
 {
     let mut buffer = Vec::new(alloc);
+    let mut spare = SpareKeys::new(alloc);
     for node in nodes {
-        write_log(alloc, table, request, nodes, node, &mut buffer, out)?;
+        write_log(
+            alloc,
+            table,
+            request,
+            nodes,
+            node,
+            &mut buffer,
+            &mut spare,
+            out,
+        )?;
     }
     Ok(())
 }
 
-// Writes the object of one of these nodes. `buffer` is overwritten.
+// Writes the object of one of these nodes. `buffer` is overwritten. Keys may have vectors of `spare`.
 fn write_log<W: Sink>(
     alloc: Global,
     table: &LogTable,
@@ -113,6 +124,7 @@ fn write_log<W: Sink>(
     nodes: &[Node],
     node: &Node,
     buffer: &mut Vec<u8>,
+    spare: &mut SpareKeys,
     out: &mut W,
 ) -> Result<(), FormFault>
     ensures { FormWrites (W.written out.old) (W.written out.new)
@@ -140,7 +152,7 @@ fn write_log<W: Sink>(
         number: node.number,
         changes: changes.as_ref(),
     };
-    write_object(alloc, request.keys, &log, buffer, out)
+    write_object(alloc, request.keys, &log, buffer, spare, out)
 }
 
 // Returns what changed in the target of a node since the baseline, if there is one.

@@ -18,14 +18,14 @@ use crate::log_lines::LogLines;
 use crate::part::{Part, write_parts};
 use crate::plain::is_verbatim;
 use redo_device::{Broken, Sink, push_all};
-use redo_diagnostics::{Diagnostic, KeyCounts, Place, Severity, read_diagnostic};
+use redo_diagnostics::{Diagnostic, KeyCounts, Place, Severity, SpareKeys, read_diagnostic_with};
 use redo_line::HashKeys;
 use redo_logs::LogTable;
 use redo_view::FormFault;
 use std::alloc::Global;
 
-/// Writes a member with the diagnostics of a log. Their keys are hashed with `keys`. If there is a baseline, `flags` says of each
-/// diagnostic, in order, whether it is new. `buffer` is overwritten.
+/// Writes a member with the diagnostics of a log. Their keys are hashed with `keys`, and may have vectors of `spare`. If there is a
+/// baseline, `flags` says of each diagnostic, in order, whether it is new. `buffer` is overwritten.
 pub fn write_diagnostics<W: Sink>(
     alloc: Global,
     keys: HashKeys,
@@ -33,13 +33,14 @@ pub fn write_diagnostics<W: Sink>(
     table: &LogTable,
     number: u32,
     buffer: &mut Vec<u8>,
+    spare: &mut SpareKeys,
     out: &mut W,
 ) -> Result<(), FormFault>
     ensures { FormWrites (W.written out.old) (W.written out.new)
         (comma_field (diagnostics_field (option_copied flags.entry) (texts_of (entries_at number table.now)))) result }
 {
     push_all(out, b",\"diagnostics\":[")?;
-    write_each(alloc, keys, flags, table, number, buffer, out)?;
+    write_each(alloc, keys, flags, table, number, buffer, spare, out)?;
     push_all(out, b"]")?;
     Ok(())
 }
@@ -52,6 +53,7 @@ fn write_each<W: Sink>(
     table: &LogTable,
     number: u32,
     buffer: &mut Vec<u8>,
+    spare: &mut SpareKeys,
     out: &mut W,
 ) -> Result<(), FormFault>
     ensures { FormWrites (W.written out.old) (W.written out.new)
@@ -63,7 +65,7 @@ fn write_each<W: Sink>(
     let mut is_first = true;
     let mut left = flags;
     'each: while let Some((position, line)) = lines.next_candidate() {
-        if let Some(diagnostic) = read_diagnostic(alloc, line, &mut plain)? {
+        if let Some(diagnostic) = read_diagnostic_with(alloc, line, &mut plain, spare)? {
             let (new, others) = next_flag(left);
             write_diagnostic(
                 alloc,
@@ -79,6 +81,7 @@ fn write_each<W: Sink>(
             left = others;
         }
     }
+    counts.into_spare(spare);
     Ok(())
 }
 

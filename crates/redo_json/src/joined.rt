@@ -1,5 +1,5 @@
 //! Diagnostics whose strings are written as they are. The object of each is joined in memory, and is one write.
-ghost use Rattle.std.specs.Prelude.{◌≡◌, ◌∷◌, ◌++◌, ℕ, List, [], Some, IfSome, None, OnOk, codes, decimal, option_copied};
+ghost use Rattle.std.specs.Prelude.{◌≡◌, ◌<◌, ◌≤◌, ◌∷◌, ◌++◌, ℕ, List, [], Some, IfSome, None, OnOk, codes, decimal, option_copied};
 ghost use Rattle.json.specs.Print.{print};
 ghost use Rattle.json.specs.Tree.{json_tokens};
 ghost use Rattle.redo_diagnostics.specs.Counts.{AreCounts, stored, times_of};
@@ -96,11 +96,48 @@ fn join_column(column: Option<u32>, object: &mut Vec<u8>) -> Result<(), AllocErr
     }
 }
 
+// Appends a number. Most are small, and are written without a buffer.
 fn join_number(value: u64, object: &mut Vec<u8>) -> Result<(), AllocError>
     ensures { OnOk result (IsAppended object.old.items object.new.items (decimal value)) }
 {
+    if value < 10 {
+        return join_digit(value, object);
+    }
+    if value < 100 {
+        return join_two(value, object);
+    }
+    if value < 1000 {
+        return join_three(value, object);
+    }
     let mut buffer = Buffer::new();
     join_bytes(buffer.format(value).as_bytes(), object)
+}
+
+// Appends a number of two digits.
+fn join_two(value: u64, object: &mut Vec<u8>) -> Result<(), AllocError>
+    requires { (10 ≤ value) × (value < 100) }
+    ensures { OnOk result (IsAppended object.old.items object.new.items (decimal value)) }
+{
+    join_digit(value / 10, object)?;
+    join_digit(value % 10, object)
+}
+
+// Appends a number of three digits.
+fn join_three(value: u64, object: &mut Vec<u8>) -> Result<(), AllocError>
+    requires { (100 ≤ value) × (value < 1000) }
+    ensures { OnOk result (IsAppended object.old.items object.new.items (decimal value)) }
+{
+    join_two(value / 10, object)?;
+    join_digit(value % 10, object)
+}
+
+#[inline(always)]
+fn join_digit(digit: u64, object: &mut Vec<u8>) -> Result<(), AllocError>
+    requires { digit < 10 }
+    ensures { OnOk result (IsAppended object.old.items object.new.items (decimal digit)) }
+{
+    object.push(b'0' + digit as u8)?;
+    Ok(())
 }
 
 // Appends the strings with the message, the flag and the key of a diagnostic, from the first byte of its message to the last one of its key.

@@ -13,7 +13,7 @@
 //!   diagnostics. So no object is held in memory, only the commands and the needs of one log, and the keys of its diagnostics. For the
 //!   exact bytes, lines that are stored together are tested together first: if all are UTF-8, no line is read.
 //! - Most diagnostics are written without escapes. The object of such a diagnostic is joined in memory, and takes one write. Only its key
-//!   is allocated: the other strings are borrowed from the line.
+//!   is a copy, in a vector of an earlier log's key if there is one: the other strings are borrowed from the line.
 //! - The definition is a recursion over the tree of what is shown. The code iterates over the nodes of the outline.
 //! - Base64 is encoded in chunks of 768 bytes, on the stack, and written as the text of any string is. No proof knows its alphabet.
 //! - If there is a baseline, a log is compared before its object is written: `redo_compare` says of each diagnostic whether it is new, as a

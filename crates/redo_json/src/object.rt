@@ -16,6 +16,7 @@ use crate::list::write_list;
 use crate::part::{Part, write_parts};
 use redo_compare::TargetChanges;
 use redo_device::{Broken, Sink, push_all};
+use redo_diagnostics::SpareKeys;
 use redo_line::HashKeys;
 use redo_logs::LogTable;
 use redo_view::FormFault;
@@ -52,12 +53,14 @@ pub struct LogObject<'a> {
     pub changes: Option<&'a TargetChanges>,
 }
 
-/// Writes the object of a log, and a line feed. The keys of diagnostics are hashed with `keys`. `buffer` is overwritten.
+/// Writes the object of a log, and a line feed. The keys of diagnostics are hashed with `keys`, and may have vectors of `spare`.
+/// `buffer` is overwritten.
 pub fn write_object<W: Sink>(
     alloc: Global,
     keys: HashKeys,
     log: &LogObject<'_>,
     buffer: &mut Vec<u8>,
+    spare: &mut SpareKeys,
     out: &mut W,
 ) -> Result<(), FormFault>
     ensures { FormWrites (W.written out.old) (W.written out.new) (with_line_feed (object_text (values_of log.now))) result }
@@ -70,6 +73,7 @@ pub fn write_object<W: Sink>(
         log.table,
         log.number,
         buffer,
+        spare,
         out,
     )?;
     write_baseline(log.changes, out)?;

@@ -3,7 +3,7 @@ use Rattle.std.specs.Prelude.{IfOk, option_map}
 use Rattle.redo_diagnostics.specs.Diagnostic.{DiagnosticValue, diagnostic_from, parts_in}
 use Rattle.redo_diagnostics.specs.Plain.{plain_line}
 use Rattle.redo_diagnostics.proofs.ReadLemmas.{of_line, of_no_colon, of_plain}
-use Rattle.redo_diagnostics.proofs.diagnostic.read_diagnostic.Goals as goal
+use Rattle.redo_diagnostics.proofs.diagnostic.read_diagnostic_with.Goals as goal
 
 pub returns-then-is_none : goal.returns-then-is_none
 returns-then-is_none c = subst (λ (value : Option DiagnosticValue). IfOk c.read_plain.result (λ diagnostic. diagnostic ≡ value))
