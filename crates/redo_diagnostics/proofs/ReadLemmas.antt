@@ -3,7 +3,7 @@ use Rattle.std.proofs.Common.{◌≡◌, ℕ, false, List, Option, None, refl, s
 use Rattle.std.specs.Prelude.{is_some, option_and_then, option_map}
 use Rattle.memchr.specs.Find.{IsFirstByte, is_byte}
 use Rattle.redo_line.specs.Record.{colon}
-use Rattle.redo_line.proofs.PartLemmas.{parted_free}
+use Rattle.redo_line.proofs.PartLemmas.{HasNo, parted_free}
 use Rattle.redo_diagnostics.specs.Diagnostic.{diagnostic_from, diagnostic_of, parts_at, parts_in}
 use Rattle.redo_diagnostics.specs.Plain.{plain_line}
 use Rattle.redo_diagnostics.proofs.FlagLemmas.{byte_nowhere}
@@ -15,6 +15,11 @@ unfolding diagnostic_of
 of_plain line = refl
 
 -- A line without colons says nothing.
+pub of_none : (plain : List ℕ) → HasNo colon plain → None ≡ option_map diagnostic_from (parts_in plain)
+of_none plain free =
+    sym (ap (λ (place : Option ℕ). option_map diagnostic_from (option_and_then (λ (n : ℕ). parts_at plain n) place))
+    (no_colon_no_word plain free))
+
 pub of_no_colon : (line : List ℕ) (found : Option ℕ) → IsFirstByte (is_byte colon) line found → is_some found ≡ false
     → None ≡ diagnostic_of line
 unfolding diagnostic_of

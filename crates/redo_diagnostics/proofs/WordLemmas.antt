@@ -1,9 +1,9 @@
 -- The first word of a plain line.
 use Rattle.std.proofs.Common.{◌≡◌, ◌≢◌, ℕ, zero, suc, ◌+◌, ◌-◌, ◌<◌, ◌≤◌, ◌==◌, Bool, true, false, cond, ◌&&◌, ◌||◌, List, [], ◌∷◌, Option, None, Some, length, take, drop, get_or, refl, sym, ◌∙◌, ap, subst, arith, zero-le, ⊎_elim}
-use Rattle.std.specs.Prelude.{is_some, slice_index}
+use Rattle.std.specs.Prelude.{is_some, option_map, slice_index}
 use Rattle.std.specs.Str.{bytes_eq}
 use Rattle.std.proofs.lemmas.Bool.{and_parts, cases_lt, eq-eqb, false_from_ne_true}
-use Rattle.std.proofs.lemmas.List.{get_or-drop, get_or-take, length-drop}
+use Rattle.std.proofs.lemmas.List.{get_or-drop, get_or-take, length-drop, length-take}
 use Rattle.std.proofs.lemmas.Option.{none-some, same_Some}
 use Rattle.memchr.specs.Find.{NoneBefore, Nowhere, OccursAt, Passes, is_byte, occurs_at}
 use Rattle.memchr.proofs.lemmas.MatchLemmas.{OccursAt-true}
@@ -12,8 +12,8 @@ use Rattle.redo_line.proofs.PartLemmas.{HasNo}
 use Rattle.redo_diagnostics.specs.declared.severity.Severity.{Severity}
 use Rattle.redo_diagnostics.specs.declared.severity.Severity.TheVariants.{Warning, Error, FatalError}
 use Rattle.redo_diagnostics.specs.Diagnostic.{first_place, is_word_at, severity_at, severity_in, word_of, word_place}
-use Rattle.redo_diagnostics.specs.Private.Words.{IsFirstBefore, IsWordBefore}
-use Rattle.redo_diagnostics.proofs.FlagLemmas.{passes_inside}
+use Rattle.redo_diagnostics.specs.Private.Words.{EndAfter, IsColonOf, IsFirstBefore, IsFirstColon, IsWordBefore}
+use Rattle.redo_diagnostics.proofs.FlagLemmas.{nowhere_free, passes_inside}
 
 -- ---- the severities at a place
 
@@ -186,11 +186,6 @@ no_colon_no_word plain free = place_nowhere plain (λ place. no_severity plain p
 
 -- ---- the first word
 
--- Each word ends after this byte.
-abbrev pub EndAfter : List ℕ → ℕ → Type 0
-EndAfter plain from = (severity : Severity) (place : ℕ) → is_word_at plain severity place ≡ true
-    → from < place + length (word_of severity)
-
 pub end_after_start : (plain : List ℕ) → EndAfter plain 0
 end_after_start plain severity place is = let some = some_letters severity in omega (arith, some)
 
@@ -314,3 +309,47 @@ module _ (plain word : List ℕ) (end : ℕ) (severity : Severity) (place : ℕ)
       ∙ (and_parts (occurs_at plain (word_of severity) place) (starts_well plain place)
       (and_parts (occurs_at plain (word_of severity) place && starts_well plain place)
       (ends_well plain (place + length (word_of severity))) is.0).0).1
+
+-- ---- the first colon
+
+module _ (plain : List ℕ) (at : ℕ) (first : IsFirstColon plain at) where
+  one : at + 1 ≡ 0 + at + 1
+  one = omega arith
+
+  pub end_fits_first : at + 1 ≤ length plain
+  end_fits_first = let below = first.0.high in omega (arith, below)
+
+  module _ (found : ℕ × Severity) (is : IsFirstBefore plain (at + 1) (Some found)) where
+    pub place_is_first : option_map (λ (one : ℕ × Severity). one.0) (Some found) ≡ word_place plain
+    place_is_first = place_is plain plain 0 refl zero-le (end_after_start plain) at first found
+        (subst (λ (n : ℕ). IsFirstBefore plain n (Some found)) one is)
+
+    pub severity_first : severity_at plain found.0 ≡ Some found.1
+    severity_first = severity_found plain plain 0 refl zero-le (end_after_start plain) at first found
+        (subst (λ (n : ℕ). IsFirstBefore plain n (Some found)) one is)
+
+  pub none_first : IsFirstBefore plain (at + 1) None → EndAfter plain (at + 1)
+  none_first none = subst (EndAfter plain) (sym one) (none_here plain plain 0 refl zero-le (end_after_start plain) at first
+      (subst (λ (n : ℕ). IsFirstBefore plain n None) one none))
+
+  -- The bytes before a word.
+  pub colon_of_head : (place : ℕ) → place ≤ length plain → IsColonOf (take place plain) at
+  colon_of_head place within =
+      let size = length-take place plain in
+      let byte : (k : ℕ) → k < place → Passes (is_byte colon) (take place plain) k → Passes (is_byte colon) plain k =
+      (λ k below. subst (λ (b : ℕ). is_byte colon b ≡ true) (get_or-take place plain k 0 below)) in
+      record {
+        within = λ below.
+            let short : at < place = omega (arith, below, size) in (
+              record {
+                low = zero-le;
+                high = below;
+                before = λ k low sooner passes. first.0.before k low sooner (byte k (omega (arith, sooner, short)) passes);
+              },
+              subst (λ (b : ℕ). is_byte colon b ≡ true) (sym (get_or-take place plain at 0 short)) first.1,
+            );
+        none = λ past.
+            nowhere_free colon (take place plain) (λ k low below passes.
+            let short : k < place = omega (arith, below, size) in
+            first.0.before k low (omega (arith, past, below)) (byte k short passes));
+      }

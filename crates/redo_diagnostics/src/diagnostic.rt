@@ -3,6 +3,7 @@ ghost use Rattle.std.specs.List.{AllByRecursion};
 ghost use Rattle.redo_line.specs.Lines.{ended};
 ghost use Rattle.redo_diagnostics.specs.Diagnostic.{diagnostic_from, diagnostic_of, flag_in, message_in, parts_in, word_of};
 ghost use Rattle.redo_diagnostics.specs.Diagnostic as spec;
+ghost use Rattle.redo_diagnostics.specs.Private.Words.{IsColonOf};
 
 use crate::flag::split_flag;
 use crate::key::key_of;
@@ -152,24 +153,29 @@ fn read_plain<'a>(
 ) -> Result<Option<Diagnostic<'a>>, AllocError>
     ensures { IfOk result (λ diagnostic. diagnostic ≡ option_map diagnostic_from (parts_in plain.now)) }
 {
-    let Some((at, severity)) = find_word(plain) else {
+    let Some(colon) = memchr(b':', plain) else {
         return Ok(None);
     };
-    let diagnostic = from_parts(alloc, &plain[..at], severity, &plain[at..], spare)?;
+    let Some((at, severity)) = find_word(plain, colon) else {
+        return Ok(None);
+    };
+    let diagnostic = from_parts(alloc, &plain[..at], colon, severity, &plain[at..], spare)?;
     Ok(Some(diagnostic))
 }
 
-// Returns the diagnostic with these bytes before its word, and these from the word on.
+// Returns the diagnostic with these bytes before its word, and these from the word on. `colon` is the place of the first colon of both.
 fn from_parts<'a>(
     alloc: Global,
     head: &'a [u8],
+    colon: usize,
     severity: Severity,
     tail: &'a [u8],
     spare: &mut SpareKeys,
 ) -> Result<Diagnostic<'a>, AllocError>
+    requires { IsColonOf head.now colon }
     ensures { IfOk result (λ diagnostic. diagnostic ≡ diagnostic_from (record { head = head.now; severity = severity; tail = tail.now })) }
 {
-    let (origin, place) = origin_and_place(head);
+    let (origin, place) = origin_and_place(head, colon);
     let (message, flag) = message_and_flag(text_of(severity, tail));
     Ok(Diagnostic {
         severity,

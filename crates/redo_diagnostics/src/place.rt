@@ -1,11 +1,11 @@
 //! The place that a diagnostic is about.
 ghost use Rattle.std.specs.Prelude.{◌≡◌, None, Some, IfNone, IfSome, option_and_then, option_map};
 ghost use Rattle.redo_line.specs.Parts.{split_once};
-ghost use Rattle.redo_line.specs.Record.{colon};
+ghost use Rattle.redo_line.specs.Record as record_bytes;
 ghost use Rattle.redo_diagnostics.specs.Diagnostic as spec;
 ghost use Rattle.redo_diagnostics.specs.Diagnostic.{place_from};
+ghost use Rattle.redo_diagnostics.specs.Private.Words.{IsColonOf};
 
-use crate::split::split_text;
 use redo_line::{read_number, split_at_first};
 use std::marker::Model;
 
@@ -48,21 +48,23 @@ impl<'a> Place<'a> {
     }
 }
 
-/// Returns the file or program that the bytes before a word name, and the place in them: `F:R: ` or `F:R:C: `. Both need the first colon,
-/// which is looked for once.
-pub fn origin_and_place(head: &[u8]) -> (&[u8], Option<Place<'_>>)
+/// Returns the file or program that the bytes before a word name, and the place in them: `F:R: ` or `F:R:C: `. `colon` is the place of their
+/// first colon, or behind them if they have none.
+pub fn origin_and_place(head: &[u8], colon: usize) -> (&[u8], Option<Place<'_>>)
+    requires { IsColonOf head.now colon }
     ensures origin { result.0.now ≡ spec.origin_of head.now }
     ensures place { result.1 ≡ spec.place_of head.now }
 {
-    match split_text(b':', head) {
-        Some((file, others)) => (file, place_of(file, others)),
-        None => (b"", None),
+    if colon >= head.len() {
+        return (b"", None);
     }
+    let file = &head[..colon];
+    (file, place_of(file, &head[colon + 1..]))
 }
 
 // Returns the place, from the bytes before and after the first colon.
 fn place_of<'a>(file: &'a [u8], others: &[u8]) -> Option<Place<'a>>
-    ensures { result ≡ place_from file.now (option_and_then (λ row. spec.row_and_column row) (split_once colon others.now)) }
+    ensures { result ≡ place_from file.now (option_and_then (λ row. spec.row_and_column row) (split_once record_bytes.colon others.now)) }
 {
     if file.is_empty() {
         return None;

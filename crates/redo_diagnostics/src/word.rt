@@ -2,7 +2,7 @@
 ghost use Rattle.std.specs.Prelude.{◌≡◌, ◌+◌, ◌-◌, ◌≤◌, ◌==◌, ◌||◌, true, length, get_or, IfSome, option_map};
 ghost use Rattle.redo_line.specs.Record.{space};
 ghost use Rattle.redo_diagnostics.specs.Diagnostic as spec;
-ghost use Rattle.redo_diagnostics.specs.Private.Words.{IsFirstBefore, IsPlaceBefore};
+ghost use Rattle.redo_diagnostics.specs.Private.Words.{EndAfter, IsFirstBefore, IsFirstColon, IsPlaceBefore};
 
 use crate::severity::Severity;
 use memchr::memchr;
@@ -18,14 +18,29 @@ pub fn word_of(severity: Severity) -> &'static [u8]
     }
 }
 
-/// Returns the first word of a plain line, and its place. It looks for words only before colons: each word ends with its only colon,
-/// so a word that ends with a later colon begins later.
-pub fn find_word(plain: &[u8]) -> Option<(usize, Severity)>
+/// Returns the first word of a plain line, and its place. `colon` is the place of the first colon. It looks for words only before colons:
+/// each word ends with its only colon, so a word that ends with a later colon begins later.
+pub fn find_word(plain: &[u8], colon: usize) -> Option<(usize, Severity)>
+    requires { IsFirstColon plain.now colon }
     ensures place { option_map (λ found. found.0) result ≡ spec.word_place plain.now }
     ensures severity { IfSome result (λ found. spec.severity_at plain.now found.0 ≡ Some found.1) }
     ensures range { IfSome result (λ found. found.0 + length (spec.word_of found.1) ≤ length plain.now) }
 {
-    let mut from = 0;
+    if let Some(found) = word_before(plain, colon + 1) {
+        return Some(found);
+    }
+    find_later_word(plain, colon + 1)
+}
+
+// Returns the first word of a plain line, and its place, if each word ends after `start`.
+fn find_later_word(plain: &[u8], start: usize) -> Option<(usize, Severity)>
+    requires few { start ≤ length plain.now }
+    requires after { EndAfter plain.now start }
+    ensures place { option_map (λ found. found.0) result ≡ spec.word_place plain.now }
+    ensures severity { IfSome result (λ found. spec.severity_at plain.now found.0 ≡ Some found.1) }
+    ensures range { IfSome result (λ found. found.0 + length (spec.word_of found.1) ≤ length plain.now) }
+{
+    let mut from = start;
     'colons: while let Some(at) = memchr(b':', &plain[from..]) {
         let end = from + at + 1;
         if let Some(found) = word_before(plain, end) {

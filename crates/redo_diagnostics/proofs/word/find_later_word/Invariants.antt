@@ -1,6 +1,6 @@
 use Rattle.std.proofs.Common.{◌-◌, ◌≤◌, length}
-use Rattle.redo_diagnostics.proofs.WordLemmas.{EndAfter}
-use Rattle.redo_diagnostics.proofs.word.find_word.Given as goal
+use Rattle.redo_diagnostics.specs.Private.Words.{EndAfter}
+use Rattle.redo_diagnostics.proofs.word.find_later_word.Given as goal
 
 -- Each word ends after `from`.
 abbrev pub invariant-colons : goal.invariant-colons
