@@ -29,9 +29,11 @@ of_no_colon line found first is =
     (no_colon_no_word (plain_line line) free))
 
 -- A line without escape bytes is plain.
+pub of_free : (line : List ℕ) → HasNo escape line → option_map diagnostic_from (parts_in line) ≡ diagnostic_of line
+of_free line free =
+    ap (λ (bytes : List ℕ). option_map diagnostic_from (parts_in bytes)) (sym (plain-rest line (parted_free escape line free)))
+    ∙ of_plain line
+
 pub of_line : (line : List ℕ) (found : Option ℕ) → IsFirstByte (is_byte escape) line found → is_some found ≡ false
     → option_map diagnostic_from (parts_in line) ≡ diagnostic_of line
-of_line line found first is =
-    ap (λ (bytes : List ℕ). option_map diagnostic_from (parts_in bytes))
-    (sym (plain-rest line (parted_free escape line (byte_nowhere escape line found first is))))
-    ∙ of_plain line
+of_line line found first is = of_free line (byte_nowhere escape line found first is)

@@ -1,4 +1,4 @@
-ghost use Rattle.std.specs.Prelude.{◌≡◌, false, None, Some, IfNone, IfOk, IfSome, ◌+◌, drop, length, option_copied, option_map};
+ghost use Rattle.std.specs.Prelude.{◌≡◌, ◌≢◌, false, None, Some, IfNone, IfOk, IfSome, ◌+◌, drop, length, option_copied, option_map};
 ghost use Rattle.std.specs.List.{AllByRecursion};
 ghost use Rattle.redo_line.specs.Lines.{ended};
 ghost use Rattle.redo_diagnostics.specs.Diagnostic.{diagnostic_from, diagnostic_of, flag_in, message_in, parts_in, word_of};
@@ -126,6 +126,18 @@ pub fn read_diagnostic_with<'a>(
     plain.clear();
     push_plain(line, plain)?;
     read_plain(alloc, plain, spare)
+}
+
+/// Does the same for a line that is known to have no escape byte.
+pub fn read_plain_diagnostic<'a>(
+    alloc: Global,
+    line: &'a [u8],
+    spare: &mut SpareKeys,
+) -> Result<Option<Diagnostic<'a>>, AllocError>
+    requires { AllByRecursion (λ byte. byte ≢ 27) line.now }
+    ensures { IfOk result (λ diagnostic. diagnostic ≡ diagnostic_of line.now) }
+{
+    read_plain(alloc, line, spare)
 }
 
 /// Returns false only if none of these lines is a diagnostic. Each line ends with a line feed. How often it returns true changes only the

@@ -35,7 +35,9 @@ mod text;
 mod word;
 
 pub use counts::KeyCounts;
-pub use diagnostic::{Diagnostic, may_have_diagnostic, read_diagnostic, read_diagnostic_with};
+pub use diagnostic::{
+    Diagnostic, may_have_diagnostic, read_diagnostic, read_diagnostic_with, read_plain_diagnostic,
+};
 pub use laws::{
     colours_and_links_say_nothing, ids_are_distinct, keys_ignore_places, keys_tell_apart,
 };

@@ -49,7 +49,7 @@ impl<'a> Place<'a> {
 }
 
 /// Returns the file or program that the bytes before a word name, and the place in them: `F:R: ` or `F:R:C: `. `colon` is the place of their
-/// first colon, or behind them if they have none.
+/// first colon, or after them if they have none.
 pub fn origin_and_place(head: &[u8], colon: usize) -> (&[u8], Option<Place<'_>>)
     requires { IsColonOf head.now colon }
     ensures origin { result.0.now ≡ spec.origin_of head.now }

@@ -10,13 +10,13 @@ use Rattle.redo_line.specs.Lines.{ended}
 use Rattle.redo_logs.specs.Logs.{Log}
 use Rattle.redo_json.specs.Diagnostics.{flagged, numbered_from, placed_from, placed_if}
 use Rattle.redo_json.specs.Private.Diagnosing.{WroteDiagnostics}
-use Rattle.redo_json.specs.Private.LogLines.{AreCandidates, AreNextLines, IsNextCandidate, Remaining, texts_from}
+use Rattle.redo_json.specs.Private.LogLines.{AreCandidates, AreNextLines, AreVerbatim, IsNextCandidate, Remaining, texts_from}
 use Rattle.redo_json.specs.Private.Parts.{diagnostics_text}
 use Rattle.redo_json.proofs.LogLineLemmas.{is_nothing}
 use Rattle.redo_json.proofs.WritingLemmas.{left_is}
 
 pub same_lines : (lines : Remaining) → AreCandidates lines lines
-same_lines lines = record { placed = refl; fewer = omega arith; later = omega arith }
+same_lines lines = record { placed = refl; fewer = omega arith; later = omega arith; verbatim = λ all. all }
 
 pub more_skipped : (before between after : Remaining) → AreCandidates before between → AreCandidates between after
     → AreCandidates before after
@@ -24,6 +24,7 @@ more_skipped before between after first second = record {
   placed = first.placed ∙ second.placed;
   fewer = let few = first.fewer in let fewer = second.fewer in omega (arith, few, fewer);
   later = let late = first.later in let later = second.later in omega (arith, late, later);
+  verbatim = λ all. second.verbatim (first.verbatim all);
 }
 
 -- Lines without diagnostics have no part in what is found.
@@ -36,6 +37,11 @@ placed_after (line ∷ skipped) others position none =
     ap (λ (found : Option DiagnosticValue). placed_if position found (placed_from (suc position) (skipped ++ others))) none.0
     ∙ placed_after skipped others (suc position) none.1 ∙ ap (λ (n : ℕ). placed_from n others) same
 
+-- Lines after others.
+verbatim_after : (skipped others : List (List ℕ)) → AreVerbatim (skipped ++ others) → AreVerbatim others
+verbatim_after [] others all = all
+verbatim_after (line ∷ skipped) others all = verbatim_after skipped others all.1
+
 -- A stretch without diagnostics.
 pub skips_stretch : (logs : List Log) (number at before count after : ℕ) (lines : List ℕ) → AreNextLines logs number at lines after
     → count ≡ length (ended lines) → AllByRecursion (λ line. diagnostic_of line ≡ None) (ended lines)
@@ -47,6 +53,7 @@ skips_stretch logs number at before count after lines are counted none = record 
   fewer = let split = ap length are.split in let sum = length-append (ended lines) (texts_from logs number after) in
       omega (arith, split, sum);
   later = omega arith;
+  verbatim = λ all. verbatim_after (ended lines) (texts_from logs number after) (subst AreVerbatim are.split all);
 }
 
 -- A stretch that isn't skipped.
@@ -57,6 +64,7 @@ takes_stretch logs number at before after lines are = record {
   placed = ap (placed_from before) are.split;
   fewer = let split = ap length are.split in omega (arith, split);
   later = omega arith;
+  verbatim = subst AreVerbatim are.split;
 }
 
 -- Nothing is left of the last stretch.

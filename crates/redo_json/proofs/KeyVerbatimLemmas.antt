@@ -20,23 +20,23 @@ use Rattle.redo_json.proofs.VerbatimLemmas.{verbatim_bytes}
 abbrev pub Fit : List ℕ → Type 0
 Fit bytes = list_all is_verbatim_byte bytes ≡ true
 
-fit-cons : (byte : ℕ) (bytes : List ℕ) → Fit (byte ∷ bytes) → (is_verbatim_byte byte ≡ true) × Fit bytes
+pub fit-cons : (byte : ℕ) (bytes : List ℕ) → Fit (byte ∷ bytes) → (is_verbatim_byte byte ≡ true) × Fit bytes
 fit-cons byte bytes all = and_parts (is_verbatim_byte byte) (list_all is_verbatim_byte bytes) all
 
-cons-fit : (byte : ℕ) (bytes : List ℕ) → is_verbatim_byte byte ≡ true → Fit bytes → Fit (byte ∷ bytes)
+pub cons-fit : (byte : ℕ) (bytes : List ℕ) → is_verbatim_byte byte ≡ true → Fit bytes → Fit (byte ∷ bytes)
 cons-fit byte bytes one others = and_from (is_verbatim_byte byte) (list_all is_verbatim_byte bytes) one others
 
-fit-append : (a b : List ℕ) → Fit (a ++ b) → Fit a × Fit b
+pub fit-append : (a b : List ℕ) → Fit (a ++ b) → Fit a × Fit b
 fit-append [] b all = (refl, all)
 fit-append (byte ∷ a) b all =
     let both = fit-cons byte (a ++ b) all in
     let others = fit-append a b both.1 in (cons-fit byte a both.0 others.0, others.1)
 
-append-fit : (a b : List ℕ) → Fit a → Fit b → Fit (a ++ b)
+pub append-fit : (a b : List ℕ) → Fit a → Fit b → Fit (a ++ b)
 append-fit [] b first other = other
 append-fit (byte ∷ a) b first other = let both = fit-cons byte a first in cons-fit byte (a ++ b) both.0 (append-fit a b both.1 other)
 
-fit-drop : (n : ℕ) (bytes : List ℕ) → Fit bytes → Fit (drop n bytes)
+pub fit-drop : (n : ℕ) (bytes : List ℕ) → Fit bytes → Fit (drop n bytes)
 fit-drop n bytes all = (fit-append (take n bytes) (drop n bytes) (subst Fit (sym (take-append-drop n bytes)) all)).1
 
 -- ---- the key before names of temporary files are replaced

@@ -37,4 +37,5 @@ mod TextLemmas
 mod TextRows
 mod Utf8Lemmas
 mod VerbatimLemmas
+mod VerbatimLineLemmas
 mod WritingLemmas

@@ -9,7 +9,7 @@ use Rattle.json.specs.Run.{is_plain}
 use Rattle.redo_line.proofs.LineLemmas.{are_lines}
 use Rattle.redo_line.specs.Lines.{HasNoLineFeed, ended, line_feed, rest, with_line_feed}
 use Rattle.redo_json.specs.Private.Lines.{before_line, lines_left, lines_text, plain_lines_text}
-use Rattle.redo_json.specs.Private.LogLines.{AreUtf8}
+use Rattle.redo_json.specs.Private.LogLines.{ArePlainLines, AreUtf8}
 use Rattle.redo_json.specs.Private.Writing.{IsAppended, is_plain_or_feed}
 use Rattle.redo_json.specs.Text.{text_of}
 use Rattle.redo_json.proofs.EscapeLemmas.{escape_plain}
@@ -47,9 +47,6 @@ utf8_parts (line ∷ lines) more all = let parts = utf8_parts lines more all.1 i
 
 -- ---- lines without escapes
 
-abbrev ArePlainLines : List (List ℕ) → Type 0
-ArePlainLines lines = AllByRecursion (λ line. list_all is_plain line ≡ true) lines
-
 plain_line : (line : List ℕ) → HasNoLineFeed line → list_all is_plain_or_feed line ≡ true → list_all is_plain line ≡ true
 plain_line [] free all = refl
 plain_line (byte ∷ line) free all =
@@ -72,20 +69,18 @@ plain_of (line ∷ lines) last free all =
       plain_of lines last free.1 (and_parts (is_plain_or_feed line_feed) (list_all is_plain_or_feed others) both.1).1,
     )
 
-same_text : (is_first : Bool) (lines : List (List ℕ)) → AreUtf8 lines → ArePlainLines lines
+pub same_text : (is_first : Bool) (lines : List (List ℕ)) → AreUtf8 lines → ArePlainLines lines
     → plain_lines_text is_first lines ≡ lines_text is_first lines
 same_text is_first [] text plain = refl
 same_text is_first (line ∷ lines) text plain =
     ap₂ (λ (a b : List ℕ). before_line is_first ++ (a ++ b)) (sym (ap escape (text_is line text.0) ∙ escape_plain line plain.0))
     (same_text false lines text.1 plain.1)
 
--- The strings of a stretch without escapes.
-pub plain_text : (is_first : Bool) (bytes : List ℕ) → AreUtf8 (ended bytes) → list_all is_plain_or_feed bytes ≡ true
-    → plain_lines_text is_first (ended bytes) ≡ lines_text is_first (ended bytes)
-plain_text is_first bytes text plain =
+-- The lines of a stretch without escapes.
+pub plain_stretch : (bytes : List ℕ) → list_all is_plain_or_feed bytes ≡ true → ArePlainLines (ended bytes)
+plain_stretch bytes plain =
     let lines = are_lines bytes in
-    same_text is_first (ended bytes) text
-    (plain_of (ended bytes) (rest bytes) lines.lines_hold_none (ap (list_all is_plain_or_feed) (sym lines.whole) ∙ plain))
+    plain_of (ended bytes) (rest bytes) lines.lines_hold_none (ap (list_all is_plain_or_feed) (sym lines.whole) ∙ plain)
 
 -- A line was joined to others.
 pub joined_line : (is_first : Bool) (before middle after start line : List ℕ) (lines others : List (List ℕ)) → lines ≡ line ∷ others

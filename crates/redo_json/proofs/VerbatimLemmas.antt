@@ -27,7 +27,7 @@ ascii_bytes (x ∷ xs) all =
     let one = and_parts (is_plain x) (nat_lt x 128) both.0 in
     and_from (nat_lt x 128) (are_ascii xs) one.1 (ascii_bytes xs both.1)
 
-plain_bytes : (bytes : List ℕ) → list_all is_verbatim_byte bytes ≡ true → list_all is_plain bytes ≡ true
+pub plain_bytes : (bytes : List ℕ) → list_all is_verbatim_byte bytes ≡ true → list_all is_plain bytes ≡ true
 plain_bytes [] all = refl
 plain_bytes (x ∷ xs) all =
     let both = and_parts (is_verbatim_byte x) (list_all is_verbatim_byte xs) all in

@@ -11,7 +11,8 @@
 //! - `json` writes into memory. Here parts are written to a `Sink`. Stretches without escapes are one write, and so is what is between
 //!   two lines. The text lines of a log are read from the table three times: for the texts, for the exact bytes, and for the
 //!   diagnostics. So no object is held in memory, only the commands and the needs of one log, and the keys of its diagnostics. For the
-//!   exact bytes, lines that are stored together are tested together first: if all are UTF-8, no line is read.
+//!   exact bytes, lines that are stored together are tested together first: if all are UTF-8, no line is read. Before all that, one pass
+//!   tests whether all lines of a log are ASCII without escapes. If so, no string of them is tested for UTF-8, escapes or colours.
 //! - Most diagnostics are written without escapes. The object of such a diagnostic is joined in memory, and takes one write. Only its key
 //!   is a copy, in a vector of an earlier log's key if there is one: the other strings are borrowed from the line.
 //! - The definition is a recursion over the tree of what is shown. The code iterates over the nodes of the outline.

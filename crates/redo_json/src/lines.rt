@@ -6,7 +6,7 @@ ghost use Rattle.redo_device.specs.Sink.{Writes};
 ghost use Rattle.redo_line.specs.Lines.{ended};
 ghost use Rattle.redo_outline.specs.Facts.{entries_at, texts_of};
 ghost use Rattle.redo_json.specs.Fields.{exact_items, exact_list, exact_name, list_fields};
-ghost use Rattle.redo_json.specs.Private.LogLines.{AreUtf8, IsNextExactLine};
+ghost use Rattle.redo_json.specs.Private.LogLines.{ArePlainLines, AreUtf8, AreVerbatim, IsNextExactLine};
 ghost use Rattle.redo_json.specs.Private.Parts.{comma_fields, items_text};
 ghost use Rattle.redo_json.specs.Private.Lines.{BeginsWithLine, before_line, lines_left, lines_text, plain_lines_text};
 ghost use Rattle.redo_json.specs.Private.Writing.{IsAppended};
@@ -26,23 +26,25 @@ use redo_logs::LogTable;
 use std::alloc::AllocError;
 
 /// Writes a member with the texts of a log's lines, and another one with the exact bytes of lines whose texts don't have them.
-/// `buffer` is overwritten.
+/// `are_verbatim` says that all lines are known to be written as they are. `buffer` is overwritten.
 pub fn write_lines<W: Sink>(
     name: &[u8],
+    are_verbatim: bool,
     table: &LogTable,
     number: u32,
     buffer: &mut Vec<u8>,
     out: &mut W,
 ) -> Result<(), Broken>
+    requires { are_verbatim ≡ true → AreVerbatim (texts_of (entries_at number table.now)) }
     ensures { Writes (W.written out.old) (W.written out.new)
         (comma_fields (list_fields name.now (texts_of (entries_at number table.now)))) result }
 {
-    let are_text = are_text(table, number);
+    let are_text = are_known_text(are_verbatim, table, number);
     write_parts(
         &[Part::Json(b",\""), Part::Escaped(name), Part::Json(b"\":[")],
         out,
     )?;
-    write_texts(are_text, table, number, buffer, out)?;
+    write_texts(are_text, are_verbatim, table, number, buffer, out)?;
     push_all(out, b"]")?;
     if are_text {
         return Ok(());
@@ -50,16 +52,29 @@ pub fn write_lines<W: Sink>(
     write_exact_lines(name, table, number, out)
 }
 
-// Writes the strings of a log's lines, with a comma between two of them. `are_text` says that all lines are known to be UTF-8. `buffer` is
-// overwritten.
+// Returns true only if all lines of a log are UTF-8. `are_verbatim` says that they are known to be written as they are.
+fn are_known_text(are_verbatim: bool, table: &LogTable, number: u32) -> bool
+    requires { are_verbatim ≡ true → AreVerbatim (texts_of (entries_at number table.now)) }
+    ensures { result ≡ true → AreUtf8 (texts_of (entries_at number table.now)) }
+{
+    if are_verbatim {
+        return true;
+    }
+    are_text(table, number)
+}
+
+// Writes the strings of a log's lines, with a comma between two of them. `are_text` says that all lines are known to be UTF-8, and
+// `are_verbatim` that they are known to be written as they are. `buffer` is overwritten.
 fn write_texts<W: Sink>(
     are_text: bool,
+    are_verbatim: bool,
     table: &LogTable,
     number: u32,
     buffer: &mut Vec<u8>,
     out: &mut W,
 ) -> Result<(), Broken>
-    requires { are_text ≡ true → AreUtf8 (texts_of (entries_at number table.now)) }
+    requires text { are_text ≡ true → AreUtf8 (texts_of (entries_at number table.now)) }
+    requires verbatim { are_verbatim ≡ true → AreVerbatim (texts_of (entries_at number table.now)) }
     ensures { Writes (W.written out.old) (W.written out.new) (items_text true (texts_of (entries_at number table.now))) result }
 {
     let logs = table.numbered();
@@ -70,7 +85,7 @@ fn write_texts<W: Sink>(
         if lines.is_empty() {
             return push_all(out, last_quote(is_first));
         }
-        write_stretch(are_text, is_first, lines, buffer, out)?;
+        write_stretch(are_text, are_verbatim, is_first, lines, buffer, out)?;
         is_first = false;
         next = after;
     }
@@ -87,21 +102,34 @@ fn last_quote(is_first: bool) -> &'static [u8]
 // says that there is no string before them. If no byte has an escape, the strings are joined in memory, and are one write.
 fn write_stretch<W: Sink>(
     are_text: bool,
+    are_verbatim: bool,
     is_first: bool,
     lines: &[u8],
     buffer: &mut Vec<u8>,
     out: &mut W,
 ) -> Result<(), Broken>
-    requires { are_text ≡ true → AreUtf8 (ended lines.now) }
+    requires text { are_text ≡ true → AreUtf8 (ended lines.now) }
+    requires verbatim { are_verbatim ≡ true → AreVerbatim (ended lines.now) }
     ensures { Writes (W.written out.old) (W.written out.new) (lines_text is_first (ended lines.now)) result }
 {
-    if are_text && lines.len() <= JOINED_BYTES && are_plain_lines(lines) {
+    if are_text && lines.len() <= JOINED_BYTES && are_plain(are_verbatim, lines) {
         buffer.clear();
         if join_lines(is_first, lines, buffer).is_ok() {
             return push_all(out, buffer);
         }
     }
     write_each_line(are_text, is_first, lines, out)
+}
+
+// Returns true only if the bytes of these lines have no escape. `are_verbatim` says that it is known.
+fn are_plain(are_verbatim: bool, lines: &[u8]) -> bool
+    requires { are_verbatim ≡ true → AreVerbatim (ended lines.now) }
+    ensures { result ≡ true → ArePlainLines (ended lines.now) }
+{
+    if are_verbatim {
+        return true;
+    }
+    are_plain_lines(lines)
 }
 
 // The most bytes of lines that are joined.

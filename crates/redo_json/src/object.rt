@@ -1,10 +1,12 @@
 //! The object of a log.
-ghost use Rattle.std.specs.Prelude.{◌≡◌, option_copied};
+ghost use Rattle.std.specs.Prelude.{◌≡◌, true, option_copied};
 ghost use Rattle.redo_device.specs.Sink.{Writes};
 ghost use Rattle.redo_line.specs.Lines.{with_line_feed};
+ghost use Rattle.redo_outline.specs.Facts.{entries_at, texts_of};
 ghost use Rattle.redo_view.specs.Form.{FormWrites};
 ghost use Rattle.redo_json.specs.Build.{object_text};
 ghost use Rattle.redo_json.specs.Object.{new_flags, number_fields};
+ghost use Rattle.redo_json.specs.Private.LogLines.{AreVerbatim};
 ghost use Rattle.redo_json.specs.Private.Parts.{comma_fields, front_text};
 ghost use Rattle.redo_json.specs.Private.Values.{values_of};
 
@@ -13,6 +15,7 @@ use crate::diagnostics::write_diagnostics;
 use crate::field::{write_exact, write_number, write_optional_bytes, write_signed};
 use crate::lines::write_lines;
 use crate::list::write_list;
+use crate::log_lines::are_verbatim;
 use crate::part::{Part, write_parts};
 use redo_compare::TargetChanges;
 use redo_device::{Broken, Sink, push_all};
@@ -65,11 +68,13 @@ pub fn write_object<W: Sink>(
 ) -> Result<(), FormFault>
     ensures { FormWrites (W.written out.old) (W.written out.new) (with_line_feed (object_text (values_of log.now))) result }
 {
-    write_front(log, buffer, out)?;
+    let are_verbatim = are_verbatim(log.table, log.number);
+    write_front(log, are_verbatim, buffer, out)?;
     write_diagnostics(
         alloc,
         keys,
         new_flags(log.changes),
+        are_verbatim,
         log.table,
         log.number,
         buffer,
@@ -91,12 +96,14 @@ fn new_flags(changes: Option<&TargetChanges>) -> Option<&[bool]>
     }
 }
 
-// Writes an object up to the text lines of the log.
+// Writes an object up to the text lines of the log. `are_verbatim` says that all lines are known to be written as they are.
 fn write_front<W: Sink>(
     log: &LogObject<'_>,
+    are_verbatim: bool,
     buffer: &mut Vec<u8>,
     out: &mut W,
 ) -> Result<(), Broken>
+    requires { are_verbatim ≡ true → AreVerbatim (texts_of (entries_at log.now.number log.now.table.now)) }
     ensures { Writes (W.written out.old) (W.written out.new) (front_text (values_of log.now)) result }
 {
     write_parts(&[Part::Json(b"{\"target\":"), Part::Text(log.target)], out)?;
@@ -106,7 +113,7 @@ fn write_front<W: Sink>(
     write_optional_bytes(b"directory", b",\"directory\":\"", log.directory, out)?;
     write_list(b"commands", log.commands, out)?;
     write_list(b"needs", log.needs, out)?;
-    write_lines(b"lines", log.table, log.number, buffer, out)
+    write_lines(b"lines", are_verbatim, log.table, log.number, buffer, out)
 }
 
 fn write_numbers<W: Sink>(log: &LogObject<'_>, out: &mut W) -> Result<(), Broken>

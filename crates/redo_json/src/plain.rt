@@ -2,7 +2,7 @@
 ghost use Rattle.std.specs.Prelude.{◌≡◌, ◌≤◌, true, length, take};
 ghost use Rattle.std.specs.List.{list_all};
 ghost use Rattle.json.specs.Run.{is_plain};
-ghost use Rattle.redo_json.specs.Private.Writing.{ArePlain, is_plain_or_feed, is_verbatim_byte, special_bit_if};
+ghost use Rattle.redo_json.specs.Private.Writing.{ArePlain, is_plain_or_feed, is_verbatim_byte, is_verbatim_or_feed, special_bit_if};
 
 // The number of bytes that are tested at once.
 const STRIDE: usize = 32;
@@ -120,6 +120,44 @@ fn feed_bit(byte: u8) -> u8
     ensures { result ≡ special_bit_if (is_plain_or_feed byte) }
 {
     if is_plain_byte(byte) || byte == b'\n' {
+        0
+    } else {
+        1
+    }
+}
+
+/// Returns true only if all bytes are ASCII that a string of JSON has as they are, apart from line feeds.
+pub fn are_verbatim_lines(bytes: &[u8]) -> bool
+    ensures { result ≡ true → list_all is_verbatim_or_feed bytes.now ≡ true }
+{
+    let mut len = 0;
+    while bytes.len() - len >= LINES_STRIDE {
+        if !are_verbatim_or_feeds(&bytes[len..len + LINES_STRIDE]) {
+            return false;
+        }
+        len += LINES_STRIDE;
+    }
+    are_verbatim_or_feeds(&bytes[len..])
+}
+
+// Returns whether all bytes are line feeds, or ASCII that a string of JSON has as it is. The loop has no branch.
+#[inline(always)]
+fn are_verbatim_or_feeds(bytes: &[u8]) -> bool
+    ensures { result ≡ list_all is_verbatim_or_feed bytes.now }
+{
+    let mut special = 0;
+    for byte in bytes {
+        special = special | verbatim_or_feed_bit(*byte);
+    }
+    special == 0
+}
+
+// Returns 0 for a line feed and for an ASCII byte that a string of JSON has as it is, and 1 for any other.
+#[inline(always)]
+fn verbatim_or_feed_bit(byte: u8) -> u8
+    ensures { result ≡ special_bit_if (is_verbatim_or_feed byte) }
+{
+    if is_ascii_plain(byte) || byte == b'\n' {
         0
     } else {
         1

@@ -1,13 +1,15 @@
 -- The text lines of a log, as they are iterated over.
 use Rattle.std.specs.Prelude.{◌≡◌, ℕ, ◌+◌, ◌<◌, ◌≤◌, true, List, [], ◌∷◌, ◌++◌, decimal, drop, length}
-use Rattle.std.specs.List.{AllByRecursion}
+use Rattle.std.specs.List.{AllByRecursion, list_all}
 use Rattle.std.specs.Str.{is_utf8}
 use Rattle.json.specs.Json.{string}
+use Rattle.json.specs.Run.{is_plain}
 use Rattle.redo_line.specs.Lines.{ended, rest}
 use Rattle.redo_logs.specs.Logs.{Log}
 use Rattle.redo_outline.specs.Facts.{entries_at, texts_of}
 use Rattle.redo_json.specs.Diagnostics.{placed_from}
 use Rattle.redo_json.specs.Fields.{exact_items, field}
+use Rattle.redo_json.specs.Private.Writing.{is_verbatim_byte}
 use Rattle.redo_json.specs.Text.{base64_of}
 
 -- Lines that are left, and the number of lines before them.
@@ -38,11 +40,20 @@ pub record IsRefilled (logs : List Log) (number : ℕ) (stretch : List ℕ) (nex
 abbrev pub AreUtf8 : List (List ℕ) → Type 0
 AreUtf8 lines = AllByRecursion (λ line. is_utf8 line ≡ true) lines
 
+-- No byte of these lines has an escape.
+abbrev pub ArePlainLines : List (List ℕ) → Type 0
+ArePlainLines lines = AllByRecursion (λ line. list_all is_plain line ≡ true) lines
+
+-- Each line is ASCII that is written as it is.
+abbrev pub AreVerbatim : List (List ℕ) → Type 0
+AreVerbatim lines = AllByRecursion (λ line. list_all is_verbatim_byte line ≡ true) lines
+
 -- Some lines that are no diagnostics were skipped.
 pub record AreCandidates (before after : Remaining) : Type 0 where
   pub placed : placed_from before.done before.left ≡ placed_from after.done after.left
   pub fewer : length after.left ≤ length before.left
   pub later : before.done ≤ after.done
+  pub verbatim : AreVerbatim before.left → AreVerbatim after.left
 
 -- The lines of a log from entry `next` on, after `done` lines, were skipped up to these lines, which end before entry `after`. `before` is the
 -- number of lines before them.

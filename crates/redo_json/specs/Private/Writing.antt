@@ -31,6 +31,10 @@ is_plain_or_feed byte = is_plain byte || byte == line_feed
 abbrev pub is_verbatim_byte : ℕ → Bool
 is_verbatim_byte byte = is_plain byte && nat_lt byte 128
 
+-- Whether a byte is ASCII that is written as it is, or a line feed.
+abbrev pub is_verbatim_or_feed : ℕ → Bool
+is_verbatim_or_feed byte = is_verbatim_byte byte || byte == line_feed
+
 -- A string has these bytes as they are.
 pub record IsVerbatim (bytes : List ℕ) : Type 0 where
   pub utf8 : is_utf8 bytes ≡ true

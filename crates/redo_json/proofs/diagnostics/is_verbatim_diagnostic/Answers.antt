@@ -4,4 +4,4 @@ use Rattle.redo_json.proofs.diagnostics.is_verbatim_diagnostic.Goals as goal
 
 pub returns : goal.returns
 returns c = λ is.
-    verbatim_by_key c.requires.0 c.args.diagnostic.now c.requires.1 (subst Fit c.key.ensures (c.is_verbatim.ensures is))
+    verbatim_by_key c.requires.of_line.0 c.args.diagnostic.now c.requires.of_line.1 (subst Fit c.key.ensures (c.is_verbatim.ensures is))

@@ -4,8 +4,11 @@ use Rattle.redo_json.proofs.FormLemmas.{ran_out}
 use Rattle.redo_json.proofs.WritingLemmas.{begin}
 use Rattle.redo_json.proofs.diagnostics.write_diagnostic.Goals as goal
 
-pub is_verbatim_diagnostic-requires : goal.is_verbatim_diagnostic-requires
-is_verbatim_diagnostic-requires g c = c.requires
+pub is_verbatim_diagnostic-requires-clause-of_line : goal.is_verbatim_diagnostic-requires-clause-of_line
+is_verbatim_diagnostic-requires-clause-of_line g c = c.requires.of_line
+
+pub is_verbatim_diagnostic-requires-clause-known : goal.is_verbatim_diagnostic-requires-clause-known
+is_verbatim_diagnostic-requires-clause-known g c = c.requires.known
 
 pub write_joined-requires : goal.write_joined-requires
 write_joined-requires g c = c.is_verbatim_diagnostic.ensures c.if-is_verbatim_diagnostic.true

@@ -1,29 +1,44 @@
-use Rattle.std.proofs.Common.{true, [], ◌∷◌, ◌++◌, refl, sym, ◌∙◌, arith, option_copied}
+use Rattle.std.proofs.Common.{◌≡◌, true, [], ◌∷◌, ◌++◌, refl, sym, ◌∙◌, subst, arith, option_copied}
 use Rattle.std.proofs.lemmas.List.{length-append}
 use Rattle.std.proofs.lemmas.Result.{err_from_is_err_and}
 use Rattle.redo_diagnostics.specs.Counts.{stored, times_of}
 use Rattle.redo_outline.specs.Facts.{entries_at, texts_of}
 use Rattle.redo_json.specs.Diagnostics.{diagnostics_of, flagged}
+use Rattle.redo_json.specs.Private.LogLines.{AreVerbatim}
 use Rattle.redo_json.specs.Private.Parts.{diagnostics_text}
 use Rattle.redo_json.proofs.CandidateLemmas.{at_candidates}
 use Rattle.redo_json.proofs.DiagnosingLemmas.{begins, finds, nth_is}
 use Rattle.redo_json.proofs.FormLemmas.{part_failed, ran_out}
+use Rattle.redo_json.proofs.VerbatimLineLemmas.{verbatim_by_line}
 use Rattle.redo_json.proofs.WritingLemmas.{left_is, wrote_more}
 use Rattle.redo_json.proofs.diagnostics.write_each.Goals as goal
 
 pub each-init : goal.each-init
-each-init g c =
-    begins _ (option_copied c.args.flags) (texts_of (entries_at c.args.number c.args.table.now)) _ _ c.new-lines.ensures.left
-    c.new-lines.ensures.done
-    c.new-counts.ensures
+each-init g c = (
+  begins _ (option_copied c.args.flags) (texts_of (entries_at c.args.number c.args.table.now)) _ _ c.new-lines.ensures.left
+      c.new-lines.ensures.done
+      c.new-counts.ensures,
+  λ is. subst AreVerbatim (sym c.new-lines.ensures.left) (c.requires is),
+)
+
+pub read_line-requires : goal.read_line-requires
+read_line-requires g c = λ is.
+    let found = c.in-Some.ensures.some in
+    (subst AreVerbatim found.first (found.are.verbatim (c.each.invariant.1 is))).0
 
 pub returns-in_err-diagnostic : goal.returns-in_err-diagnostic
 returns-in_err-diagnostic g c =
     let given = err_from_is_err_and c.from_residual.result c.from_residual.ensures.1 in
-    rw (given.1, given.2) (ran_out _ _ _ _ c.each.invariant.wrote)
+    rw (given.1, given.2) (ran_out _ _ _ _ c.each.invariant.0.wrote)
 
-pub write_diagnostic-requires : goal.write_diagnostic-requires
-write_diagnostic-requires g c = (c.in-Some.line.now, sym c.in_ok-diagnostic.ensures ∙ c.in-Some-2.is)
+pub write_diagnostic-requires-clause-of_line : goal.write_diagnostic-requires-clause-of_line
+write_diagnostic-requires-clause-of_line g c = (c.in-Some.line.now, sym c.in_ok-diagnostic.ensures ∙ c.in-Some-2.is)
+
+pub write_diagnostic-requires-clause-known : goal.write_diagnostic-requires-clause-known
+write_diagnostic-requires-clause-known g c = λ is.
+    let found = c.in-Some.ensures.some in
+    verbatim_by_line c.in-Some.line.now c.in-Some-2.diagnostic (sym c.in_ok-diagnostic.ensures ∙ c.in-Some-2.is)
+    (subst AreVerbatim found.first (found.are.verbatim (c.each.invariant.1 is))).0
 
 pub returns-in_err-write_diagnostic : goal.returns-in_err-write_diagnostic
 returns-in_err-write_diagnostic g c =
@@ -31,7 +46,7 @@ returns-in_err-write_diagnostic g c =
     c.args.table.now)))) in
     let found = c.in-Some.ensures.some in
     let lines = found.candidates in
-    let so_far = at_candidates _ _ _ _ _ _ lines _ found.are c.each.invariant in
+    let so_far = at_candidates _ _ _ _ _ _ lines _ found.are c.each.invariant.0 in
     let done = found.done in
     let room = c.in-Some.ensures.no_overflow in
     let key = c.in-Some-2.diagnostic.key in
@@ -46,22 +61,27 @@ returns-in_err-write_diagnostic g c =
 
 pub each-preserved-in-Some-2 : goal.each-preserved-in-Some-2
 each-preserved-in-Some-2 g c =
+    let verbatim : (c.args.are_verbatim ≡ true → AreVerbatim c.next_candidate.new.self.left) = λ is.
+    let found = c.in-Some.ensures.some in
+    (subst AreVerbatim found.first (found.are.verbatim (c.each.invariant.1 is))).1 in
     let found = c.in-Some.ensures.some in
     let lines = found.candidates in
-    let so_far = at_candidates _ _ _ _ _ _ lines _ found.are c.each.invariant in
+    let so_far = at_candidates _ _ _ _ _ _ lines _ found.are c.each.invariant.0 in
     let done = found.done in
     let room = c.in-Some.ensures.no_overflow in
     let few = so_far.few in
     let key = c.in-Some-2.diagnostic.key in
-    let nth = nth_is key so_far.keys lines.done (stored (times_of key so_far.keys)) so_far.few (omega (arith, done, room)) refl in
-    record {
-      keys = so_far.keys ++ key ∷ [];
-      counted = c.in_ok-write_diagnostic.ensures.counted so_far.keys so_far.counted;
-      few = omega (arith, few, done, length-append so_far.keys (key ∷ []));
-      wrote = wrote_more _ _ _ _ _ _
-          (left_is _ _ _ _ _
-          (finds c.each.is_first (option_copied c.each.left) lines c.next_candidate.new.self c.in-Some.line.now found.first done so_far.keys
-          c.in-Some-2.diagnostic c.in-Some.position (stored (times_of key so_far.keys)) _ _ (sym c.in_ok-diagnostic.ensures
-          ∙ c.in-Some-2.is) found.position_is nth c.next_flag-new.ensures.first c.next_flag-new.ensures.others) so_far.wrote)
-          (c.in_ok-write_diagnostic.ensures.wrote so_far.keys so_far.counted);
-    }
+    let nth = nth_is key so_far.keys lines.done (stored (times_of key so_far.keys)) so_far.few (omega (arith, done, room)) refl in (
+      record {
+        keys = so_far.keys ++ key ∷ [];
+        counted = c.in_ok-write_diagnostic.ensures.counted so_far.keys so_far.counted;
+        few = omega (arith, few, done, length-append so_far.keys (key ∷ []));
+        wrote = wrote_more _ _ _ _ _ _
+            (left_is _ _ _ _ _
+            (finds c.each.is_first (option_copied c.each.left) lines c.next_candidate.new.self c.in-Some.line.now found.first done
+            so_far.keys c.in-Some-2.diagnostic c.in-Some.position (stored (times_of key so_far.keys)) _ _ (sym c.in_ok-diagnostic.ensures
+            ∙ c.in-Some-2.is) found.position_is nth c.next_flag-new.ensures.first c.next_flag-new.ensures.others) so_far.wrote)
+            (c.in_ok-write_diagnostic.ensures.wrote so_far.keys so_far.counted);
+      },
+      verbatim,
+    )

@@ -1,4 +1,4 @@
-use Rattle.std.proofs.Common.{◌∙◌, arith}
+use Rattle.std.proofs.Common.{arith}
 use Rattle.redo_json.proofs.JoinLemmas.{appended_as, appended_then, last_digit}
 use Rattle.redo_json.proofs.joined.join_three.Goals as goal
 

@@ -45,7 +45,7 @@ returns-then-are_text g c =
     let whole = comma_fields (list_fields name list) in
     wrote_all _ _ whole
     (left_is _ _ whole exact [] (ap (λ (fields : List Field). comma_fields (exact_list (exact_name name) fields))
-    (no_exact_items 0 list (c.are_text-are_text.ensures c.if-are_text.true)))
+    (no_exact_items 0 list (c.are_known_text-are_text.ensures c.if-are_text.true)))
     (wrote_more _ _ _ _ (93 ∷ []) exact
     (wrote_more _ _ _ _ (items_text true list) ((93 ∷ []) ++ exact)
     (wrote_more _ _ _ _ _ _ (begin (g.W.Sink.written c.args.out.now) whole _ (list_parts name exact list)) c.in_ok-write_parts.ensures)

@@ -1,7 +1,7 @@
 use Rattle.std.proofs.Common.{sym, ◌∙◌}
 use Rattle.redo_line.specs.Lines.{ended}
 use Rattle.redo_json.specs.Private.Lines.{lines_text}
-use Rattle.redo_json.proofs.StretchLemmas.{plain_text, stretch_joined}
+use Rattle.redo_json.proofs.StretchLemmas.{same_text, stretch_joined}
 use Rattle.redo_json.proofs.WritingLemmas.{writes_as}
 use Rattle.redo_json.proofs.lines.write_stretch.Goals as goal
 
@@ -10,5 +10,5 @@ returns-then-is_ok g c =
     writes_as _ _ _ (lines_text c.args.is_first (ended c.args.lines.now)) _
     (c.deref.ensures.value
     ∙ stretch_joined _ _ _ _ (sym c.is_ok.ensures.value ∙ c.if-is_ok.true) c.clear.ensures.items c.join_lines.ensures
-    ∙ plain_text c.args.is_first c.args.lines.now (c.requires c.if-are_text.true) (c.are_plain_lines.ensures c.if-are_plain_lines.true))
+    ∙ same_text c.args.is_first (ended c.args.lines.now) (c.requires.text c.if-are_text.true) (c.are_plain.ensures c.if-are_plain.true))
     c.push_all.ensures
