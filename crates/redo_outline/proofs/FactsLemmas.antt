@@ -1,6 +1,6 @@
 -- Facts of a log, from the facts of its first entries and of the rest.
-use Rattle.std.proofs.Common.{◌≡◌, ℕ, zero, suc, ◌+◌, ◌<◌, ◌≤◌, List, [], ◌∷◌, ◌++◌, Option, None, Some, length, drop, map, refl, sym, ap, ◌∙◌, arith, length-append, inl, inr}
-use Rattle.std.specs.Prelude.{count_by, if◌then◌else◌, slice_get}
+use Rattle.std.proofs.Common.{◌≡◌, ℕ, zero, suc, ◌+◌, ◌<◌, ◌≤◌, Bool, true, false, List, [], ◌∷◌, ◌++◌, Option, None, Some, length, drop, map, refl, sym, ap, ◌∙◌, arith, length-append, inl, inr}
+use Rattle.std.specs.Prelude.{if◌then◌else◌, slice_get}
 use Rattle.std.specs.List.{cons_option, flat_map}
 use Rattle.std.specs.Option.{option_or}
 use Rattle.std.proofs.lemmas.List.{append-nil, drop_all, drop_more, length-map}
@@ -14,7 +14,7 @@ use Rattle.redo_logs.specs.Logs.{Log, entry_at}
 use Rattle.redo_logs.specs.Numbering.{AreLinesAt, AreTexts, HasText}
 use Rattle.redo_outline.specs.declared.facts.LogFacts.{LogFacts}
 use Rattle.redo_outline.specs.Facts.{closing_status, entries_at, is_warning, saturated, status_in_log, text_of, text_size, texts_of}
-use Rattle.redo_outline.specs.Private.LogFacts.{facts_of}
+use Rattle.redo_outline.specs.Private.LogFacts.{facts_of, warnings_if}
 
 -- ---- the entries of a log
 
@@ -68,6 +68,15 @@ size-is (text ∷ texts) =
     sum_by-cons (λ t. length t + 1) text texts
     ∙ omega (arith, later, length-append text (10 ∷ []), length-append (with_line_feed text) (flat_map with_line_feed texts))
 
+warnings-append : (counted : Bool) (texts more : List (List ℕ))
+    → warnings_if counted (texts ++ more) ≡ warnings_if counted texts + warnings_if counted more
+warnings-append true texts more = sum_by-append (λ t. if is_warning t then 1 else 0) texts more
+warnings-append false texts more = refl
+
+no_warnings : (counted : Bool) → warnings_if counted [] ≡ 0
+no_warnings true = refl
+no_warnings false = refl
+
 -- Whether an entry is no text line.
 abbrev IsNoText : Entry → Type 0
 IsNoText entry = text_of entry ≡ None
@@ -103,17 +112,18 @@ abbrev max_count : ℕ
 max_count = 0xFFFFFFFFFFFFFFFF
 
 -- Facts of the entries before entry `k`.
-pub record Gathered (all : List Entry) (k : ℕ) (facts : LogFacts) : Type 0 where
+pub record Gathered (counted : Bool) (all : List Entry) (k : ℕ) (facts : LogFacts) : Type 0 where
   pub lines : saturated (facts.lines + length (texts_of (drop k all))) ≡ saturated (length (texts_of all))
   pub bytes : saturated (facts.bytes + text_size (texts_of (drop k all))) ≡ saturated (text_size (texts_of all))
-  pub warnings : saturated (facts.warnings + count_by is_warning (texts_of (drop k all))) ≡ saturated (count_by is_warning (texts_of all))
+  pub warnings : saturated (facts.warnings + warnings_if counted (texts_of (drop k all))) ≡ saturated (warnings_if counted (texts_of all))
   pub status : option_or facts.status (status_in_log (drop k all)) ≡ status_in_log all
   pub lines_fit : facts.lines ≤ max_count
   pub bytes_fit : facts.bytes ≤ max_count
   pub warnings_fit : facts.warnings ≤ max_count
 
-pub gathered_none : (all : List Entry) → Gathered all 0 (record { lines = 0; bytes = 0; warnings = 0; status = None })
-gathered_none all = record {
+pub gathered_none : (counted : Bool) (all : List Entry)
+    → Gathered counted all 0 (record { lines = 0; bytes = 0; warnings = 0; status = None })
+gathered_none counted all = record {
   lines = ap saturated (omega arith);
   bytes = ap saturated (omega arith);
   warnings = ap saturated (omega arith);
@@ -128,7 +138,8 @@ added : (old more rest after all : ℕ) → old ≤ max_count → after ≡ more
     → saturated (saturated (old + more) + rest) ≡ saturated all
 added old more rest after all fits is so_far = omega (arith, is, so_far, fits)
 
-module _ (logs : List Log) (number k : ℕ) (facts : LogFacts) (so_far : Gathered (entries_at number logs) k facts) where
+module _ {counted : Bool} (logs : List Log) (number k : ℕ) (facts : LogFacts)
+    (so_far : Gathered counted (entries_at number logs) k facts) where
   module _ (bytes : List ℕ) (count : ℕ) (lines : AreLinesAt logs number k bytes count) where
     lines_are : (lines.texts ≡ ended bytes) × ([] ≡ rest bytes)
     lines_are = only_lines bytes lines.texts []
@@ -148,10 +159,10 @@ module _ (logs : List Log) (number k : ℕ) (facts : LogFacts) (so_far : Gathere
     next_texts : texts_of (drop k (entries logs number)) ≡ lines.texts ++ texts_of (drop (k + count) (entries logs number))
     next_texts = ap texts_of next_entries ∙ texts-append lines.texts (drop (k + count) (entries logs number))
 
-    pub gathered_lines : Gathered (entries_at number logs) (k + count) (record {
+    pub gathered_lines : Gathered counted (entries_at number logs) (k + count) (record {
       lines = saturated (facts.lines + count);
       bytes = saturated (facts.bytes + length bytes);
-      warnings = saturated (facts.warnings + count_by is_warning (ended bytes));
+      warnings = saturated (facts.warnings + warnings_if counted (ended bytes));
       status = facts.status;
     })
     gathered_lines =
@@ -162,9 +173,9 @@ module _ (logs : List Log) (number k : ℕ) (facts : LogFacts) (so_far : Gathere
           bytes = added facts.bytes (length bytes) (text_size later) _ _ so_far.bytes_fit
               (ap text_size next_texts ∙ sum_by-append (λ t. length t + 1) lines.texts later
               ∙ ap (λ (n : ℕ). n + text_size later) (size-is lines.texts ∙ ap length (sym lines.bytes_are))) so_far.bytes;
-          warnings = added facts.warnings (count_by is_warning (ended bytes)) (count_by is_warning later) _ _ so_far.warnings_fit
-              (ap (count_by is_warning) next_texts ∙ sum_by-append (λ t. if is_warning t then 1 else 0) lines.texts later
-              ∙ ap (λ ts. count_by is_warning ts + count_by is_warning later) lines_are.0) so_far.warnings;
+          warnings = added facts.warnings (warnings_if counted (ended bytes)) (warnings_if counted later) _ _ so_far.warnings_fit
+              (ap (warnings_if counted) next_texts ∙ warnings-append counted lines.texts later
+              ∙ ap (λ ts. warnings_if counted ts + warnings_if counted later) lines_are.0) so_far.warnings;
           status = ap (option_or facts.status)
               (sym (ap status_in_log next_entries ∙ status-texts lines.texts (drop (k + count) (entries logs number)))) ∙ so_far.status;
           lines_fit = omega arith;
@@ -195,7 +206,7 @@ module _ (logs : List Log) (number k : ℕ) (facts : LogFacts) (so_far : Gathere
     same_texts : texts_of (drop k (entries logs number)) ≡ texts_of (drop (k + 1) (entries logs number))
     same_texts = ap texts_of next_one ∙ texts-other entry (drop (k + 1) (entries logs number)) no_text
 
-    pub gathered_entry : Gathered (entries_at number logs) (k + 1)
+    pub gathered_entry : Gathered counted (entries_at number logs) (k + 1)
         (record {
           lines = facts.lines;
           bytes = facts.bytes;
@@ -205,7 +216,7 @@ module _ (logs : List Log) (number k : ℕ) (facts : LogFacts) (so_far : Gathere
     gathered_entry = record {
       lines = ap (λ ts. saturated (facts.lines + length ts)) (sym same_texts) ∙ so_far.lines;
       bytes = ap (λ ts. saturated (facts.bytes + text_size ts)) (sym same_texts) ∙ so_far.bytes;
-      warnings = ap (λ ts. saturated (facts.warnings + count_by is_warning ts)) (sym same_texts) ∙ so_far.warnings;
+      warnings = ap (λ ts. saturated (facts.warnings + warnings_if counted ts)) (sym same_texts) ∙ so_far.warnings;
       status = or_assoc facts.status (closing_status entry) (status_in_log (drop (k + 1) (entries logs number)))
           ∙ ap (option_or facts.status) (sym (ap status_in_log next_one ∙ status-cons entry (drop (k + 1) (entries logs number))))
           ∙ so_far.status;
@@ -217,15 +228,16 @@ module _ (logs : List Log) (number k : ℕ) (facts : LogFacts) (so_far : Gathere
     pub entry_smaller : length (drop (k + 1) (entries_at number logs)) < length (drop k (entries_at number logs))
     entry_smaller = let whole = ap length next_one in omega (arith, whole)
 
-  pub gathered_all : entry_at number k logs ≡ None → facts ≡ facts_of (entries_at number logs)
+  pub gathered_all : entry_at number k logs ≡ None → facts ≡ facts_of counted (entries_at number logs)
   gathered_all none =
       let last = no_entry logs number k none in
       let lines : facts.lines ≡ saturated (length (texts_of (entries_at number logs))) = let so =
       ap (λ es. saturated (facts.lines + length (texts_of es))) (sym last) ∙ so_far.lines in omega (arith, so, so_far.lines_fit) in
       let bytes : facts.bytes ≡ saturated (text_size (texts_of (entries_at number logs))) = let so =
       ap (λ es. saturated (facts.bytes + text_size (texts_of es))) (sym last) ∙ so_far.bytes in omega (arith, so, so_far.bytes_fit) in
-      let warnings : facts.warnings ≡ saturated (count_by is_warning (texts_of (entries_at number logs))) =
-      let so = ap (λ es. saturated (facts.warnings + count_by is_warning (texts_of es))) (sym last) ∙ so_far.warnings in
+      let warnings : facts.warnings ≡ saturated (warnings_if counted (texts_of (entries_at number logs))) =
+      let so = ap (λ (n : ℕ). saturated (facts.warnings + n)) (sym (no_warnings counted))
+      ∙ ap (λ es. saturated (facts.warnings + warnings_if counted (texts_of es))) (sym last) ∙ so_far.warnings in
       omega (arith, so, so_far.warnings_fit) in
       let status : facts.status ≡ status_in_log (entries_at number logs) =
       sym (or_none facts.status) ∙ ap (λ es. option_or facts.status (status_in_log es)) (sym last) ∙ so_far.status in

@@ -18,7 +18,7 @@ use Rattle.redo_outline.specs.Contents.{contents_from, contents_of}
 use Rattle.redo_outline.specs.Contents.Contents.{Nothing, Shown, Opened}
 use Rattle.redo_outline.specs.Facts.{entries_at, is_failure, is_warning, name_or_empty, saturated, target_at, target_status, text_size, texts_of}
 use Rattle.redo_outline.specs.Laws.{events_of}
-use Rattle.redo_outline.specs.Outline.{is_visible, outline_of, with_times}
+use Rattle.redo_outline.specs.Outline.{is_visible, outline_of, with_times, without_warnings}
 
 abbrev log : List ℕ → List Entry → Log
 log target entries = record { target = target; entries = entries; state = Ended }
@@ -445,3 +445,23 @@ times :
     ≡ numbered 2 (Some 90) None ∷ numbered 0 (Some 70) (Some 170) ∷ numbered 1 None (Some 180) ∷ numbered 3 None None
     ∷ numbered 4 None None ∷ []
 times = refl
+
+-- ---- without warnings
+
+no_warnings : without_warnings (numbered 2 (Some 5) (Some 6)) ≡ record {
+  number = 2;
+  parent = Some 9;
+  status = Some (pos 3);
+  lines = 1;
+  bytes = 2;
+  warnings = 0;
+  below = 4;
+  children = 5;
+  others = true;
+  warnings_below = 0;
+  fails_below = true;
+  silent = 7;
+  took = Some 5;
+  ended = Some 6;
+}
+no_warnings = refl

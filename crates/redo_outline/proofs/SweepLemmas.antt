@@ -103,25 +103,33 @@ module _ (inner : Summary) (outer : List Summary) (nodes : List Node) (counted :
 
 -- ---- an opening
 
-pub node_at_is : (logs : List Log) (statuses : List (Option ℤ)) (log : OpenedLog) (inside rest : Summary) (facts : LogFacts)
-    (other status : Option ℤ) (node : Node)
-    → facts ≡ facts_of (entries_at log.number logs) → other ≡ slice_index_or statuses log.number None
-    → status ≡ option_or facts.status other → node ≡ node_from log facts status inside rest → node ≡ node_at logs statuses log inside rest
-node_at_is logs statuses log inside rest facts other status node facts_are other_is status_is node_is =
+pub node_at_is : (with_warnings : Bool) (logs : List Log) (statuses : List (Option ℤ)) (log : OpenedLog) (inside rest : Summary)
+    (facts : LogFacts) (other status : Option ℤ) (node : Node)
+    → facts ≡ facts_of with_warnings (entries_at log.number logs) → other ≡ slice_index_or statuses log.number None
+    → status ≡ option_or facts.status other → node ≡ node_from log facts status inside rest
+    → node ≡ node_at logs statuses with_warnings log inside rest
+node_at_is with_warnings logs statuses log inside rest facts other status node facts_are other_is status_is node_is =
     node_is ∙ ap (λ s. node_from log facts s inside rest) (status_is ∙ ap (option_or facts.status) other_is)
     ∙ ap (λ (f : LogFacts). node_from log f (option_or f.status (slice_index_or statuses log.number None)) inside rest) facts_are
 
-abbrev pub swept_of : List Log → List (Option ℤ) → List OpenedLog → Summary → List Summary → List Node → Swept
-swept_of logs statuses opened inner outer nodes =
-    record { logs = logs; statuses = statuses; opened = opened; inner = inner; outer = outer; nodes = nodes }
+abbrev pub swept_of : Bool → List Log → List (Option ℤ) → List OpenedLog → Summary → List Summary → List Node → Swept
+swept_of with_warnings logs statuses opened inner outer nodes = record {
+  logs = logs;
+  with_warnings = with_warnings;
+  statuses = statuses;
+  opened = opened;
+  inner = inner;
+  outer = outer;
+  nodes = nodes;
+}
 
 pub opening_is : (swept : Swept) (log : OpenedLog) (opened : List OpenedLog) (node : Node) (rest inner : Summary) (outer : List Summary)
     (nodes : List Node)
     → split_last swept.opened ≡ Some (opened, log) → rest ≡ last_or_nothing (split_last swept.outer)
     → outer ≡ others_of (split_last swept.outer)
-    → node ≡ node_at swept.logs swept.statuses log swept.inner rest → nodes ≡ swept.nodes ++ node ∷ []
+    → node ≡ node_at swept.logs swept.statuses swept.with_warnings log swept.inner rest → nodes ≡ swept.nodes ++ node ∷ []
     → inner ≡ with_log node swept.inner rest
-    → swept_of swept.logs swept.statuses opened inner outer nodes ≡ opening_added swept
+    → swept_of swept.with_warnings swept.logs swept.statuses opened inner outer nodes ≡ opening_added swept
 opening_is swept log opened node rest inner outer nodes opened_is rest_is outer_is node_is nodes_are inner_is =
     rw (inner_is, nodes_are, node_is, outer_is, rest_is) (ap (λ split. opening_added_at split swept) (sym opened_is))
 

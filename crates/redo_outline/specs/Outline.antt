@@ -115,6 +115,10 @@ times_at times number = slice_index_or times number unknown_times
 abbrev pub with_times : List RunTimes → Node → Node
 with_times times node = record node { took = (times_at times node.number).took; ended = (times_at times node.number).ended }
 
+-- A node, but its numbers of warnings are 0.
+abbrev pub without_warnings : Node → Node
+without_warnings node = record node { warnings = 0; warnings_below = 0 }
+
 -- The outline of these events.
 abbrev pub outline_of : List Log → List Event → List Node
 outline_of logs events = nodes_of logs (target_status logs events) None 0 (contents_of events)

@@ -77,9 +77,9 @@ impl<'a> Collector<'a> {
         })
     }
 
-    /// Returns the nodes of all logs that were opened.
-    pub fn into_nodes(self, alloc: Global) -> Result<Vec<Node>, AllocError>
-        ensures { IfOk result (λ nodes. nodes.items ≡ collected_nodes self.entry) }
+    /// Returns the nodes of all logs that were opened. Without warnings, their numbers are 0.
+    pub fn into_nodes(self, alloc: Global, with_warnings: bool) -> Result<Vec<Node>, AllocError>
+        ensures { IfOk result (λ nodes. nodes.items ≡ collected_nodes with_warnings self.entry) }
     {
         let Collector {
             table,
@@ -89,7 +89,7 @@ impl<'a> Collector<'a> {
             after_others,
             statuses,
         } = self;
-        let mut sweep = Sweep::new(alloc, table, &statuses, opened, after_others);
+        let mut sweep = Sweep::new(alloc, table, &statuses, opened, after_others, with_warnings);
         'brackets: while let Some(bracket) = brackets.pop() {
             sweep.add(bracket)?;
         }

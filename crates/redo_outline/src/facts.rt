@@ -7,7 +7,7 @@ ghost use Rattle.memchr.specs.Find.{FindsNeedle};
 ghost use Rattle.redo_line.specs.Lines.{ended, rest};
 ghost use Rattle.redo_logs.specs.EntryRef.{entry_value};
 ghost use Rattle.redo_outline.specs.Facts.{closing_status, entries_at, is_warning, target_at};
-ghost use Rattle.redo_outline.specs.Private.LogFacts.{after_line, facts_of};
+ghost use Rattle.redo_outline.specs.Private.LogFacts.{after_line, facts_of, warnings_if};
 
 use memchr::memchr;
 use redo_logs::{EntryRef, LogTable};
@@ -33,9 +33,9 @@ pub fn target_at(table: &LogTable, number: u32) -> &[u8]
     }
 }
 
-/// Returns the facts of log `number`. A log that doesn't exist has no entries.
-pub fn log_facts(table: &LogTable, number: u32) -> LogFacts
-    ensures { result ≡ facts_of (entries_at number table.now) }
+/// Returns the facts of log `number`. A log that doesn't exist has no entries. Without warnings, their number is 0.
+pub fn log_facts(table: &LogTable, number: u32, with_warnings: bool) -> LogFacts
+    ensures { result ≡ facts_of with_warnings (entries_at number table.now) }
 {
     let logs = table.numbered();
     let mut facts = LogFacts {
@@ -50,7 +50,9 @@ pub fn log_facts(table: &LogTable, number: u32) -> LogFacts
         if count > 0 {
             facts.lines = facts.lines.saturating_add(count as u64);
             facts.bytes = facts.bytes.saturating_add(lines.len() as u64);
-            facts.warnings = facts.warnings.saturating_add(count_warnings(lines));
+            facts.warnings = facts
+                .warnings
+                .saturating_add(warnings_if(with_warnings, lines));
             next_entry += count;
         } else if let Some(entry) = table.entry(number, next_entry) {
             facts.status = facts.status.or(closing_status(entry));
@@ -69,6 +71,14 @@ fn closing_status(entry: EntryRef<'_>) -> Option<i32>
         EntryRef::Closing { status, .. } => Some(status),
         _ => None,
     }
+}
+
+// Returns the number of lines that are warnings, if they are counted. The lines are passed with their line feeds.
+fn warnings_if(counted: bool, lines: &[u8]) -> u64
+    requires { rest lines.now ≡ [] }
+    ensures { result ≡ warnings_if counted (ended lines.now) }
+{
+    if counted { count_warnings(lines) } else { 0 }
 }
 
 // Returns the number of lines that are warnings. The lines are passed with their line feeds.

@@ -1,7 +1,8 @@
 //! The facts about a log that is opened.
 //!
 //! It says how long its target took, and when it ended, if `set_times` was called. `Outline::new` can't know this, because
-//! entries have no times.
+//! entries have no times. `Outline::without_warnings` leaves both
+//! numbers of warnings 0.
 
 /// The facts about a log that is opened, and about the logs in it. A count that exceeds 2^64 - 1 is 2^64 - 1.
 #[derive(Clone, Copy, Debug, PartialEq, Eq)]

@@ -4,7 +4,8 @@ ghost use Rattle.std.specs.List.{list_all};
 ghost use Rattle.redo_logs.specs.Logs.{has_ended};
 ghost use Rattle.redo_view.specs.Expansion.{shown_events};
 ghost use Rattle.redo_view.specs.View.{find_unknown};
-ghost use Rattle.redo_outline.specs.Outline.{outline_of, times_at, with_times};
+ghost use Rattle.redo_outline.specs.Outline.{outline_of, times_at, with_times, without_warnings};
+ghost use Rattle.redo_outline.specs.Private.Sweeping.{without_warnings_unless};
 
 use crate::collector::Collector;
 use crate::laws::events_are_in_contents;
@@ -50,6 +51,38 @@ impl Outline {
         requires known { find_unknown table.now requested.now ≡ None }
         ensures { IfOk result (λ outline. outline ≡ outline_of table.now (shown_events table.now options.now requested.now)) }
     {
+        Outline::make(alloc, table, options, requested, true)
+    }
+
+    /// Makes the outline for callers that show no numbers of warnings: both of each node are 0. No text line is searched for warnings.
+    /// Each of the requested targets must have a log. All logs must have ended.
+    pub fn without_warnings(
+        alloc: Global,
+        table: &LogTable,
+        options: &Options,
+        requested: &[TargetName],
+    ) -> Result<Outline, AllocError>
+        requires ended { list_all has_ended table.now ≡ true }
+        requires known { find_unknown table.now requested.now ≡ None }
+        ensures { IfOk result
+            (λ outline. outline ≡ map without_warnings (outline_of table.now (shown_events table.now options.now requested.now))) }
+    {
+        Outline::make(alloc, table, options, requested, false)
+    }
+
+    // Makes the outline, with the numbers of warnings or without.
+    fn make(
+        alloc: Global,
+        table: &LogTable,
+        options: &Options,
+        requested: &[TargetName],
+        with_warnings: bool,
+    ) -> Result<Outline, AllocError>
+        requires ended { list_all has_ended table.now ≡ true }
+        requires known { find_unknown table.now requested.now ≡ None }
+        ensures { IfOk result (λ outline. outline
+            ≡ map (without_warnings_unless with_warnings) (outline_of table.now (shown_events table.now options.now requested.now))) }
+    {
         let mut collector = Collector::new(alloc, table)?;
         let mut out = Nowhere;
         match view_as(alloc, table, options, &mut collector, requested, &mut out) {
@@ -59,7 +92,7 @@ impl Outline {
             Err(ViewFault::Write) => unreachable!(),
         }
         events_are_in_contents();
-        let nodes = collector.into_nodes(alloc)?;
+        let nodes = collector.into_nodes(alloc, with_warnings)?;
         let positions = node_positions(alloc, &nodes)?;
         Ok(Outline { nodes, positions })
     }

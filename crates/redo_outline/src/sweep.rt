@@ -128,6 +128,8 @@ fn node_from(
 #[derive(Drop)]
 pub struct Sweep<'a> {
     table: &'a LogTable,
+    // Whether warnings are counted.
+    with_warnings: bool,
     // The status of each target that other logs have, by the number of the target's log.
     statuses: &'a [Option<i32>],
     // The logs that are opened before.
@@ -146,6 +148,7 @@ impl<'a> Model for Sweep<'a> {
 
     ghost view = { λ sweep. record {
       logs = sweep.table.now;
+      with_warnings = sweep.with_warnings;
       statuses = sweep.statuses.now;
       opened = sweep.opened.items;
       inner = sweep.inner;
@@ -164,13 +167,15 @@ impl<'a> Sweep<'a> {
         statuses: &'a [Option<i32>],
         opened: Vec<OpenedLog>,
         after_others: bool,
+        with_warnings: bool,
     ) -> Sweep<'a>
-        ensures { result ≡ sweep_begun table.now statuses.now opened.items after_others }
+        ensures { result ≡ sweep_begun table.now statuses.now opened.items after_others with_warnings }
     {
         let mut inner = Summary::nothing();
         inner.add_others(after_others);
         Sweep {
             table,
+            with_warnings,
             statuses,
             opened,
             inner,
@@ -221,7 +226,7 @@ impl<'a> Sweep<'a> {
         let Some(log) = self.opened.pop() else {
             return Ok(());
         };
-        let facts = log_facts(self.table, log.number);
+        let facts = log_facts(self.table, log.number, self.with_warnings);
         let status = facts.status.or(status_at(self.statuses, log.number));
         let rest = pop_or_nothing(&mut self.outer);
         let node = node_from(log, &facts, status, self.inner, rest);

@@ -9,12 +9,15 @@ use Rattle.redo_outline.specs.declared.collector.OpenedLog.{OpenedLog}
 use Rattle.redo_outline.specs.declared.facts.LogFacts.{LogFacts}
 use Rattle.redo_outline.specs.declared.node.Node.{Node}
 use Rattle.redo_outline.specs.declared.sweep.Summary.{Summary}
-use Rattle.redo_outline.specs.Facts.{entries_at, is_failure, saturated}
+use Rattle.redo_outline.specs.Facts.{entries_at, is_failure, saturated, status_in_log}
+use Rattle.redo_outline.specs.Outline.{without_warnings}
 use Rattle.redo_outline.specs.Private.Collecting.{Collected}
 use Rattle.redo_outline.specs.Private.LogFacts.{facts_of}
 
 pub record Swept : Type 0 where
   pub logs : List Log
+  -- Whether warnings are counted.
+  pub with_warnings : Bool
   pub statuses : List (Option ℤ)
   -- The logs that are opened before.
   pub opened : List OpenedLog
@@ -90,10 +93,11 @@ others_of (Some split) = split.0
 
 module _ (logs : List Log) (statuses : List (Option ℤ)) where
   abbrev pub status_of : ℕ → Option ℤ
-  status_of number = option_or (facts_of (entries_at number logs)).status (slice_index_or statuses number None)
+  status_of number = option_or (status_in_log (entries_at number logs)) (slice_index_or statuses number None)
 
-  abbrev pub node_at : OpenedLog → Summary → Summary → Node
-  node_at log inside rest = node_from log (facts_of (entries_at log.number logs)) (status_of log.number) inside rest
+  abbrev pub node_at : Bool → OpenedLog → Summary → Summary → Node
+  node_at with_warnings log inside rest =
+      node_from log (facts_of with_warnings (entries_at log.number logs)) (status_of log.number) inside rest
 
 -- The end of a log is added.
 abbrev pub end_added : Swept → Swept
@@ -101,9 +105,10 @@ end_added swept = record swept { inner = nothing_left; outer = swept.outer ++ sw
 
 abbrev pub opening_added_to : OpenedLog → List OpenedLog → Summary → List Summary → Swept → Swept
 opening_added_to log opened rest outer swept =
-    let node = node_at swept.logs swept.statuses log swept.inner rest in
+    let node = node_at swept.logs swept.statuses swept.with_warnings log swept.inner rest in
     record {
       logs = swept.logs;
+      with_warnings = swept.with_warnings;
       statuses = swept.statuses;
       opened = opened;
       inner = with_log node swept.inner rest;
@@ -132,9 +137,10 @@ brackets_added [] swept = swept
 brackets_added (bracket ∷ brackets) swept = bracket_added bracket (brackets_added brackets swept)
 
 -- A sweep begins after the last bracket.
-abbrev pub sweep_begun : List Log → List (Option ℤ) → List OpenedLog → Bool → Swept
-sweep_begun logs statuses opened after_others = record {
+abbrev pub sweep_begun : List Log → List (Option ℤ) → List OpenedLog → Bool → Bool → Swept
+sweep_begun logs statuses opened after_others with_warnings = record {
   logs = logs;
+  with_warnings = with_warnings;
   statuses = statuses;
   opened = opened;
   inner = with_others_if after_others nothing_left;
@@ -142,10 +148,15 @@ sweep_begun logs statuses opened after_others = record {
   nodes = [];
 }
 
+-- A node. Unless warnings are counted, their numbers are 0.
+abbrev pub without_warnings_unless : Bool → Node → Node
+without_warnings_unless counted node = if counted then node else without_warnings node
+
 -- The nodes of all logs that a collector saw.
-abbrev pub collected_nodes : Collected → List Node
-collected_nodes collected =
-    reverse (brackets_added collected.brackets (sweep_begun collected.logs collected.statuses collected.opened collected.after_others)).nodes
+abbrev pub collected_nodes : Bool → Collected → List Node
+collected_nodes with_warnings collected =
+    let begun = sweep_begun collected.logs collected.statuses collected.opened collected.after_others with_warnings in
+    reverse (brackets_added collected.brackets begun).nodes
 
 -- Whether the counts of a log in a row or directly in a log don't exceed the number of logs.
 pub record IsCounted (rest : Summary) : Type 0 where

@@ -5,8 +5,8 @@ use Rattle.redo_logs.specs.Numbering.{AreLinesAt, HasText}
 use Rattle.redo_outline.proofs.FactsLemmas.{entry_smaller, gathered_all, gathered_entry, gathered_lines, lines_smaller, no_rest}
 use Rattle.redo_outline.proofs.facts.log_facts.Goals as goal
 
-pub count_warnings-requires : goal.count_warnings-requires
-count_warnings-requires c =
+pub warnings_if-requires : goal.warnings_if-requires
+warnings_if-requires c =
     let lines = subst (λ (logs : List Log).
     AreLinesAt logs c.args.number c.entries.next_entry c.lines-count.result.0.now c.lines-count.result.1) c.numbered-logs.ensures
     c.lines-count.ensures.lines in
@@ -30,7 +30,7 @@ entries-preserved-then-count-gt0 c =
       c.saturating_add.ensures,
       c.saturating_add-then-count-gt0.ensures,
       c.saturating_add-then-count-gt0-2.ensures,
-      c.count_warnings.ensures,
+      c.warnings_if.ensures,
     )
     (gathered_lines c.args.table.now c.args.number c.entries.next_entry c.entries.facts c.entries.invariant c.lines-count.result.0.now
     c.lines-count.result.1 lines)

@@ -40,10 +40,12 @@ returns c =
     let inside = c.self.inside in
     let log = c.in-Some.log in
     let rest = c.pop_or_nothing-rest.result in
-    let node = node_at_is inside.table.now inside.statuses.now log inside.inner rest c.log_facts-facts.result c.status_at.result
-    c.or-status.result c.node_from-node.result
+    let node = node_at_is inside.with_warnings inside.table.now inside.statuses.now log inside.inner rest c.log_facts-facts.result
+    c.status_at.result c.or-status.result c.node_from-node.result
     c.log_facts-facts.ensures c.status_at.ensures c.or-status.ensures c.node_from-node.ensures in
-    opening_is (swept_of inside.table.now inside.statuses.now inside.opened.items inside.inner inside.outer.items inside.nodes.items) log
+    let swept = swept_of inside.with_warnings inside.table.now inside.statuses.now inside.opened.items inside.inner inside.outer.items
+    inside.nodes.items in
+    opening_is swept log
     c.pop.new.self.items c.node_from-node.result rest c.with_log-self-inside.result
     c.pop_or_nothing-rest.new.outer.items c.push.new.self.items
     (split_some inside.opened.items c.pop.new.self.items log c.in-Some.ensures.items) c.pop_or_nothing-rest.ensures.rest
