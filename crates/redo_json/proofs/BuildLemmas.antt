@@ -18,12 +18,12 @@ use Rattle.redo_outline.specs.declared.node.Node.{Node}
 use Rattle.redo_outline.specs.Contents.{Contents, contents_of}
 use Rattle.redo_outline.specs.Contents.Contents.{Nothing, Shown, Opened}
 use Rattle.redo_outline.specs.Facts.{entries_at, target_at, target_status, texts_of}
-use Rattle.redo_outline.specs.Outline.{log_count, node_of, outline_of}
+use Rattle.redo_outline.specs.Outline.{log_count, node_of, outline_of, without_warnings}
 use Rattle.redo_compare.specs.Baseline.{ChangesValue}
 use Rattle.redo_facts.specs.Facts.{RecipeCommand, nothing}
 use Rattle.redo_times.specs.declared.times.Times.{Times}
 use Rattle.redo_json.specs.declared.build.Recipe.{Recipe}
-use Rattle.redo_json.specs.Build.{Request, build_json, changes_in, needs_of, object_text, options_of, unknown_times, values_in, whole_commands}
+use Rattle.redo_json.specs.Build.{Request, build_json, changes_in, log_values, needs_of, object_text, options_of, unknown_times, values_in, whole_commands}
 use Rattle.redo_json.specs.Object.{LogValues}
 use Rattle.redo_json.specs.Private.Values.{IsRecipeOf, node_values, parent_name}
 use Rattle.redo_json.proofs.NodeLemmas.{both_count, first_count, node_here, nodes_in, split_both, split_first}
@@ -67,24 +67,44 @@ outline_values request logs events =
     let all = outline_of logs events in
     values_are request logs (target_status logs events) all [] [] None 0 (contents_of events) (sym (append-nil all)) refl
 
+-- ---- nodes without numbers of warnings
+
+module _ (request : Request) (logs : List Log) where
+  same_name : (nodes : List Node) (position : ℕ)
+      → parent_name logs (map without_warnings nodes) (Some position) ≡ parent_name logs nodes (Some position)
+  same_name [] position = refl
+  same_name (node ∷ nodes) zero = refl
+  same_name (node ∷ nodes) (suc position) = same_name nodes position
+
+  same_parent : (nodes : List Node) (parent : Option ℕ)
+      → parent_name logs (map without_warnings nodes) parent ≡ parent_name logs nodes parent
+  same_parent nodes None = refl
+  same_parent nodes (Some position) = same_name nodes position
+
+  -- The values of a log don't depend on them.
+  same_values : (nodes : List Node) (node : Node)
+      → node_values request logs (map without_warnings nodes) (without_warnings node) ≡ node_values request logs nodes node
+  same_values nodes node = ap (λ (parent : Option (List ℕ)). log_values request logs parent node) (same_parent nodes node.parent)
+
+flat_map-map : {A B : Type 0} (f : B → List ℕ) (g : A → B) (xs : List A) → flat_map f (map g xs) ≡ flat_map (λ (x : A). f (g x)) xs
+flat_map-map f g [] = refl
+flat_map-map f g (x ∷ xs) = ap (λ (l : List ℕ). f (g x) ++ l) (flat_map-map f g xs)
+
 -- The objects of all nodes.
 pub build_text : (request : Request) (logs : List Log) (requested : List (List ℕ)) (options : Options) (nodes : List Node)
-    → options ≡ options_of request → nodes ≡ outline_of logs (shown_events logs options requested)
+    → options ≡ options_of request → nodes ≡ map without_warnings (outline_of logs (shown_events logs options requested))
     → flat_map (λ (node : Node). with_line_feed (object_text (node_values request logs nodes node))) nodes
     ≡ build_json request logs requested
 build_text request logs requested options nodes same is =
     let events = shown_events logs (options_of request) requested in
     let all = outline_of logs events in
-    ap (λ (ns : List Node). flat_map (λ (node : Node). with_line_feed (object_text (node_values request logs ns node))) ns)
-    (is ∙ ap (λ (o : Options). outline_of logs (shown_events logs o requested)) same)
-    ∙ sym (flat_map-map (λ (values : LogValues). with_line_feed (object_text values)) (node_values request logs all) all)
-    ∙ ap (λ (l : List LogValues). flat_map (λ (values : LogValues). with_line_feed (object_text values)) l)
-    (outline_values request logs events)
-  where
-    flat_map-map : (f : LogValues → List ℕ) (v : Node → LogValues) (ns : List Node)
-        → flat_map f (map v ns) ≡ flat_map (λ (node : Node). f (v node)) ns
-    flat_map-map f v [] = refl
-    flat_map-map f v (node ∷ ns) = ap (λ (l : List ℕ). f (v node) ++ l) (flat_map-map f v ns)
+    let text : LogValues → List ℕ = λ values. with_line_feed (object_text values) in
+    ap (λ (ns : List Node). flat_map (λ (node : Node). text (node_values request logs ns node)) ns)
+    (is ∙ ap (λ (o : Options). map without_warnings (outline_of logs (shown_events logs o requested))) same)
+    ∙ flat_map-map (λ (node : Node). text (node_values request logs (map without_warnings all) node)) without_warnings all
+    ∙ ap (λ (values : Node → LogValues). flat_map (λ (node : Node). text (values node)) all) (λ i node. same_values request logs all node i)
+    ∙ sym (flat_map-map text (node_values request logs all) all)
+    ∙ ap (λ (l : List LogValues). flat_map text l) (outline_values request logs events)
 
 -- A command, if it is known whole.
 abbrev pub if_whole : RecipeCommand → List (List ℕ)

@@ -70,7 +70,12 @@ pub fn write_build<W: Sink>(
     requires known { find_unknown table.now requested.now ≡ None }
     ensures { FormWrites (W.written out.old) (W.written out.new) (build_json (request_of request.now) table.now requested.now) result }
 {
-    let outline = Outline::new(alloc, table, &json_options(request.unchanged), requested)?;
+    let outline = Outline::without_warnings(
+        alloc,
+        table,
+        &json_options(request.unchanged),
+        requested,
+    )?;
     write_logs(alloc, table, request, outline.nodes(), out)
 }
 
