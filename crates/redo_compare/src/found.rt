@@ -152,13 +152,13 @@ fn push_if_diagnostic(
     ensures is { IfOk result (λ is. is ≡ is_some (diagnostic_of line.now)) }
 {
     let mut plain = Vec::new(alloc);
-    let Some(diagnostic) = read_diagnostic(alloc, line, &mut plain)? else {
+    let Some(diagnostic) = read_diagnostic(line, &mut plain)? else {
         return Ok(false);
     };
     let occurrence = Occurrence {
         line: position,
         severity: diagnostic.severity(),
-        key: diagnostic.into_key(),
+        key: diagnostic.key(alloc)?.to_vec(alloc)?,
         source: Vec::new(alloc),
     };
     occurrences.push(occurrence)?;

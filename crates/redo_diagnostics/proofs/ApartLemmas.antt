@@ -67,7 +67,7 @@ temporary-colon (x1 ∷ x2 ∷ x3 ∷ x4 ∷ x5 ∷ x6 ∷ x7 ∷ x8 ∷ []) b =
 temporary-colon (x1 ∷ x2 ∷ x3 ∷ x4 ∷ x5 ∷ x6 ∷ x7 ∷ x8 ∷ x9 ∷ a) b = refl
 
 -- Such a name has nine bytes or more.
-temporary-long : (bytes : List ℕ) → begins_temporary bytes ≡ true → 8 ≤ length bytes
+pub temporary-long : (bytes : List ℕ) → begins_temporary bytes ≡ true → 8 ≤ length bytes
 temporary-long (x1 ∷ x2 ∷ x3 ∷ x4 ∷ x5 ∷ x6 ∷ x7 ∷ x8 ∷ bytes) is = omega arith
 temporary-long [] is = absurd (false≢true is)
 temporary-long (x1 ∷ []) is = absurd (false≢true (sym (by_end (x1 ∷ []) refl) ∙ is))
@@ -83,7 +83,7 @@ abbrev mask_step : Bool → ℕ → List ℕ → List ℕ
 mask_step is byte bytes = cond is (codes "/cc*" ++ masked_after 8 bytes) (byte ∷ masked_after 0 bytes)
 
 -- The bytes before a colon and the bytes after it are masked by themselves.
-masked-colon : (n : ℕ) (a b : List ℕ) → n ≤ length a → masked_after n (a ++ colon ∷ b) ≡ masked_after n a ++ colon ∷ masked b
+pub masked-colon : (n : ℕ) (a b : List ℕ) → n ≤ length a → masked_after n (a ++ colon ∷ b) ≡ masked_after n a ++ colon ∷ masked b
 unfolding masked_after
 masked-colon zero [] b few = refl
 masked-colon (suc n) [] b few = absurd (omega (arith, few))
@@ -101,7 +101,7 @@ masked-colon zero (byte ∷ a) b few =
     by false is named free = ap (λ (bytes : List ℕ). byte ∷ bytes) free
 
 -- Text without a colon has none when it is masked.
-masked-free-of-colon : (n : ℕ) (a : List ℕ) → HasNo colon a → HasNo colon (masked_after n a)
+pub masked-free-of-colon : (n : ℕ) (a : List ℕ) → HasNo colon a → HasNo colon (masked_after n a)
 unfolding masked_after
 masked-free-of-colon n [] free = tt
 masked-free-of-colon (suc n) (byte ∷ a) free = masked-free-of-colon n a free.1
@@ -142,7 +142,7 @@ word-no-slash Warning = free_by_test slash (word_of Warning) refl
 word-no-slash Error = free_by_test slash (word_of Error) refl
 word-no-slash FatalError = free_by_test slash (word_of FatalError) refl
 
-origin_free : (head : List ℕ) → HasNo colon (origin_of head)
+pub origin_free : (head : List ℕ) → HasNo colon (origin_of head)
 origin_free head = by (split_once colon head) refl
   where
     by : (found : Option (List ℕ × List ℕ)) → split_once colon head ≡ found → HasNo colon (origin_of head)
@@ -166,7 +166,7 @@ key_is one after is =
     ∙ ap (λ (bytes : List ℕ). masked (origin_of one.head) ++ colon ∷ space ∷ bytes)
     (ap masked is ∙ masked-free (word_of one.severity) after (word-no-slash one.severity))
 
-colon_apart : (a b c d : List ℕ) → HasNo colon a → HasNo colon c → a ++ colon ∷ b ≡ c ++ colon ∷ d → (a ≡ c) × (b ≡ d)
+pub colon_apart : (a b c d : List ℕ) → HasNo colon a → HasNo colon c → a ++ colon ∷ b ≡ c ++ colon ∷ d → (a ≡ c) × (b ≡ d)
 colon_apart a b c d first other same =
     let both = sym (parted_at colon a b first) ∙ ap (split_once colon) same ∙ parted_at colon c d other in
     some_pair_parts a c b d both

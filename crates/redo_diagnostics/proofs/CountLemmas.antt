@@ -11,7 +11,7 @@ use Rattle.std.proofs.lemmas.List.Elements.{filter-append}
 use Rattle.std.proofs.lemmas.Option.{same_Some}
 use Rattle.redo_diagnostics.specs.Counts.{AreCounts, count_in, max_count, numbered_after, stored, times_of}
 
-times-push : (key other : List ℕ) (keys : List (List ℕ))
+pub times-push : (key other : List ℕ) (keys : List (List ℕ))
     → times_of key (keys ++ other ∷ []) ≡ times_of key keys + length (cond (bytes_eq other key) (other ∷ []) [])
 times-push key other keys = ap length (filter-append (λ one. bytes_eq one key) keys (other ∷ []))
     ∙ length-append (filter (λ one. bytes_eq one key) keys) (cond (bytes_eq other key) (other ∷ []) [])

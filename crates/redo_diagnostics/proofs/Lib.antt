@@ -4,6 +4,8 @@ mod DiagnosticRows
 pub mod ApartLemmas
 pub mod FlagLemmas
 pub mod KeyLemmas
+pub mod KeyPartLemmas
+mod KeyRows
 mod LawRows
 pub mod PlaceLemmas
 pub mod PlaceLaws

@@ -3,7 +3,7 @@ use Rattle.std.specs.Prelude.{ℕ, zero, suc, ◌+◌, ◌-◌, ◌==◌, Bool, 
 use Rattle.std.specs.Char.{is_ascii_alphanumeric}
 use Rattle.std.specs.List.{list_all}
 use Rattle.std.specs.Str.{bytes_eq}
-use Rattle.memchr.specs.Find.{occurs_at}
+use Rattle.memchr.specs.Find.{OccursAt, occurs_at}
 use Rattle.redo_line.specs.Decimal.{number_of}
 use Rattle.redo_line.specs.Parts.{after_prefix, split_once}
 use Rattle.redo_line.specs.Record.{colon, period, space}
@@ -145,6 +145,10 @@ masked_after zero (byte ∷ bytes) =
 abbrev pub masked : List ℕ → List ℕ
 masked text = masked_after 0 text
 
+-- Text with no slash before `cc`, so that it has no name of a temporary file.
+abbrev pub HasNoTemporary : List ℕ → Type 0
+HasNoTemporary text = (place : ℕ) → ¬ OccursAt text (codes "/cc") place
+
 abbrev pub origin_from : Option (List ℕ × List ℕ) → List ℕ
 origin_from None = []
 origin_from (Some parts) = parts.0
@@ -208,3 +212,7 @@ diagnostic_from parts = record {
 -- The diagnostic of a line, if it has a word.
 unfoldable pub diagnostic_of : List ℕ → Option DiagnosticValue
 diagnostic_of line = option_map diagnostic_from (parts_of line)
+
+-- A diagnostic and its key.
+abbrev pub with_key : DiagnosticValue → DiagnosticValue × List ℕ
+with_key value = (value, value.key)

@@ -1,8 +1,7 @@
 ghost use Rattle.std.specs.Prelude.{◌≡◌, ◌∷◌, ◌++◌, ℕ, List, [], IfErr, IfOk, OnOk};
 ghost use Rattle.redo_diagnostics.specs.Counts.{AreCounts, stored, times_of};
 
-use crate::spare::SpareKeys;
-use crate::text::Text;
+use crate::key::Key;
 use indexmap::IndexMap;
 use redo_line::HashKeys;
 use std::alloc::{AllocError, Global};
@@ -10,11 +9,11 @@ use std::marker::Model;
 
 /// How often each key occurred in a log so far.
 #[derive(Drop)]
-pub struct KeyCounts {
-    counts: IndexMap<Text, u64, HashKeys>,
+pub struct KeyCounts<'a> {
+    counts: IndexMap<Key<'a>, u64, HashKeys>,
 }
 
-impl Model for KeyCounts {
+impl<'a> Model for KeyCounts<'a> {
     ghost use Rattle.std.specs.Prelude.{ℕ, List};
 
     ghost Value = { List (List ℕ × ℕ) };
@@ -22,9 +21,9 @@ impl Model for KeyCounts {
     ghost view = { λ counts. counts.counts.entries };
 }
 
-impl KeyCounts {
+impl<'a> KeyCounts<'a> {
     /// Creates counts of no keys, which are hashed with these hash keys. It does not allocate.
-    pub fn new(alloc: Global, keys: HashKeys) -> KeyCounts
+    pub fn new(alloc: Global, keys: HashKeys) -> KeyCounts<'a>
         ensures { AreCounts result [] }
     {
         KeyCounts {
@@ -32,26 +31,25 @@ impl KeyCounts {
         }
     }
 
+    /// Forgets all keys. It keeps its memory.
+    pub fn clear(&mut self)
+        ensures { AreCounts self.new [] }
+    {
+        self.counts.clear();
+    }
+
     /// Counts a key, and returns how often it occurred before. The key is hashed once, and stored if it is new. The only error is that an
     /// allocation failed; then nothing changes.
-    pub fn add(&mut self, key: Vec<u8>) -> Result<u64, AllocError>
+    pub fn add(&mut self, key: Key<'a>) -> Result<u64, AllocError>
         ensures before { (keys : List (List ℕ)) → AreCounts self.old keys → IfOk result (λ before.
-            before ≡ stored (times_of key.items keys)) }
-        ensures counted { (keys : List (List ℕ)) → AreCounts self.old keys → OnOk result (AreCounts self.new (keys ++ key.items ∷ [])) }
+            before ≡ stored (times_of key.entry keys)) }
+        ensures counted { (keys : List (List ℕ)) → AreCounts self.old keys → OnOk result (AreCounts self.new (keys ++ key.entry ∷ [])) }
         ensures unchanged { IfErr result (λ error. self.new ≡ self.old) }
     {
-        let text = Text::new(key);
-        let entry = self.counts.entry(text)?;
+        let entry = self.counts.entry(key)?;
         let count = entry.or_insert(0);
         let before = *count;
         *count = before.saturating_add(1);
         Ok(before)
-    }
-
-    /// Gives up the vectors of its keys.
-    pub fn into_spare(self, spare: &mut SpareKeys) {
-        for key in self.counts.into_keys() {
-            spare.keep(key.into_bytes());
-        }
     }
 }

@@ -9,9 +9,10 @@
 //!   an end is none, and counts.
 //! - A word ends with its only colon, so the code looks for a word only before each colon. The definition tests each place.
 //!   [`may_have_diagnostic`] rules out many lines at once.
-//! - A diagnostic borrows from its line, or from the buffer that a line with colours or links is copied to without them. Only its key is
-//!   allocated, and the key moves into [`KeyCounts`] without a copy. All keys of a log are given up together, which takes the allocator
-//!   as long as their allocation; so [`SpareKeys`] keeps their vectors for the keys of the next log.
+//! - A diagnostic borrows from its line, or from the buffer that a line with colours or links is copied to without them. Its parts are
+//!   read when they are asked for. So is its [`Key`], which is two parts of the line. Only a part with the name of a temporary file is
+//!   copied. [`KeyCounts`] stores keys as they are, and keeps its memory from one log to the next.
+//! - Two keys are the same if both parts are: what precedes the first colon, and what follows it and a space.
 //! - A key always has a colon and a space after its origin, even if the origin is empty: `warning: x` has the key `: warning: x`.
 //!   Otherwise `warning:y warning: z` and `warning: warning: z` would have the same key.
 //! - What precedes the word doesn't count without a colon. It names no file and no program, and is often a number that changes: of a
@@ -29,19 +30,17 @@ mod laws;
 mod place;
 mod plain;
 mod severity;
-mod spare;
 mod split;
-mod text;
 mod word;
 
 pub use counts::KeyCounts;
 pub use diagnostic::{
-    Diagnostic, may_have_diagnostic, read_diagnostic, read_diagnostic_with, read_plain_diagnostic,
+    Diagnostic, may_have_diagnostic, may_have_temporary, read_diagnostic, read_simple_diagnostic,
 };
+pub use key::Key;
 pub use laws::{
     colours_and_links_say_nothing, ids_are_distinct, keys_ignore_places, keys_tell_apart,
 };
 pub use place::Place;
 pub use plain::push_plain;
 pub use severity::Severity;
-pub use spare::SpareKeys;

@@ -48,22 +48,32 @@ impl<'a> Place<'a> {
     }
 }
 
-/// Returns the file or program that the bytes before a word name, and the place in them: `F:R: ` or `F:R:C: `. `colon` is the place of their
-/// first colon, or after them if they have none.
-pub fn origin_and_place(head: &[u8], colon: usize) -> (&[u8], Option<Place<'_>>)
+/// Returns the file or program that the bytes before a word name. `colon` is the place of their first colon, or after them if they have
+/// none.
+pub fn origin_of(head: &[u8], colon: usize) -> &[u8]
     requires { IsColonOf head.now colon }
-    ensures origin { result.0.now ≡ spec.origin_of head.now }
-    ensures place { result.1 ≡ spec.place_of head.now }
+    ensures { result.now ≡ spec.origin_of head.now }
 {
     if colon >= head.len() {
-        return (b"", None);
+        b""
+    } else {
+        &head[..colon]
     }
-    let file = &head[..colon];
-    (file, place_of(file, &head[colon + 1..]))
+}
+
+/// Returns the place in the bytes before a word: `F:R: ` or `F:R:C: `.
+pub fn place_of(head: &[u8], colon: usize) -> Option<Place<'_>>
+    requires { IsColonOf head.now colon }
+    ensures { result ≡ spec.place_of head.now }
+{
+    if colon >= head.len() {
+        return None;
+    }
+    place_in(&head[..colon], &head[colon + 1..])
 }
 
 // Returns the place, from the bytes before and after the first colon.
-fn place_of<'a>(file: &'a [u8], others: &[u8]) -> Option<Place<'a>>
+fn place_in<'a>(file: &'a [u8], others: &[u8]) -> Option<Place<'a>>
     ensures { result ≡ place_from file.now (option_and_then (λ row. spec.row_and_column row) (split_once record_bytes.colon others.now)) }
 {
     if file.is_empty() {

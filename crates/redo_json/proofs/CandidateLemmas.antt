@@ -10,13 +10,13 @@ use Rattle.redo_line.specs.Lines.{ended}
 use Rattle.redo_logs.specs.Logs.{Log}
 use Rattle.redo_json.specs.Diagnostics.{flagged, numbered_from, placed_from, placed_if}
 use Rattle.redo_json.specs.Private.Diagnosing.{WroteDiagnostics}
-use Rattle.redo_json.specs.Private.LogLines.{AreCandidates, AreNextLines, AreVerbatim, IsNextCandidate, Remaining, texts_from}
+use Rattle.redo_json.specs.Private.LogLines.{AreCandidates, AreNextLines, AreSimple, IsNextCandidate, Remaining, texts_from}
 use Rattle.redo_json.specs.Private.Parts.{diagnostics_text}
 use Rattle.redo_json.proofs.LogLineLemmas.{is_nothing}
 use Rattle.redo_json.proofs.WritingLemmas.{left_is}
 
 pub same_lines : (lines : Remaining) → AreCandidates lines lines
-same_lines lines = record { placed = refl; fewer = omega arith; later = omega arith; verbatim = λ all. all }
+same_lines lines = record { placed = refl; fewer = omega arith; later = omega arith; simple = λ all. all }
 
 pub more_skipped : (before between after : Remaining) → AreCandidates before between → AreCandidates between after
     → AreCandidates before after
@@ -24,7 +24,7 @@ more_skipped before between after first second = record {
   placed = first.placed ∙ second.placed;
   fewer = let few = first.fewer in let fewer = second.fewer in omega (arith, few, fewer);
   later = let late = first.later in let later = second.later in omega (arith, late, later);
-  verbatim = λ all. second.verbatim (first.verbatim all);
+  simple = λ all. second.simple (first.simple all);
 }
 
 -- Lines without diagnostics have no part in what is found.
@@ -38,9 +38,9 @@ placed_after (line ∷ skipped) others position none =
     ∙ placed_after skipped others (suc position) none.1 ∙ ap (λ (n : ℕ). placed_from n others) same
 
 -- Lines after others.
-verbatim_after : (skipped others : List (List ℕ)) → AreVerbatim (skipped ++ others) → AreVerbatim others
-verbatim_after [] others all = all
-verbatim_after (line ∷ skipped) others all = verbatim_after skipped others all.1
+simple_after : (skipped others : List (List ℕ)) → AreSimple (skipped ++ others) → AreSimple others
+simple_after [] others all = all
+simple_after (line ∷ skipped) others all = simple_after skipped others all.1
 
 -- A stretch without diagnostics.
 pub skips_stretch : (logs : List Log) (number at before count after : ℕ) (lines : List ℕ) → AreNextLines logs number at lines after
@@ -53,7 +53,7 @@ skips_stretch logs number at before count after lines are counted none = record 
   fewer = let split = ap length are.split in let sum = length-append (ended lines) (texts_from logs number after) in
       omega (arith, split, sum);
   later = omega arith;
-  verbatim = λ all. verbatim_after (ended lines) (texts_from logs number after) (subst AreVerbatim are.split all);
+  simple = λ all. simple_after (ended lines) (texts_from logs number after) (subst AreSimple are.split all);
 }
 
 -- A stretch that isn't skipped.
@@ -64,7 +64,7 @@ takes_stretch logs number at before after lines are = record {
   placed = ap (placed_from before) are.split;
   fewer = let split = ap length are.split in omega (arith, split);
   later = omega arith;
-  verbatim = subst AreVerbatim are.split;
+  simple = subst AreSimple are.split;
 }
 
 -- Nothing is left of the last stretch.
@@ -93,13 +93,15 @@ none_is_left before others after (Some one) are line = tt
 
 -- What was written before skipped lines is what was written before the others.
 pub at_candidates : (before after : Option Output) (text : List ℕ) (is_first : Bool) (flags : Option (List Bool)) (left others : Remaining)
-    (counts : List (List ℕ × ℕ)) → AreCandidates left others → WroteDiagnostics before after text is_first flags left counts
-    → WroteDiagnostics before after text is_first flags others counts
-at_candidates before after text is_first flags left others counts are so_far = record {
+    (counts : List (List ℕ × ℕ)) (buffer : List ℕ) → AreCandidates left others
+    → WroteDiagnostics before after text is_first flags left counts buffer
+    → WroteDiagnostics before after text is_first flags others counts buffer
+at_candidates before after text is_first flags left others counts buffer are so_far = record {
   keys = so_far.keys;
   counted = so_far.counted;
   few = let few = so_far.few in let later = are.later in omega (arith, few, later);
   wrote = left_is before after text _ _
-      (ap (λ (found : List (ℕ × DiagnosticValue)). diagnostics_text is_first (flagged flags (numbered_from so_far.keys found))) are.placed)
+      (ap (λ (found : List (ℕ × DiagnosticValue)).
+      buffer ++ diagnostics_text is_first (flagged flags (numbered_from so_far.keys found))) are.placed)
       so_far.wrote;
 }

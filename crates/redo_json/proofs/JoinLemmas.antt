@@ -1,10 +1,9 @@
 -- Objects that are joined in memory.
-use Rattle.std.proofs.Common.{◌≡◌, ◌<◌, ◌≤◌, ◌/◌, ◌%◌, ℕ, Bool, List, [], ◌++◌, Option, Result, Ok, Err, sym, ap, ◌∙◌, arith, append_assoc}
+use Rattle.std.proofs.Common.{◌≡◌, ◌<◌, ◌≤◌, ◌/◌, ◌%◌, ℕ, Bool, List, ◌++◌, Option, Result, Ok, Err, sym, ap, ◌∙◌, arith, append_assoc}
 use Rattle.std.specs.Prelude.{OnOk, decimal}
 use Rattle.std.proofs.lemmas.Fmt.{decimal_digit, decimal_step}
 use Rattle.redo_diagnostics.specs.Counts.{stored, times_of}
 use Rattle.redo_diagnostics.specs.Diagnostic.{DiagnosticValue}
-use Rattle.redo_json.specs.Diagnostics.{LogDiagnostic}
 use Rattle.redo_json.specs.Private.Diagnosing.{IsVerbatimDiagnostic}
 use Rattle.redo_json.specs.Private.Parts.{diagnostic_front, diagnostic_text, number_text, strings_text}
 use Rattle.redo_json.specs.Private.Writing.{IsAppended}
@@ -28,18 +27,19 @@ pub last_digit : (n : ℕ) → 10 ≤ n → n < 1000 → decimal (n / 10) ++ dec
 last_digit n low high =
     ap (λ (l : List ℕ). decimal (n / 10) ++ l) (decimal_digit (n % 10) (omega arith)) ∙ sym (decimal_step n low (omega (arith, high)))
 
+-- Three parts were appended one after the other.
+pub three_appended : (before first second after a b c whole : List ℕ) → IsAppended before first a → IsAppended first second b
+    → IsAppended second after c → a ++ (b ++ c) ≡ whole → IsAppended before after whole
+three_appended before first second after a b c whole one two three is = record {
+  is = three.is ∙ ap (λ (l : List ℕ). l ++ c) two.is ∙ append_assoc first b c
+      ∙ ap (λ (l : List ℕ). l ++ (b ++ c)) one.is ∙ append_assoc before a (b ++ c) ∙ ap (λ (l : List ℕ). before ++ l) is;
+}
+
 -- The three parts of an object.
 pub object_is : (is_first : Bool) (position nth : ℕ) (value : DiagnosticValue) (new : Option Bool) (keys : List (List ℕ))
-    (none front strings whole : List ℕ) → IsVerbatimDiagnostic value → none ≡ []
-    → IsAppended none front (diagnostic_front is_first position value)
-    → IsAppended front strings (strings_text value) → IsAppended strings whole (number_text nth new)
-    → nth ≡ stored (times_of value.key keys)
-    → whole ≡ diagnostic_text is_first (record { line = position; value = value; nth = stored (times_of value.key keys) }, new)
-object_is is_first position nth value new keys none front strings whole verbatim first second third last is =
-    let one : LogDiagnostic = record { line = position; value = value; nth = nth } in
-    last.is ∙ ap (λ (l : List ℕ). l ++ number_text nth new) third.is
-    ∙ append_assoc front (strings_text value) (number_text nth new)
-    ∙ ap (λ (l : List ℕ). l ++ (strings_text value ++ number_text nth new))
-    (second.is ∙ ap (λ (l : List ℕ). l ++ diagnostic_front is_first position value) first)
-    ∙ joined_object one new is_first verbatim
+    → IsVerbatimDiagnostic value → nth ≡ stored (times_of value.key keys)
+    → diagnostic_front is_first position value ++ (strings_text value ++ number_text nth new)
+    ≡ diagnostic_text is_first (record { line = position; value = value; nth = stored (times_of value.key keys) }, new)
+object_is is_first position nth value new keys verbatim is =
+    joined_object (record { line = position; value = value; nth = nth }) new is_first verbatim
     ∙ ap (λ (n : ℕ). diagnostic_text is_first (record { line = position; value = value; nth = n }, new)) is

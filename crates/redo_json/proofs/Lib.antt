@@ -29,6 +29,7 @@ mod ParentLaws
 mod ParentLemmas
 mod ParentTreeLemmas
 mod PartLemmas
+mod PendingLemmas
 mod PlaceLemmas
 mod PrintLemmas
 mod ReadingLemmas

@@ -1,24 +1,26 @@
 -- The names that entries mention, entry by entry.
-use Rattle.std.proofs.Common.{◌≡◌, ℕ, zero, suc, ◌+◌, ◌<◌, Bool, true, false, List, [], ◌∷◌, ◌++◌, Option, None, Some, drop, length, refl, subst, sym, ap, ◌∙◌, arith, append_assoc, append-nil}
+use Rattle.std.proofs.Common.{◌≡◌, ℕ, suc, ◌+◌, ◌<◌, Bool, true, false, cond, not, List, [], ◌∷◌, ◌++◌, Option, None, Some, drop, length, refl, subst, sym, ap, ◌∙◌, arith, append_assoc, append-nil}
 use Rattle.std.specs.Prelude.{◌==◌, option_to_list, if◌then◌else◌}
-use Rattle.std.specs.List.{cons_option}
-use Rattle.std.proofs.lemmas.Bool.{eqb-false, eqb-true}
-use Rattle.redo_diagnostics.specs.Counts.{AreCounts, stored, times_of}
+use Rattle.std.specs.List.{cons_option, list_any}
+use Rattle.std.specs.Str.{bytes_eq}
+use Rattle.std.proofs.lemmas.Bool.{ne_eqb}
+use Rattle.redo_diagnostics.specs.Counts.{times_of}
+use Rattle.redo_diagnostics.proofs.CountLemmas.{times-push}
 use Rattle.redo_line.specs.declared.entry.Entry.{Entry}
 use Rattle.redo_line.specs.declared.entry.Entry.TheVariants.{Text}
 use Rattle.redo_logs.specs.Logs.{Log, entry_at}
 use Rattle.redo_logs.specs.Numbering.{AreLinesAt, AreTexts}
 use Rattle.redo_outline.specs.Facts.{entries_at, target_at}
 use Rattle.redo_json.specs.Build.{mentioned_name, mentions_in, name_if_new, needs_of, new_names}
-use Rattle.redo_json.specs.Private.Needing.{FoundNeeds, names_if_new}
+use Rattle.redo_json.specs.Private.Needing.{AreKnownNames, FoundNeeds, names_if_new}
 use Rattle.redo_json.proofs.LogLineLemmas.{drop_here, drop_none, entry_is, within}
 
 -- At first, only the log's own target is counted.
-pub begin_needs : (target : List ℕ) (entries : List Entry) (counts : List (List ℕ × ℕ)) (names : List (List ℕ)) (own : List ℕ)
-    → names ≡ [] → own ≡ target → AreCounts counts (own ∷ []) → FoundNeeds target entries 0 names counts
-begin_needs target entries counts names own none same counted = record {
+pub begin_needs : (target : List ℕ) (entries : List Entry) (set names : List (List ℕ)) (own : List ℕ)
+    → names ≡ [] → own ≡ target → AreKnownNames set (own ∷ []) → FoundNeeds target entries 0 names set
+begin_needs target entries set names own none same known = record {
   before = target ∷ [];
-  counted = subst (λ (name : List ℕ). AreCounts counts (name ∷ [])) same counted;
+  known = subst (λ (name : List ℕ). AreKnownNames set (name ∷ [])) same known;
   are = ap (λ (ns : List (List ℕ)). ns ++ new_names (target ∷ []) (mentions_in entries)) none;
 }
 
@@ -48,21 +50,21 @@ module _ (logs : List Log) (number : ℕ) where
       by (text ∷ texts) are is = within logs number (Text text) k are.0
 
   -- Text lines mention nothing.
-  pub after_texts : (k : ℕ) (bytes : List ℕ) (count : ℕ) (names : List (List ℕ)) (counts : List (List ℕ × ℕ))
-      → AreLinesAt logs number k bytes count → FoundNeeds target all k names counts → FoundNeeds target all (k + count) names counts
-  after_texts k bytes count names counts lines so_far = record {
+  pub after_texts : (k : ℕ) (bytes : List ℕ) (count : ℕ) (names set : List (List ℕ))
+      → AreLinesAt logs number k bytes count → FoundNeeds target all k names set → FoundNeeds target all (k + count) names set
+  after_texts k bytes count names set lines so_far = record {
     before = so_far.before;
-    counted = so_far.counted;
+    known = so_far.known;
     are = ap (λ (ms : List (List ℕ)). names ++ new_names so_far.before ms)
         (ap (λ (n : ℕ). mentions_in (drop (k + n) all)) (sym lines.count_is) ∙ sym (skip_texts k lines.texts lines.are))
         ∙ so_far.are;
   }
 
   -- No entry is left.
-  pub all_needs : (k : ℕ) (names : List (List ℕ)) (counts : List (List ℕ × ℕ)) → entry_at number k logs ≡ None
-      → FoundNeeds target all k names counts
+  pub all_needs : (k : ℕ) (names set : List (List ℕ)) → entry_at number k logs ≡ None
+      → FoundNeeds target all k names set
       → names ≡ needs_of target all
-  all_needs k names counts none so_far =
+  all_needs k names set none so_far =
       sym (append-nil names)
       ∙ ap (λ (es : List Entry). names ++ new_names so_far.before (mentions_in es))
       (sym (drop_none all k (sym (entry_is logs number k) ∙ none)))
@@ -83,13 +85,13 @@ module _ (logs : List Log) (number : ℕ) where
       ∙ sym (append_assoc names (name_if_new name before) (new_names (before ++ name ∷ []) (mentions_in (drop (k + 1) all))))
 
   -- One more entry.
-  pub after_entry : (k : ℕ) (entry : Entry) (names later : List (List ℕ)) (counts after : List (List ℕ × ℕ))
-      → entry_at number k logs ≡ Some entry → (so_far : FoundNeeds target all k names counts)
-      → AreCounts after (so_far.before ++ option_to_list (mentioned_name entry))
+  pub after_entry : (k : ℕ) (entry : Entry) (names later set after : List (List ℕ))
+      → entry_at number k logs ≡ Some entry → (so_far : FoundNeeds target all k names set)
+      → AreKnownNames after (so_far.before ++ option_to_list (mentioned_name entry))
       → later ≡ names ++ names_if_new (mentioned_name entry) so_far.before → FoundNeeds target all (k + 1) later after
-  after_entry k entry names later counts after is so_far counted added = record {
+  after_entry k entry names later set after is so_far known added = record {
     before = so_far.before ++ option_to_list (mentioned_name entry);
-    counted = counted;
+    known = known;
     are = ap (λ (ns : List (List ℕ)). ns ++ new_names (so_far.before
         ++ option_to_list (mentioned_name entry)) (mentions_in (drop (k + 1) all)))
         added ∙ sym (more_needs k entry (mentioned_name entry) refl is names so_far.before) ∙ so_far.are;
@@ -97,22 +99,28 @@ module _ (logs : List Log) (number : ℕ) where
 
 -- ---- a name
 
--- A name that is counted is new exactly if its count is 0.
-stored_zero : (n : ℕ) → stored n ≡ 0 → n ≡ 0
-stored_zero zero is = refl
-stored_zero (suc n) is = absurd (omega (arith, is))
-
-pub new_name : (name : List ℕ) (before : List (List ℕ)) (count : ℕ) → count ≡ stored (times_of name before) → (count == 0) ≡ true
-    → name_if_new name before ≡ name ∷ []
-new_name name before count is none =
-    let zero_is = stored_zero (times_of name before) (sym is ∙ eqb-true count 0 none) in
-    ap (λ (n : ℕ). if n == 0 then name ∷ [] else []) zero_is
-
-pub old_name : (name : List ℕ) (before : List (List ℕ)) (count : ℕ) → count ≡ stored (times_of name before) → (count == 0) ≡ false
-    → name_if_new name before ≡ []
-old_name name before count is some =
-    by (times_of name before == 0) refl
+-- A name is new if the set doesn't have it.
+pub is_new : (set : List (List ℕ)) (name : List ℕ) (before : List (List ℕ)) (new : Bool) → AreKnownNames set before
+    → new ≡ not (list_any (bytes_eq name) set) → name_if_new name before ≡ (if new then name ∷ [] else [])
+is_new set name before new known is =
+    ap (λ (test : Bool). if test then name ∷ [] else []) (sym (not_not (times_of name before == 0)) ∙ ap not (sym (known name)) ∙ sym is)
   where
-    by : (test : Bool) → (times_of name before == 0) ≡ test → (if test then name ∷ [] else []) ≡ []
-    by false is_not = refl
-    by true is_zero = absurd (eqb-false count 0 some (is ∙ ap stored (eqb-true (times_of name before) 0 is_zero)))
+    not_not : (test : Bool) → not (not test) ≡ test
+    not_not true = refl
+    not_not false = refl
+
+-- One more name.
+pub one_more : (old new : List (List ℕ)) (name : List ℕ) (before : List (List ℕ)) → AreKnownNames old before
+    → ((other : List ℕ) → list_any (bytes_eq other) new ≡ cond (bytes_eq name other) true (list_any (bytes_eq other) old))
+    → AreKnownNames new (before ++ name ∷ [])
+one_more old new name before known updated other =
+    updated other ∙ by (bytes_eq name other) ∙ sym (ap (λ (n : ℕ). not (n == 0)) (times-push other name before))
+  where
+    some : (n : ℕ) → true ≡ not (n + 1 == 0)
+    some n = sym (ap not (ne_eqb (n + 1) 0 (λ is. omega (arith, is))))
+
+    by : (is : Bool) → cond is true (list_any (bytes_eq other) old) ≡ not (times_of other before + length (cond is (name ∷ []) []) == 0)
+    by true = some (times_of other before)
+    by false =
+        let same : times_of other before ≡ times_of other before + 0 = omega arith in
+        known other ∙ ap (λ (n : ℕ). not (n == 0)) same

@@ -16,10 +16,10 @@ use Rattle.redo_line.specs.Record.{colon}
 use Rattle.redo_logs.specs.Logs.{Log}
 use Rattle.redo_name.specs.Names.{slash}
 use Rattle.redo_diagnostics.specs.declared.severity.Severity.{Severity}
-use Rattle.redo_diagnostics.specs.Diagnostic.{DiagnosticValue, PartsValue, begins_temporary, diagnostic_from, diagnostic_of, key_of, masked_after, origin_from, origin_of, parts_at, parts_in, parts_of, severity_at, word_place}
+use Rattle.redo_diagnostics.specs.Diagnostic.{DiagnosticValue, HasNoTemporary, PartsValue, begins_temporary, diagnostic_from, diagnostic_of, key_of, masked_after, origin_from, origin_of, parts_at, parts_in, parts_of, severity_at, word_place}
 use Rattle.redo_diagnostics.specs.Plain.{plain_after, plain_line}
 use Rattle.redo_json.specs.Private.Diagnosing.{IsVerbatimDiagnostic}
-use Rattle.redo_json.specs.Private.LogLines.{AreNextLines, ArePlainLines, AreUtf8, AreVerbatim, texts_from}
+use Rattle.redo_json.specs.Private.LogLines.{AreNextLines, ArePlainLines, AreSimple, AreUtf8, AreVerbatim, texts_from}
 use Rattle.redo_json.specs.Private.Writing.{is_verbatim_byte, is_verbatim_or_feed}
 use Rattle.redo_json.proofs.KeyVerbatimLemmas.{Fit, append-fit, cons-fit, fit-append, fit-cons, fit-drop, verbatim_by_key}
 use Rattle.redo_json.proofs.VerbatimLemmas.{plain_bytes, verbatim_bytes}
@@ -48,17 +48,31 @@ fit_lines (line ∷ lines) more last free all others =
       fit_lines lines more last free.1 (and_parts (is_verbatim_or_feed line_feed) (list_all is_verbatim_or_feed behind) both.1).1 others,
     )
 
-pub verbatim_stretch : (logs : List Log) (number next after : ℕ) (bytes : List ℕ) → AreNextLines logs number next bytes after
-    → list_all is_verbatim_or_feed bytes ≡ true → AreVerbatim (texts_from logs number after) → AreVerbatim (texts_from logs number next)
-verbatim_stretch logs number next after bytes are plain others =
-    let lines = are_lines bytes in
-    subst AreVerbatim (sym are.split)
-    (fit_lines (ended bytes) (texts_from logs number after) (rest bytes) lines.lines_hold_none
-    (ap (list_all is_verbatim_or_feed) (sym lines.whole) ∙ plain) others)
-
 pub verbatim_parts : (lines more : List (List ℕ)) → AreVerbatim (lines ++ more) → AreVerbatim lines × AreVerbatim more
 verbatim_parts [] more all = (tt, all)
 verbatim_parts (line ∷ lines) more all = let parts = verbatim_parts lines more all.1 in ((all.0, parts.0), parts.1)
+
+-- Simple lines are verbatim, and have no names of temporary files.
+join_simple : (lines more : List (List ℕ)) → AreVerbatim lines → AllByRecursion HasNoTemporary lines → AreSimple more
+    → AreSimple (lines ++ more)
+join_simple [] more verbatim none others = others
+join_simple (line ∷ lines) more verbatim none others =
+    (record { verbatim = verbatim.0; no_temporary = none.0 }, join_simple lines more verbatim.1 none.1 others)
+
+pub simple_stretch : (logs : List Log) (number next after : ℕ) (bytes : List ℕ) → AreNextLines logs number next bytes after
+    → list_all is_verbatim_or_feed bytes ≡ true → AllByRecursion HasNoTemporary (ended bytes) → AreSimple (texts_from logs number after)
+    → AreSimple (texts_from logs number next)
+simple_stretch logs number next after bytes are plain none others =
+    let lines = are_lines bytes in
+    subst AreSimple (sym are.split)
+    (join_simple (ended bytes) (texts_from logs number after)
+    (verbatim_parts (ended bytes) [] (fit_lines (ended bytes) [] (rest bytes) lines.lines_hold_none
+    (ap (list_all is_verbatim_or_feed) (sym lines.whole) ∙ plain) tt)).0
+    none others)
+
+pub simple_verbatim : (lines : List (List ℕ)) → AreSimple lines → AreVerbatim lines
+simple_verbatim [] all = tt
+simple_verbatim (line ∷ lines) all = (all.0.verbatim, simple_verbatim lines all.1)
 
 pub verbatim_text : (lines : List (List ℕ)) → AreVerbatim lines → AreUtf8 lines
 verbatim_text [] all = tt

@@ -15,7 +15,7 @@ use crate::needs::needs_of;
 use crate::object::{LogObject, write_object};
 use redo_compare::{Baseline, TargetChanges};
 use redo_device::Sink;
-use redo_diagnostics::SpareKeys;
+use redo_diagnostics::KeyCounts;
 use redo_facts::{Command, Facts, Usage};
 use redo_line::{HashKeys, TargetName};
 use redo_logs::LogTable;
@@ -57,7 +57,8 @@ impl Render for BuildRequest<'_> {
 /// target must have a log. All logs must have ended.
 ///
 /// A write that fails or takes no byte ends the call, and nothing is written after it. `out` isn't flushed. No object is held in memory,
-/// but the commands and the needs of one log are, and the keys of its diagnostics. A buffer holds one diagnostic, or up to 64 KiB of lines.
+/// but the commands and the needs of one log are. A map has the keys of its diagnostics. A buffer holds some 32 KiB of diagnostics, or up to
+/// 64 KiB of lines.
 /// If there is a baseline, its diagnostics are in memory too, and the earlier log's diagnostics.
 pub fn write_build<W: Sink>(
     alloc: Global,
@@ -105,7 +106,7 @@ fn write_logs<W: Sink>(
         (flat_map (λ node. with_line_feed (object_text (node_values (request_of request.now) table.now nodes.now node))) nodes.now) result }
 {
     let mut buffer = Vec::new(alloc);
-    let mut spare = SpareKeys::new(alloc);
+    let mut counts = KeyCounts::new(alloc, request.keys);
     for node in nodes {
         write_log(
             alloc,
@@ -114,22 +115,22 @@ fn write_logs<W: Sink>(
             nodes,
             node,
             &mut buffer,
-            &mut spare,
+            &mut counts,
             out,
         )?;
     }
     Ok(())
 }
 
-// Writes the object of one of these nodes. `buffer` is overwritten. Keys may have vectors of `spare`.
-fn write_log<W: Sink>(
+// Writes the object of one of these nodes. `buffer` is overwritten, and what `counts` had is lost.
+fn write_log<'t, W: Sink>(
     alloc: Global,
-    table: &LogTable,
+    table: &'t LogTable,
     request: &BuildRequest<'_>,
     nodes: &[Node],
     node: &Node,
     buffer: &mut Vec<u8>,
-    spare: &mut SpareKeys,
+    counts: &mut KeyCounts<'t>,
     out: &mut W,
 ) -> Result<(), FormFault>
     ensures { FormWrites (W.written out.old) (W.written out.new)
@@ -157,7 +158,7 @@ fn write_log<W: Sink>(
         number: node.number,
         changes: changes.as_ref(),
     };
-    write_object(alloc, request.keys, &log, buffer, spare, out)
+    write_object(alloc, &log, buffer, counts, out)
 }
 
 // Returns what changed in the target of a node since the baseline, if there is one.

@@ -1,101 +1,91 @@
 //! The member of an object with the diagnostics of a log.
-ghost use Rattle.std.specs.Prelude.{◌≡◌, ◌∷◌, ◌++◌, ℕ, List, [], None, Some, true, IfOk, OnOk, codes, option_copied};
-ghost use Rattle.std.specs.List.{list_all};
+ghost use Rattle.std.specs.Prelude.{◌≡◌, ◌∷◌, ◌++◌, ℕ, List, [], None, Some, true, IfOk, OnOk, codes, option_copied, option_map};
 ghost use Rattle.json.specs.Json.{string};
 ghost use Rattle.json.specs.Print.{print};
 ghost use Rattle.json.specs.Tree.{json_tokens};
 ghost use Rattle.redo_device.specs.Sink.{Writes};
 ghost use Rattle.redo_diagnostics.specs.Counts.{AreCounts, stored, times_of};
-ghost use Rattle.redo_diagnostics.specs.Diagnostic.{diagnostic_of};
+ghost use Rattle.redo_diagnostics.specs.Diagnostic.{diagnostic_of, with_key};
 ghost use Rattle.redo_outline.specs.Facts.{entries_at, texts_of};
 ghost use Rattle.redo_view.specs.Form.{FormWrites};
 ghost use Rattle.redo_json.specs.Diagnostics.{diagnostics_field, diagnostics_of, first_flag, flagged, other_flags, severity_name};
 ghost use Rattle.redo_json.specs.Fields.{boolean_value, field, number_value, optional_bytes_fields};
-ghost use Rattle.redo_json.specs.Private.Diagnosing.{IsOfLine, IsVerbatimDiagnostic};
-ghost use Rattle.redo_json.specs.Private.LogLines.{AreVerbatim};
-ghost use Rattle.redo_json.specs.Private.Writing.{is_verbatim_byte};
+ghost use Rattle.redo_json.specs.Private.Diagnosing.{Adds, IsOfLine, IsVerbatimDiagnostic};
+ghost use Rattle.redo_json.specs.Private.LogLines.{AreSimple, IsSimple};
 ghost use Rattle.redo_json.specs.Private.Parts.{comma_field, comma_fields, diagnostic_text, diagnostics_text, place_text};
 
 use crate::field::write_bytes;
-use crate::joined::{object_end, object_start, write_joined};
+use crate::joined::{join_diagnostic, object_end, object_start};
 use crate::log_lines::LogLines;
 use crate::part::{Part, write_parts};
 use crate::plain::is_verbatim;
 use redo_device::{Broken, Sink, push_all};
 use redo_diagnostics::{
-    Diagnostic, KeyCounts, Place, Severity, SpareKeys, read_diagnostic_with, read_plain_diagnostic,
+    Diagnostic, Key, KeyCounts, Place, Severity, read_diagnostic, read_simple_diagnostic,
 };
-use redo_line::HashKeys;
 use redo_logs::LogTable;
 use redo_view::FormFault;
 use std::alloc::{AllocError, Global};
 
-/// Writes a member with the diagnostics of a log. Their keys are hashed with `keys`, and may have vectors of `spare`. If there is a
-/// baseline, `flags` says of each diagnostic, in order, whether it is new. `are_verbatim` says that all lines are known to be written as
-/// they are. `buffer` is overwritten.
-pub fn write_diagnostics<W: Sink>(
+// A buffer with this number of bytes is full. The buffer of a pipe is larger, so a write doesn't wait twice for the reader.
+const FULL_BYTES: usize = 32_768;
+
+/// Writes a member with the diagnostics of a log. If there is a baseline, `flags` says of each diagnostic, in order, whether it is new.
+/// `are_simple` says that all lines are known to be written as they are, and to have no name of a temporary file. `buffer` is overwritten, and
+/// what `counts` had is lost.
+pub fn write_diagnostics<'t, W: Sink>(
     alloc: Global,
-    keys: HashKeys,
     flags: Option<&[bool]>,
-    are_verbatim: bool,
-    table: &LogTable,
+    are_simple: bool,
+    table: &'t LogTable,
     number: u32,
     buffer: &mut Vec<u8>,
-    spare: &mut SpareKeys,
+    counts: &mut KeyCounts<'t>,
     out: &mut W,
 ) -> Result<(), FormFault>
-    requires { are_verbatim ≡ true → AreVerbatim (texts_of (entries_at number table.now)) }
+    requires { are_simple ≡ true → AreSimple (texts_of (entries_at number table.now)) }
     ensures { FormWrites (W.written out.old) (W.written out.new)
         (comma_field (diagnostics_field (option_copied flags.entry) (texts_of (entries_at number table.now)))) result }
 {
     push_all(out, b",\"diagnostics\":[")?;
-    write_each(
-        alloc,
-        keys,
-        flags,
-        are_verbatim,
-        table,
-        number,
-        buffer,
-        spare,
-        out,
-    )?;
+    write_each(alloc, flags, are_simple, table, number, buffer, counts, out)?;
     push_all(out, b"]")?;
     Ok(())
 }
 
 // Writes the diagnostics of a log, with a comma between two of them.
-fn write_each<W: Sink>(
+fn write_each<'t, W: Sink>(
     alloc: Global,
-    keys: HashKeys,
     flags: Option<&[bool]>,
-    are_verbatim: bool,
-    table: &LogTable,
+    are_simple: bool,
+    table: &'t LogTable,
     number: u32,
     buffer: &mut Vec<u8>,
-    spare: &mut SpareKeys,
+    counts: &mut KeyCounts<'t>,
     out: &mut W,
 ) -> Result<(), FormFault>
-    requires { are_verbatim ≡ true → AreVerbatim (texts_of (entries_at number table.now)) }
+    requires { are_simple ≡ true → AreSimple (texts_of (entries_at number table.now)) }
     ensures { FormWrites (W.written out.old) (W.written out.new)
         (diagnostics_text true (flagged (option_copied flags.entry) (diagnostics_of (texts_of (entries_at number table.now))))) result }
 {
     let mut lines = LogLines::new(table, number);
-    let mut counts = KeyCounts::new(alloc, keys);
     let mut plain = Vec::new(alloc);
     let mut is_first = true;
     let mut left = flags;
+    counts.clear();
+    buffer.clear();
     'each: while let Some((position, line)) = lines.next_candidate() {
-        if let Some(diagnostic) = read_line(alloc, are_verbatim, line, &mut plain, spare)? {
+        if let Some((diagnostic, key)) = read_line(alloc, are_simple, line, &mut plain)? {
             let (new, others) = next_flag(left);
             write_diagnostic(
                 alloc,
                 is_first,
                 position,
-                are_verbatim,
-                diagnostic,
+                are_simple,
+                &diagnostic,
+                key,
                 new,
-                &mut counts,
+                counts,
                 buffer,
                 out,
             )?;
@@ -103,26 +93,48 @@ fn write_each<W: Sink>(
             left = others;
         }
     }
-    counts.into_spare(spare);
+    flush(buffer, out)
+}
+
+// Writes what is in a buffer.
+fn flush<W: Sink>(buffer: &mut Vec<u8>, out: &mut W) -> Result<(), FormFault>
+    ensures wrote { Adds (W.written out.old) (W.written out.new) buffer.old.items buffer.new.items [] result }
+    ensures empty { OnOk result (buffer.new.items ≡ []) }
+{
+    push_all(out, buffer)?;
+    buffer.clear();
     Ok(())
 }
 
-// Returns the diagnostic of a line, if it is one. `is_verbatim` says that the line is known to be written as it is.
-fn read_line<'a>(
-    alloc: Global,
-    is_verbatim: bool,
-    line: &'a [u8],
-    plain: &'a mut Vec<u8>,
-    spare: &mut SpareKeys,
-) -> Result<Option<Diagnostic<'a>>, AllocError>
-    requires { is_verbatim ≡ true → list_all is_verbatim_byte line.now ≡ true }
-    ensures { IfOk result (λ diagnostic. diagnostic ≡ diagnostic_of line.now) }
+// Writes what is in a buffer if it is full.
+fn make_room<W: Sink>(buffer: &mut Vec<u8>, out: &mut W) -> Result<(), FormFault>
+    ensures { Adds (W.written out.old) (W.written out.new) buffer.old.items buffer.new.items [] result }
 {
-    if is_verbatim {
-        read_plain_diagnostic(alloc, line, spare)
-    } else {
-        read_diagnostic_with(alloc, line, plain, spare)
+    if buffer.len() < FULL_BYTES {
+        return Ok(());
     }
+    flush(buffer, out)
+}
+
+// Returns the diagnostic of a line, if it is one, and its key. `is_simple` says that the line is known to be written as it is, and to have no
+// name of a temporary file. Otherwise the key is a copy.
+fn read_line<'t: 'a, 'a>(
+    alloc: Global,
+    is_simple: bool,
+    line: &'t [u8],
+    plain: &'a mut Vec<u8>,
+) -> Result<Option<(Diagnostic<'a>, Key<'t>)>, AllocError>
+    requires { is_simple ≡ true → IsSimple line.now }
+    ensures { IfOk result (λ found. found ≡ option_map with_key (diagnostic_of line.now)) }
+{
+    if is_simple {
+        return Ok(read_simple_diagnostic(line));
+    }
+    let Some(diagnostic) = read_diagnostic(line, plain)? else {
+        return Ok(None);
+    };
+    let key = diagnostic.key(alloc)?.to_owned(alloc)?;
+    Ok(Some((diagnostic, key)))
 }
 
 // Returns the flag of the next diagnostic, and the flags of the others.
@@ -138,45 +150,53 @@ fn next_flag(flags: Option<&[bool]>) -> (Option<bool>, Option<&[bool]>)
 }
 
 // Writes the object of a diagnostic, after a comma unless it is the first one, and counts its key. `is_known` says that its strings are known
-// to be written as they are. `object` is overwritten.
-fn write_diagnostic<W: Sink>(
+// to be written as they are. The object may be left in `buffer`, behind what is there.
+fn write_diagnostic<'t, W: Sink>(
     alloc: Global,
     is_first: bool,
     position: usize,
     is_known: bool,
-    diagnostic: Diagnostic<'_>,
+    diagnostic: &Diagnostic<'_>,
+    key: Key<'t>,
     new: Option<bool>,
-    counts: &mut KeyCounts,
-    object: &mut Vec<u8>,
+    counts: &mut KeyCounts<'t>,
+    buffer: &mut Vec<u8>,
     out: &mut W,
 ) -> Result<(), FormFault>
-    requires of_line { IsOfLine diagnostic }
-    requires known { is_known ≡ true → IsVerbatimDiagnostic diagnostic }
+    requires of_line { IsOfLine diagnostic.now }
+    requires key { key ≡ diagnostic.now.key }
+    requires known { is_known ≡ true → IsVerbatimDiagnostic diagnostic.now }
     ensures counted { (keys : List (List ℕ)) → AreCounts counts.old keys → OnOk result (
-        AreCounts counts.new (keys ++ diagnostic.entry.key ∷ [])) }
-    ensures wrote { (keys : List (List ℕ)) → AreCounts counts.old keys → FormWrites (W.written out.old) (W.written out.new)
-        (diagnostic_text is_first
-        (record { line = position; value = diagnostic.entry; nth = stored (times_of diagnostic.entry.key keys) }, new)) result }
+        AreCounts counts.new (keys ++ diagnostic.now.key ∷ [])) }
+    ensures wrote { (keys : List (List ℕ)) → AreCounts counts.old keys →
+        Adds (W.written out.old) (W.written out.new) buffer.old.items buffer.new.items (diagnostic_text is_first
+        (record { line = position; value = diagnostic.now; nth = stored (times_of diagnostic.now.key keys) }, new)) result }
 {
-    if is_verbatim_diagnostic(is_known, &diagnostic) {
-        return write_joined(is_first, position, diagnostic, new, counts, object, out);
+    if is_verbatim_diagnostic(is_known, diagnostic, &key) {
+        make_room(buffer, out)?;
+        join_diagnostic(is_first, position, diagnostic, key, new, counts, buffer)?;
+        return Ok(());
     }
-    let nth = counts.add(diagnostic.key().to_vec(alloc)?)?;
-    write_any_diagnostic(is_first, position, &diagnostic, nth, new, out)?;
+    let bytes = key.to_vec(alloc)?;
+    let nth = counts.add(key)?;
+    flush(buffer, out)?;
+    write_any_diagnostic(is_first, position, diagnostic, &bytes, nth, new, out)?;
     Ok(())
 }
 
 // Returns true only if all strings of a diagnostic are written as they are. It looks only at the key, which has the other strings in it: the
 // letters and digits that are replaced in a name of a temporary file are written as they are, too. `is_known` says that it is known already.
-fn is_verbatim_diagnostic(is_known: bool, diagnostic: &Diagnostic<'_>) -> bool
+fn is_verbatim_diagnostic(is_known: bool, diagnostic: &Diagnostic<'_>, key: &Key<'_>) -> bool
     requires of_line { IsOfLine diagnostic.now }
+    requires key { key.now ≡ diagnostic.now.key }
     requires known { is_known ≡ true → IsVerbatimDiagnostic diagnostic.now }
     ensures { result ≡ true → IsVerbatimDiagnostic diagnostic.now }
 {
     if is_known {
         return true;
     }
-    is_verbatim(diagnostic.key())
+    let (origin, tail) = key.parts();
+    is_verbatim(origin) && is_verbatim(tail)
 }
 
 // Writes the object of a diagnostic, whatever bytes it has, after a comma unless it is the first one.
@@ -184,10 +204,12 @@ fn write_any_diagnostic<W: Sink>(
     is_first: bool,
     position: usize,
     diagnostic: &Diagnostic<'_>,
+    key: &[u8],
     nth: u64,
     new: Option<bool>,
     out: &mut W,
 ) -> Result<(), Broken>
+    requires { key.now ≡ diagnostic.now.key }
     ensures { Writes (W.written out.old) (W.written out.new)
         (diagnostic_text is_first (record { line = position; value = diagnostic.now; nth = nth }, new)) result }
 {
@@ -200,9 +222,10 @@ fn write_any_diagnostic<W: Sink>(
     )?;
     write_severity(diagnostic.severity(), out)?;
     write_place(diagnostic.place(), out)?;
-    write_bytes(b"message", b",\"message\":\"", diagnostic.message(), out)?;
-    write_flag(diagnostic.flag(), out)?;
-    write_bytes(b"key", b",\"key\":\"", diagnostic.key(), out)?;
+    let (message, flag) = diagnostic.message_and_flag();
+    write_bytes(b"message", b",\"message\":\"", message, out)?;
+    write_flag(flag, out)?;
+    write_bytes(b"key", b",\"key\":\"", key, out)?;
     write_parts(
         &[
             Part::Json(b",\"nth\":"),
@@ -225,12 +248,12 @@ fn write_severity<W: Sink>(severity: Severity, out: &mut W) -> Result<(), Broken
 }
 
 // Writes the members with the place of a diagnostic. What isn't known is `null`.
-fn write_place<W: Sink>(place: Option<&Place<'_>>, out: &mut W) -> Result<(), Broken>
-    ensures { Writes (W.written out.old) (W.written out.new) (place_text (option_copied place.entry)) result }
+fn write_place<W: Sink>(place: Option<Place<'_>>, out: &mut W) -> Result<(), Broken>
+    ensures { Writes (W.written out.old) (W.written out.new) (place_text place.entry) result }
 {
     match place {
         None => push_all(out, b",\"file\":null,\"row\":null,\"column\":null"),
-        Some(place) => write_known_place(place, out),
+        Some(place) => write_known_place(&place, out),
     }
 }
 

@@ -1,47 +1,40 @@
-//! Diagnostics whose strings are written as they are. The object of each is joined in memory, and is one write.
+//! Diagnostics whose strings are written as they are. Their objects are joined in memory, and many are one write.
 ghost use Rattle.std.specs.Prelude.{◌≡◌, ◌<◌, ◌≤◌, ◌∷◌, ◌++◌, ℕ, List, [], Some, IfSome, None, OnOk, codes, decimal, option_copied};
 ghost use Rattle.json.specs.Print.{print};
 ghost use Rattle.json.specs.Tree.{json_tokens};
 ghost use Rattle.redo_diagnostics.specs.Counts.{AreCounts, stored, times_of};
-ghost use Rattle.redo_view.specs.Form.{FormWrites};
 ghost use Rattle.redo_json.specs.Fields.{boolean_value, field, number_value};
 ghost use Rattle.redo_json.specs.Private.Diagnosing.{IsVerbatimDiagnostic};
 ghost use Rattle.redo_json.specs.Private.Parts.{comma_field, comma_if, diagnostic_front, diagnostic_text, flag_text, number_text, place_text, severity_text, string_start, strings_text};
 ghost use Rattle.redo_json.specs.Private.Writing.{IsAppended, IsVerbatim};
 
 use itoa::Buffer;
-use redo_device::{Sink, push_all};
-use redo_diagnostics::{Diagnostic, KeyCounts, Place, Severity};
-use redo_view::FormFault;
+use redo_diagnostics::{Diagnostic, Key, KeyCounts, Place, Severity};
 use std::alloc::AllocError;
 
-// The room that is reserved for the first object. Most objects are shorter.
-const OBJECT_BYTES: usize = 512;
-
-/// Writes the object of a diagnostic, after a comma unless it is the first one, and counts its key. `object` is overwritten.
-pub fn write_joined<W: Sink>(
+/// Appends the object of a diagnostic, after a comma unless it is the first one, and counts its key. After an error, a part of it may have
+/// been appended.
+pub fn join_diagnostic<'t>(
     is_first: bool,
     position: usize,
-    diagnostic: Diagnostic<'_>,
+    diagnostic: &Diagnostic<'_>,
+    key: Key<'t>,
     new: Option<bool>,
-    counts: &mut KeyCounts,
+    counts: &mut KeyCounts<'t>,
     object: &mut Vec<u8>,
-    out: &mut W,
-) -> Result<(), FormFault>
-    requires { IsVerbatimDiagnostic diagnostic }
+) -> Result<(), AllocError>
+    requires verbatim { IsVerbatimDiagnostic diagnostic.now }
+    requires key { key ≡ diagnostic.now.key }
     ensures counted { (keys : List (List ℕ)) → AreCounts counts.old keys → OnOk result (
-        AreCounts counts.new (keys ++ diagnostic.entry.key ∷ [])) }
-    ensures wrote { (keys : List (List ℕ)) → AreCounts counts.old keys → FormWrites (W.written out.old) (W.written out.new)
+        AreCounts counts.new (keys ++ diagnostic.now.key ∷ [])) }
+    ensures appended { (keys : List (List ℕ)) → AreCounts counts.old keys → OnOk result (IsAppended object.old.items object.new.items
         (diagnostic_text is_first
-        (record { line = position; value = diagnostic.entry; nth = stored (times_of diagnostic.entry.key keys) }, new)) result }
+        (record { line = position; value = diagnostic.now; nth = stored (times_of diagnostic.now.key keys) }, new))) }
 {
-    object.clear();
-    object.reserve(OBJECT_BYTES)?;
-    join_front(is_first, position, &diagnostic, object)?;
-    join_strings(&diagnostic, object)?;
-    let nth = counts.add(diagnostic.into_key())?;
+    join_front(is_first, position, diagnostic, object)?;
+    join_strings(diagnostic, &key, object)?;
+    let nth = counts.add(key)?;
     join_end(nth, new, object)?;
-    push_all(out, object)?;
     Ok(())
 }
 
@@ -59,7 +52,7 @@ fn join_front(
     join_number(position as u64, object)?;
     match diagnostic.place() {
         None => join_bytes(front_without_place(diagnostic.severity()), object),
-        Some(place) => join_place(diagnostic.severity(), place, object),
+        Some(place) => join_place(diagnostic.severity(), &place, object),
     }
 }
 
@@ -141,12 +134,28 @@ fn join_digit(digit: u64, object: &mut Vec<u8>) -> Result<(), AllocError>
 }
 
 // Appends the strings with the message, the flag and the key of a diagnostic, from the first byte of its message to the last one of its key.
-fn join_strings(diagnostic: &Diagnostic<'_>, object: &mut Vec<u8>) -> Result<(), AllocError>
+fn join_strings(
+    diagnostic: &Diagnostic<'_>,
+    key: &Key<'_>,
+    object: &mut Vec<u8>,
+) -> Result<(), AllocError>
+    requires { key.now ≡ diagnostic.now.key }
     ensures { OnOk result (IsAppended object.old.items object.new.items (strings_text diagnostic.now)) }
 {
-    join_bytes(diagnostic.message(), object)?;
-    join_flag(diagnostic.flag(), object)?;
-    join_bytes(diagnostic.key(), object)
+    let (message, flag) = diagnostic.message_and_flag();
+    join_bytes(message, object)?;
+    join_flag(flag, object)?;
+    join_key(key, object)
+}
+
+// Appends a key.
+fn join_key(key: &Key<'_>, object: &mut Vec<u8>) -> Result<(), AllocError>
+    ensures { OnOk result (IsAppended object.old.items object.new.items key.now) }
+{
+    let (origin, tail) = key.parts();
+    join_bytes(origin, object)?;
+    join_bytes(b": ", object)?;
+    join_bytes(tail, object)
 }
 
 // Appends what is between a message and a key.

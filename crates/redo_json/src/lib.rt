@@ -10,11 +10,12 @@
 //!   bytes.
 //! - `json` writes into memory. Here parts are written to a `Sink`. Stretches without escapes are one write, and so is what is between
 //!   two lines. The text lines of a log are read from the table three times: for the texts, for the exact bytes, and for the
-//!   diagnostics. So no object is held in memory, only the commands and the needs of one log, and the keys of its diagnostics. For the
+//!   diagnostics. So no object is held in memory, only the commands and the needs of one log. For the
 //!   exact bytes, lines that are stored together are tested together first: if all are UTF-8, no line is read. Before all that, one pass
-//!   tests whether all lines of a log are ASCII without escapes. If so, no string of them is tested for UTF-8, escapes or colours.
-//! - Most diagnostics are written without escapes. The object of such a diagnostic is joined in memory, and takes one write. Only its key
-//!   is a copy, in a vector of an earlier log's key if there is one: the other strings are borrowed from the line.
+//!   tests whether all lines of a log are ASCII without escapes, and without names of temporary files. If so, no string of them is tested
+//!   for UTF-8, escapes or colours, and no key is a copy.
+//! - Most diagnostics are written without escapes. The objects of such diagnostics are joined in a buffer, and some 32 KiB of them are one
+//!   write.
 //! - The definition is a recursion over the tree of what is shown. The code iterates over the nodes of the outline.
 //! - Base64 is encoded in chunks of 768 bytes, on the stack, and written as the text of any string is. No proof knows its alphabet.
 //! - If there is a baseline, a log is compared before its object is written: `redo_compare` says of each diagnostic whether it is new, as a
@@ -34,6 +35,7 @@ mod laws;
 mod lines;
 mod list;
 mod log_lines;
+mod names;
 mod needs;
 mod object;
 mod part;

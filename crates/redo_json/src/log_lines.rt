@@ -3,12 +3,12 @@ ghost use Rattle.std.specs.Prelude.{◌≡◌, ℕ, true, ◌+◌, ◌≤◌, �
 ghost use Rattle.redo_line.specs.Lines.{ended, rest};
 ghost use Rattle.redo_outline.specs.Facts.{entries_at, texts_of};
 ghost use Rattle.redo_json.specs.Diagnostics.{placed_from};
-ghost use Rattle.redo_json.specs.Private.LogLines.{AreNextCandidates, AreNextLines, AreUtf8, AreVerbatim, IsNextCandidate, IsRefilled};
+ghost use Rattle.redo_json.specs.Private.LogLines.{AreNextCandidates, AreNextLines, AreSimple, AreUtf8, IsNextCandidate, IsRefilled};
 
 use crate::field::is_text;
 use crate::plain::are_verbatim_lines;
 use memchr::memchr;
-use redo_diagnostics::may_have_diagnostic;
+use redo_diagnostics::{may_have_diagnostic, may_have_temporary};
 use redo_logs::{LogTable, Numbered};
 use std::marker::Model;
 
@@ -113,9 +113,10 @@ pub fn are_text(table: &LogTable, number: u32) -> bool
     }
 }
 
-/// Returns true only if all lines of a log are ASCII that a string of JSON has as it is. Lines that are stored together are tested at once.
-pub fn are_verbatim(table: &LogTable, number: u32) -> bool
-    ensures { result ≡ true → AreVerbatim (texts_of (entries_at number table.now)) }
+/// Returns true only if all lines of a log are ASCII that a string of JSON has as it is, and none has a name of a temporary file. Lines
+/// that are stored together are tested at once.
+pub fn are_simple(table: &LogTable, number: u32) -> bool
+    ensures { result ≡ true → AreSimple (texts_of (entries_at number table.now)) }
 {
     let logs = table.numbered();
     let mut next = 0;
@@ -125,6 +126,9 @@ pub fn are_verbatim(table: &LogTable, number: u32) -> bool
             return true;
         }
         if !are_verbatim_lines(lines) {
+            return false;
+        }
+        if may_have_temporary(lines) {
             return false;
         }
         next = after;

@@ -1,12 +1,11 @@
 //! The targets that a log needs.
 ghost use Rattle.std.specs.Prelude.{◌≡◌, ◌∷◌, ◌++◌, ℕ, List, [], IfOk, OnOk, map, option_to_list};
-ghost use Rattle.redo_diagnostics.specs.Counts.{AreCounts};
 ghost use Rattle.redo_logs.specs.EntryRef.{entry_value};
 ghost use Rattle.redo_outline.specs.Facts.{entries_at, target_at};
 ghost use Rattle.redo_json.specs.Build.{mentioned_name, name_if_new, needs_of};
-ghost use Rattle.redo_json.specs.Private.Needing.{names_if_new};
+ghost use Rattle.redo_json.specs.Private.Needing.{AreKnownNames, names_if_new};
 
-use redo_diagnostics::KeyCounts;
+use crate::names::NameSet;
 use redo_line::HashKeys;
 use redo_logs::{EntryRef, LogTable};
 use redo_outline::target_at;
@@ -24,8 +23,8 @@ pub fn needs_of<'a>(
         map (λ name. name.now) needs.items ≡ needs_of (target_at table.now number) (entries_at number table.now)) }
 {
     let logs = table.numbered();
-    let mut counts = KeyCounts::new(alloc, keys);
-    counts.add(target_at(table, number).to_vec(alloc)?)?;
+    let mut names = NameSet::new(alloc, keys);
+    names.add(target_at(table, number))?;
     let mut needs = Vec::new(alloc);
     let mut at = 0;
     'entries: loop {
@@ -33,7 +32,7 @@ pub fn needs_of<'a>(
         if count > 0 {
             at += count;
         } else if let Some(entry) = table.entry(number, at) {
-            add_entry(alloc, &mut counts, &mut needs, entry)?;
+            add_entry(&mut names, &mut needs, entry)?;
             at += 1;
         } else {
             return Ok(needs);
@@ -41,37 +40,35 @@ pub fn needs_of<'a>(
     }
 }
 
-// Adds the target that an entry mentions, if it is a new one. `counts` has how often each was mentioned before.
+// Adds the target that an entry mentions, if it is a new one. `names` has those that were mentioned before.
 fn add_entry<'a>(
-    alloc: Global,
-    counts: &mut KeyCounts,
+    names: &mut NameSet<'a>,
     needs: &mut Vec<&'a [u8]>,
     entry: EntryRef<'a>,
 ) -> Result<(), AllocError>
-    ensures counted { (before : List (List ℕ)) → AreCounts counts.old before → OnOk result (
-        AreCounts counts.new (before ++ option_to_list (mentioned_name (entry_value entry.entry)))) }
-    ensures added { (before : List (List ℕ)) → AreCounts counts.old before → OnOk result (
+    ensures known { (before : List (List ℕ)) → AreKnownNames names.old before → OnOk result (
+        AreKnownNames names.new (before ++ option_to_list (mentioned_name (entry_value entry.entry)))) }
+    ensures added { (before : List (List ℕ)) → AreKnownNames names.old before → OnOk result (
         map (λ name. name.now) needs.new.items
         ≡ map (λ name. name.now) needs.old.items ++ names_if_new (mentioned_name (entry_value entry.entry)) before) }
 {
     match entry {
-        EntryRef::Mention { name, .. } => add_name(alloc, counts, needs, name.bytes()),
+        EntryRef::Mention { name, .. } => add_name(names, needs, name.bytes()),
         _ => Ok(()),
     }
 }
 
 fn add_name<'a>(
-    alloc: Global,
-    counts: &mut KeyCounts,
+    names: &mut NameSet<'a>,
     needs: &mut Vec<&'a [u8]>,
     name: &'a [u8],
 ) -> Result<(), AllocError>
-    ensures counted { (before : List (List ℕ)) → AreCounts counts.old before → OnOk result (
-        AreCounts counts.new (before ++ name.now ∷ [])) }
-    ensures added { (before : List (List ℕ)) → AreCounts counts.old before → OnOk result (
+    ensures known { (before : List (List ℕ)) → AreKnownNames names.old before → OnOk result (
+        AreKnownNames names.new (before ++ name.now ∷ [])) }
+    ensures added { (before : List (List ℕ)) → AreKnownNames names.old before → OnOk result (
         map (λ name. name.now) needs.new.items ≡ map (λ name. name.now) needs.old.items ++ name_if_new name.now before) }
 {
-    if counts.add(name.to_vec(alloc)?)? == 0 {
+    if names.add(name)? {
         needs.push(name)?;
     }
     Ok(())

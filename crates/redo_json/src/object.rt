@@ -15,19 +15,18 @@ use crate::diagnostics::write_diagnostics;
 use crate::field::{write_exact, write_number, write_optional_bytes, write_signed};
 use crate::lines::write_lines;
 use crate::list::write_list;
-use crate::log_lines::are_verbatim;
+use crate::log_lines::are_simple;
 use crate::part::{Part, write_parts};
 use redo_compare::TargetChanges;
 use redo_device::{Broken, Sink, push_all};
-use redo_diagnostics::SpareKeys;
-use redo_line::HashKeys;
+use redo_diagnostics::KeyCounts;
 use redo_logs::LogTable;
 use redo_view::FormFault;
 use std::alloc::Global;
 
 /// The values of a log. An unknown value is `None`, or an empty list.
 #[derive(Clone, Copy)]
-pub struct LogObject<'a> {
+pub struct LogObject<'t, 'a> {
     /// The name of the log's target.
     pub target: &'a [u8],
     /// The name of the target in whose log this log is opened.
@@ -49,36 +48,33 @@ pub struct LogObject<'a> {
     /// The other targets that the log mentions.
     pub needs: &'a [&'a [u8]],
     /// The table that has the text lines of the log.
-    pub table: &'a LogTable,
+    pub table: &'t LogTable,
     /// The number of the log in this table.
     pub number: u32,
     /// What changed in the target since the baseline, if there is one.
     pub changes: Option<&'a TargetChanges>,
 }
 
-/// Writes the object of a log, and a line feed. The keys of diagnostics are hashed with `keys`, and may have vectors of `spare`.
-/// `buffer` is overwritten.
-pub fn write_object<W: Sink>(
+/// Writes the object of a log, and a line feed. `buffer` is overwritten, and what `counts` had is lost.
+pub fn write_object<'t, W: Sink>(
     alloc: Global,
-    keys: HashKeys,
-    log: &LogObject<'_>,
+    log: &LogObject<'t, '_>,
     buffer: &mut Vec<u8>,
-    spare: &mut SpareKeys,
+    counts: &mut KeyCounts<'t>,
     out: &mut W,
 ) -> Result<(), FormFault>
     ensures { FormWrites (W.written out.old) (W.written out.new) (with_line_feed (object_text (values_of log.now))) result }
 {
-    let are_verbatim = are_verbatim(log.table, log.number);
-    write_front(log, are_verbatim, buffer, out)?;
+    let are_simple = are_simple(log.table, log.number);
+    write_front(log, are_simple, buffer, out)?;
     write_diagnostics(
         alloc,
-        keys,
         new_flags(log.changes),
-        are_verbatim,
+        are_simple,
         log.table,
         log.number,
         buffer,
-        spare,
+        counts,
         out,
     )?;
     write_baseline(log.changes, out)?;
@@ -98,7 +94,7 @@ fn new_flags(changes: Option<&TargetChanges>) -> Option<&[bool]>
 
 // Writes an object up to the text lines of the log. `are_verbatim` says that all lines are known to be written as they are.
 fn write_front<W: Sink>(
-    log: &LogObject<'_>,
+    log: &LogObject<'_, '_>,
     are_verbatim: bool,
     buffer: &mut Vec<u8>,
     out: &mut W,
@@ -116,7 +112,7 @@ fn write_front<W: Sink>(
     write_lines(b"lines", are_verbatim, log.table, log.number, buffer, out)
 }
 
-fn write_numbers<W: Sink>(log: &LogObject<'_>, out: &mut W) -> Result<(), Broken>
+fn write_numbers<W: Sink>(log: &LogObject<'_, '_>, out: &mut W) -> Result<(), Broken>
     ensures { Writes (W.written out.old) (W.written out.new) (comma_fields (number_fields (values_of log.now))) result }
 {
     write_signed(b"status", log.status, out)?;

@@ -83,7 +83,7 @@ fn is_diagnostic(alloc: Global, line: &[u8]) -> Result<bool, AllocError>
     ensures { IfOk result (λ is. is ≡ is_some (diagnostic_of line.now)) }
 {
     let mut plain = Vec::new(alloc);
-    Ok(read_diagnostic(alloc, line, &mut plain)?.is_some())
+    Ok(read_diagnostic(line, &mut plain)?.is_some())
 }
 
 // Writes the line of diagnostic `next`, if its flag is set.

@@ -7,6 +7,7 @@ use Rattle.json.specs.Run.{is_plain}
 use Rattle.redo_line.specs.Lines.{ended, rest}
 use Rattle.redo_logs.specs.Logs.{Log}
 use Rattle.redo_outline.specs.Facts.{entries_at, texts_of}
+use Rattle.redo_diagnostics.specs.Diagnostic.{HasNoTemporary}
 use Rattle.redo_json.specs.Diagnostics.{placed_from}
 use Rattle.redo_json.specs.Fields.{exact_items, field}
 use Rattle.redo_json.specs.Private.Writing.{is_verbatim_byte}
@@ -48,12 +49,20 @@ ArePlainLines lines = AllByRecursion (λ line. list_all is_plain line ≡ true) 
 abbrev pub AreVerbatim : List (List ℕ) → Type 0
 AreVerbatim lines = AllByRecursion (λ line. list_all is_verbatim_byte line ≡ true) lines
 
+-- A line is ASCII that is written as it is, and has no name of a temporary file.
+pub record IsSimple (line : List ℕ) : Type 0 where
+  pub verbatim : list_all is_verbatim_byte line ≡ true
+  pub no_temporary : HasNoTemporary line
+
+abbrev pub AreSimple : List (List ℕ) → Type 0
+AreSimple lines = AllByRecursion IsSimple lines
+
 -- Some lines that are no diagnostics were skipped.
 pub record AreCandidates (before after : Remaining) : Type 0 where
   pub placed : placed_from before.done before.left ≡ placed_from after.done after.left
   pub fewer : length after.left ≤ length before.left
   pub later : before.done ≤ after.done
-  pub verbatim : AreVerbatim before.left → AreVerbatim after.left
+  pub simple : AreSimple before.left → AreSimple after.left
 
 -- The lines of a log from entry `next` on, after `done` lines, were skipped up to these lines, which end before entry `after`. `before` is the
 -- number of lines before them.

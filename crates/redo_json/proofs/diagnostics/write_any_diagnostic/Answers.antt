@@ -5,7 +5,7 @@ use Rattle.redo_diagnostics.specs.declared.severity.Severity.{Severity}
 use Rattle.redo_json.specs.Diagnostics.{LogDiagnostic, severity_name}
 use Rattle.redo_json.specs.Fields.{bytes_fields, field, optional_bytes_fields}
 use Rattle.redo_json.specs.Private.Parts.{comma_field, comma_fields, diagnostic_text, place_text}
-use Rattle.redo_json.proofs.DiagnosticLemmas.{diagnostic_parts, first_is, first_text, key_start, known_is, known_place, last_is, last_text, message_start}
+use Rattle.redo_json.proofs.DiagnosticLemmas.{diagnostic_parts, first_is, first_text, key_start, last_is, last_text, message_start}
 use Rattle.redo_json.proofs.WritingLemmas.{begin, failed_part, writes_as, wrote_more, wrote_rest}
 use Rattle.redo_json.proofs.diagnostics.write_any_diagnostic.Goals as goal
 
@@ -72,7 +72,7 @@ returns-in_err-write_place g c =
     c.in_ok-write_parts.ensures))
     (writes_as _ _ _ severity (Ok tt) (ap (λ (s : Severity). comma_field (field (codes "severity") (string (severity_name s)))) c.severity.ensures)
     c.in_ok-write_severity.ensures))
-    (writes_as _ _ _ place (Err _) (ap place_text (known_place _ _ c.place.ensures.some c.place.ensures.none))
+    (writes_as _ _ _ place (Err _) (ap place_text c.place.ensures)
     c.in_err-write_place.ensures)
 
 pub returns-in_err-write_bytes : goal.returns-in_err-write_bytes
@@ -96,9 +96,9 @@ returns-in_err-write_bytes g c =
     c.in_ok-write_parts.ensures))
     (writes_as _ _ _ severity (Ok tt) (ap (λ (s : Severity). comma_field (field (codes "severity") (string (severity_name s)))) c.severity.ensures)
     c.in_ok-write_severity.ensures))
-    (writes_as _ _ _ place (Ok tt) (ap place_text (known_place _ _ c.place.ensures.some c.place.ensures.none))
+    (writes_as _ _ _ place (Ok tt) (ap place_text c.place.ensures)
     c.in_ok-write_place.ensures))
-    (writes_as _ _ _ message (Err _) (ap (λ (b : List ℕ). comma_fields (bytes_fields (codes "message") b)) c.message.ensures)
+    (writes_as _ _ _ message (Err _) (ap (λ (b : List ℕ). comma_fields (bytes_fields (codes "message") b)) c.message_and_flag.ensures.message)
     c.in_err-write_bytes.ensures)
 
 pub returns-in_err-write_flag : goal.returns-in_err-write_flag
@@ -123,11 +123,11 @@ returns-in_err-write_flag g c =
     c.in_ok-write_parts.ensures))
     (writes_as _ _ _ severity (Ok tt) (ap (λ (s : Severity). comma_field (field (codes "severity") (string (severity_name s)))) c.severity.ensures)
     c.in_ok-write_severity.ensures))
-    (writes_as _ _ _ place (Ok tt) (ap place_text (known_place _ _ c.place.ensures.some c.place.ensures.none))
+    (writes_as _ _ _ place (Ok tt) (ap place_text c.place.ensures)
     c.in_ok-write_place.ensures))
-    (writes_as _ _ _ message (Ok tt) (ap (λ (b : List ℕ). comma_fields (bytes_fields (codes "message") b)) c.message.ensures)
+    (writes_as _ _ _ message (Ok tt) (ap (λ (b : List ℕ). comma_fields (bytes_fields (codes "message") b)) c.message_and_flag.ensures.message)
     c.in_ok-write_bytes.ensures))
-    (writes_as _ _ _ flag (Err _) (ap (λ (b : Option (List ℕ)). comma_fields (optional_bytes_fields (codes "flag") b)) (known_is _ _ c.flag.ensures.some c.flag.ensures.none))
+    (writes_as _ _ _ flag (Err _) (ap (λ (b : Option (List ℕ)). comma_fields (optional_bytes_fields (codes "flag") b)) c.message_and_flag.ensures.flag)
     c.in_err-write_flag.ensures)
 
 pub returns-in_err-write_bytes-2 : goal.returns-in_err-write_bytes-2
@@ -153,13 +153,13 @@ returns-in_err-write_bytes-2 g c =
     c.in_ok-write_parts.ensures))
     (writes_as _ _ _ severity (Ok tt) (ap (λ (s : Severity). comma_field (field (codes "severity") (string (severity_name s)))) c.severity.ensures)
     c.in_ok-write_severity.ensures))
-    (writes_as _ _ _ place (Ok tt) (ap place_text (known_place _ _ c.place.ensures.some c.place.ensures.none))
+    (writes_as _ _ _ place (Ok tt) (ap place_text c.place.ensures)
     c.in_ok-write_place.ensures))
-    (writes_as _ _ _ message (Ok tt) (ap (λ (b : List ℕ). comma_fields (bytes_fields (codes "message") b)) c.message.ensures)
+    (writes_as _ _ _ message (Ok tt) (ap (λ (b : List ℕ). comma_fields (bytes_fields (codes "message") b)) c.message_and_flag.ensures.message)
     c.in_ok-write_bytes.ensures))
-    (writes_as _ _ _ flag (Ok tt) (ap (λ (b : Option (List ℕ)). comma_fields (optional_bytes_fields (codes "flag") b)) (known_is _ _ c.flag.ensures.some c.flag.ensures.none))
+    (writes_as _ _ _ flag (Ok tt) (ap (λ (b : Option (List ℕ)). comma_fields (optional_bytes_fields (codes "flag") b)) c.message_and_flag.ensures.flag)
     c.in_ok-write_flag.ensures))
-    (writes_as _ _ _ key (Err _) (ap (λ (b : List ℕ). comma_fields (bytes_fields (codes "key") b)) c.key.ensures)
+    (writes_as _ _ _ key (Err _) (ap (λ (b : List ℕ). comma_fields (bytes_fields (codes "key") b)) c.requires)
     c.in_err-write_bytes-2.ensures)
 
 pub returns : goal.returns
@@ -186,12 +186,12 @@ returns g c =
     c.in_ok-write_parts.ensures))
     (writes_as _ _ _ severity (Ok tt) (ap (λ (s : Severity). comma_field (field (codes "severity") (string (severity_name s)))) c.severity.ensures)
     c.in_ok-write_severity.ensures))
-    (writes_as _ _ _ place (Ok tt) (ap place_text (known_place _ _ c.place.ensures.some c.place.ensures.none))
+    (writes_as _ _ _ place (Ok tt) (ap place_text c.place.ensures)
     c.in_ok-write_place.ensures))
-    (writes_as _ _ _ message (Ok tt) (ap (λ (b : List ℕ). comma_fields (bytes_fields (codes "message") b)) c.message.ensures)
+    (writes_as _ _ _ message (Ok tt) (ap (λ (b : List ℕ). comma_fields (bytes_fields (codes "message") b)) c.message_and_flag.ensures.message)
     c.in_ok-write_bytes.ensures))
-    (writes_as _ _ _ flag (Ok tt) (ap (λ (b : Option (List ℕ)). comma_fields (optional_bytes_fields (codes "flag") b)) (known_is _ _ c.flag.ensures.some c.flag.ensures.none))
+    (writes_as _ _ _ flag (Ok tt) (ap (λ (b : Option (List ℕ)). comma_fields (optional_bytes_fields (codes "flag") b)) c.message_and_flag.ensures.flag)
     c.in_ok-write_flag.ensures))
-    (writes_as _ _ _ key (Ok tt) (ap (λ (b : List ℕ). comma_fields (bytes_fields (codes "key") b)) c.key.ensures)
+    (writes_as _ _ _ key (Ok tt) (ap (λ (b : List ℕ). comma_fields (bytes_fields (codes "key") b)) c.requires)
     c.in_ok-write_bytes-2.ensures))
     (writes_as _ _ _ _ _ (last_is c.args.nth c.args.new _ c.object_end.ensures) c.write_parts-2.ensures)

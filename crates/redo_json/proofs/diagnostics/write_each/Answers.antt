@@ -1,30 +1,31 @@
-use Rattle.std.proofs.Common.{◌≡◌, true, [], ◌∷◌, ◌++◌, refl, sym, ◌∙◌, subst, arith, option_copied}
+use Rattle.std.proofs.Common.{◌≡◌, ap, ℕ, List, true, [], ◌∷◌, ◌++◌, refl, sym, ◌∙◌, subst, arith, option_copied}
 use Rattle.std.proofs.lemmas.List.{length-append}
 use Rattle.std.proofs.lemmas.Result.{err_from_is_err_and}
 use Rattle.redo_diagnostics.specs.Counts.{stored, times_of}
 use Rattle.redo_outline.specs.Facts.{entries_at, texts_of}
-use Rattle.redo_json.specs.Diagnostics.{diagnostics_of, flagged}
-use Rattle.redo_json.specs.Private.LogLines.{AreVerbatim}
+use Rattle.redo_diagnostics.specs.Diagnostic.{DiagnosticValue}
+use Rattle.redo_json.specs.Diagnostics.{diagnostics_of, flagged, numbered_from}
+use Rattle.redo_json.specs.Private.LogLines.{AreSimple}
 use Rattle.redo_json.specs.Private.Parts.{diagnostics_text}
 use Rattle.redo_json.proofs.CandidateLemmas.{at_candidates}
-use Rattle.redo_json.proofs.DiagnosingLemmas.{begins, finds, nth_is}
-use Rattle.redo_json.proofs.FormLemmas.{part_failed, ran_out}
+use Rattle.redo_json.proofs.DiagnosingLemmas.{begins, finds, found_is, nth_is}
+use Rattle.redo_json.proofs.FormLemmas.{ran_out}
+use Rattle.redo_json.proofs.PendingLemmas.{ends}
 use Rattle.redo_json.proofs.VerbatimLineLemmas.{verbatim_by_line}
-use Rattle.redo_json.proofs.WritingLemmas.{left_is, wrote_more}
+use Rattle.redo_json.proofs.WritingLemmas.{left_is}
 use Rattle.redo_json.proofs.diagnostics.write_each.Goals as goal
 
 pub each-init : goal.each-init
 each-init g c = (
-  begins _ (option_copied c.args.flags) (texts_of (entries_at c.args.number c.args.table.now)) _ _ c.new-lines.ensures.left
-      c.new-lines.ensures.done
-      c.new-counts.ensures,
-  λ is. subst AreVerbatim (sym c.new-lines.ensures.left) (c.requires is),
+  begins _ (option_copied c.args.flags) (texts_of (entries_at c.args.number c.args.table.now)) _ _ _ c.new-lines.ensures.left
+      c.new-lines.ensures.done c.clear.ensures c.clear-2.ensures.items,
+  λ is. subst AreSimple (sym c.new-lines.ensures.left) (c.requires is),
 )
 
 pub read_line-requires : goal.read_line-requires
 read_line-requires g c = λ is.
     let found = c.in-Some.ensures.some in
-    (subst AreVerbatim found.first (found.are.verbatim (c.each.invariant.1 is))).0
+    (subst AreSimple found.first (found.are.simple (c.each.invariant.1 is))).0
 
 pub returns-in_err-diagnostic : goal.returns-in_err-diagnostic
 returns-in_err-diagnostic g c =
@@ -32,41 +33,49 @@ returns-in_err-diagnostic g c =
     rw (given.1, given.2) (ran_out _ _ _ _ c.each.invariant.0.wrote)
 
 pub write_diagnostic-requires-clause-of_line : goal.write_diagnostic-requires-clause-of_line
-write_diagnostic-requires-clause-of_line g c = (c.in-Some.line.now, sym c.in_ok-diagnostic.ensures ∙ c.in-Some-2.is)
+write_diagnostic-requires-clause-of_line g c =
+    (c.in-Some.line.now, (found_is _ _ c.in-Some-2.key (sym c.in_ok-diagnostic.ensures ∙ c.in-Some-2.is)).0)
+
+pub write_diagnostic-requires-clause-key : goal.write_diagnostic-requires-clause-key
+write_diagnostic-requires-clause-key g c =
+    (found_is _ c.in-Some-2.diagnostic c.in-Some-2.key (sym c.in_ok-diagnostic.ensures ∙ c.in-Some-2.is)).1
 
 pub write_diagnostic-requires-clause-known : goal.write_diagnostic-requires-clause-known
 write_diagnostic-requires-clause-known g c = λ is.
     let found = c.in-Some.ensures.some in
-    verbatim_by_line c.in-Some.line.now c.in-Some-2.diagnostic (sym c.in_ok-diagnostic.ensures ∙ c.in-Some-2.is)
-    (subst AreVerbatim found.first (found.are.verbatim (c.each.invariant.1 is))).0
+    verbatim_by_line c.in-Some.line.now c.in-Some-2.diagnostic
+    (found_is _ _ c.in-Some-2.key (sym c.in_ok-diagnostic.ensures ∙ c.in-Some-2.is)).0
+    (subst AreSimple found.first (found.are.simple (c.each.invariant.1 is))).0.verbatim
 
 pub returns-in_err-write_diagnostic : goal.returns-in_err-write_diagnostic
 returns-in_err-write_diagnostic g c =
     let whole = diagnostics_text true (flagged (option_copied c.args.flags) (diagnostics_of (texts_of (entries_at c.args.number
     c.args.table.now)))) in
+    let is = (found_is _ _ c.in-Some-2.key (sym c.in_ok-diagnostic.ensures ∙ c.in-Some-2.is)).0 in
     let found = c.in-Some.ensures.some in
     let lines = found.candidates in
-    let so_far = at_candidates _ _ _ _ _ _ lines _ found.are c.each.invariant.0 in
+    let so_far = at_candidates _ _ _ _ _ _ lines _ _ found.are c.each.invariant.0 in
     let done = found.done in
     let room = c.in-Some.ensures.no_overflow in
     let key = c.in-Some-2.diagnostic.key in
     let nth = nth_is key so_far.keys lines.done (stored (times_of key so_far.keys)) so_far.few (omega (arith, done, room)) refl in
     let given = err_from_is_err_and c.from_residual-in_err-write_diagnostic.result c.from_residual-in_err-write_diagnostic.ensures.1 in
-    rw (given.1, given.2) (part_failed _ _ _ whole _ _ _
-    (left_is _ _ _ _ _ (finds c.each.is_first (option_copied c.each.left) lines c.next_candidate.new.self c.in-Some.line.now found.first
+    rw (given.1, given.2) (c.in_err-write_diagnostic.ensures.wrote so_far.keys so_far.counted (g.W.Sink.written c.args.out.now) whole _
+    (left_is _ _ _ _ _ (ap (λ (l : List ℕ). c.each.buffer.items ++ l)
+    (finds c.each.is_first (option_copied c.each.left) lines c.next_candidate.new.self c.in-Some.line.now found.first
     done so_far.keys
-    c.in-Some-2.diagnostic c.in-Some.position (stored (times_of key so_far.keys)) _ _ (sym c.in_ok-diagnostic.ensures
-    ∙ c.in-Some-2.is) found.position_is nth c.next_flag-new.ensures.first c.next_flag-new.ensures.others) so_far.wrote)
-    (c.in_err-write_diagnostic.ensures.wrote so_far.keys so_far.counted))
+    c.in-Some-2.diagnostic c.in-Some.position (stored (times_of key so_far.keys)) _ _ is found.position_is nth
+    c.next_flag-new.ensures.first c.next_flag-new.ensures.others)) so_far.wrote))
 
 pub each-preserved-in-Some-2 : goal.each-preserved-in-Some-2
 each-preserved-in-Some-2 g c =
-    let verbatim : (c.args.are_verbatim ≡ true → AreVerbatim c.next_candidate.new.self.left) = λ is.
+    let verbatim : (c.args.are_simple ≡ true → AreSimple c.next_candidate.new.self.left) = λ is.
     let found = c.in-Some.ensures.some in
-    (subst AreVerbatim found.first (found.are.verbatim (c.each.invariant.1 is))).1 in
+    (subst AreSimple found.first (found.are.simple (c.each.invariant.1 is))).1 in
+    let is = (found_is _ _ c.in-Some-2.key (sym c.in_ok-diagnostic.ensures ∙ c.in-Some-2.is)).0 in
     let found = c.in-Some.ensures.some in
     let lines = found.candidates in
-    let so_far = at_candidates _ _ _ _ _ _ lines _ found.are c.each.invariant.0 in
+    let so_far = at_candidates _ _ _ _ _ _ lines _ _ found.are c.each.invariant.0 in
     let done = found.done in
     let room = c.in-Some.ensures.no_overflow in
     let few = so_far.few in
@@ -76,12 +85,25 @@ each-preserved-in-Some-2 g c =
         keys = so_far.keys ++ key ∷ [];
         counted = c.in_ok-write_diagnostic.ensures.counted so_far.keys so_far.counted;
         few = omega (arith, few, done, length-append so_far.keys (key ∷ []));
-        wrote = wrote_more _ _ _ _ _ _
-            (left_is _ _ _ _ _
+        wrote = c.in_ok-write_diagnostic.ensures.wrote so_far.keys so_far.counted (g.W.Sink.written c.args.out.now) _ _
+            (left_is _ _ _ _ _ (ap (λ (l : List ℕ). c.each.buffer.items ++ l)
             (finds c.each.is_first (option_copied c.each.left) lines c.next_candidate.new.self c.in-Some.line.now found.first done
-            so_far.keys c.in-Some-2.diagnostic c.in-Some.position (stored (times_of key so_far.keys)) _ _ (sym c.in_ok-diagnostic.ensures
-            ∙ c.in-Some-2.is) found.position_is nth c.next_flag-new.ensures.first c.next_flag-new.ensures.others) so_far.wrote)
-            (c.in_ok-write_diagnostic.ensures.wrote so_far.keys so_far.counted);
+            so_far.keys c.in-Some-2.diagnostic c.in-Some.position (stored (times_of key so_far.keys)) _ _ is found.position_is nth
+            c.next_flag-new.ensures.first c.next_flag-new.ensures.others)) so_far.wrote);
       },
       verbatim,
     )
+
+pub returns : goal.returns
+returns g c =
+    let whole = diagnostics_text true (flagged (option_copied c.args.flags) (diagnostics_of (texts_of (entries_at c.args.number
+    c.args.table.now)))) in
+    let so_far = c.each.invariant.0 in
+    ends _ _ whole _ _
+    (c.flush.ensures.wrote (g.W.Sink.written c.args.out.now) whole []
+    (left_is _ _ _ _ _
+    (ap (λ (found : List (ℕ × DiagnosticValue)).
+    c.each.buffer.items ++ diagnostics_text c.each.is_first (flagged (option_copied c.each.left) (numbered_from so_far.keys found)))
+    c.in_default.ensures.none)
+    so_far.wrote))
+    c.flush.ensures.empty

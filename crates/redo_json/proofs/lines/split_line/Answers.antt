@@ -1,4 +1,3 @@
-use Rattle.std.proofs.Common.{◌-◌}
 use Rattle.redo_line.proofs.CutLemmas.{holds_none}
 use Rattle.redo_line.proofs.LineLemmas.{ended-free}
 use Rattle.redo_json.proofs.LogLineLemmas.{after_shorter, first_line}

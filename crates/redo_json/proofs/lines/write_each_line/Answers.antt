@@ -1,7 +1,7 @@
-use Rattle.std.proofs.Common.{◌-◌, refl, ap, subst}
+use Rattle.std.proofs.Common.{refl, ap, subst}
 use Rattle.json.specs.Print.{escape}
 use Rattle.redo_line.specs.Lines.{ended}
-use Rattle.redo_json.specs.Private.Lines.{before_line, lines_text}
+use Rattle.redo_json.specs.Private.Lines.{lines_text}
 use Rattle.redo_json.specs.Private.LogLines.{AreUtf8}
 use Rattle.redo_json.specs.Text.{text_of}
 use Rattle.redo_json.proofs.StretchLemmas.{first_left}

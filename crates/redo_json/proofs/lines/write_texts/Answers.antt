@@ -1,4 +1,4 @@
-use Rattle.std.proofs.Common.{true, false, sym, ap, ◌∙◌, subst}
+use Rattle.std.proofs.Common.{true, sym, ap, ◌∙◌, subst}
 use Rattle.redo_line.specs.Lines.{ended}
 use Rattle.redo_outline.specs.Facts.{entries_at, texts_of}
 use Rattle.redo_json.specs.Private.Lines.{lines_left}

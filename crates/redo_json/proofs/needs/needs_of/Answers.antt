@@ -1,4 +1,4 @@
-use Rattle.std.proofs.Common.{ℕ, Bor, List, [], ap, map, sym, ◌∙◌, subst, arith}
+use Rattle.std.proofs.Common.{ℕ, Bor, List, [], ap, map, sym, subst, arith}
 use Rattle.redo_logs.specs.Logs.{Log}
 use Rattle.redo_logs.specs.Numbering.{AreLinesAt}
 use Rattle.redo_json.proofs.LogLineLemmas.{within}
@@ -8,8 +8,7 @@ use Rattle.redo_json.proofs.needs.needs_of.Goals as goal
 pub entries-init : goal.entries-init
 entries-init c =
     begin_needs _ _ _ _ _ (ap (λ (l : List (Bor (List ℕ))). map (λ (name : Bor (List ℕ)). name.now) l) c.new-needs.ensures.items)
-    (c.in_ok-to_vec.ensures.items_if_clones_equal (λ x y same. same) ∙ c.target_at.ensures)
-    (c.in_ok-add.ensures.counted [] c.new-counts.ensures)
+    c.target_at.ensures (c.in_ok-add.ensures.known [] c.new-names.ensures)
 
 pub entries-smaller-then-count-gt0 : goal.entries-smaller-then-count-gt0
 entries-smaller-then-count-gt0 c =
@@ -30,8 +29,8 @@ entries-smaller c = let low = within c.args.table.now c.args.number _ c.entries.
 pub entries-preserved : goal.entries-preserved
 entries-preserved c =
     after_entry c.args.table.now c.args.number c.entries.at _ _ _ _ _ (sym c.in-Some.ensures.entry) c.entries.invariant
-    (c.in_ok-add_entry.ensures.counted c.entries.invariant.before c.entries.invariant.counted)
-    (c.in_ok-add_entry.ensures.added c.entries.invariant.before c.entries.invariant.counted)
+    (c.in_ok-add_entry.ensures.known c.entries.invariant.before c.entries.invariant.known)
+    (c.in_ok-add_entry.ensures.added c.entries.invariant.before c.entries.invariant.known)
 
 pub returns-in_default : goal.returns-in_default
 returns-in_default c = all_needs c.args.table.now c.args.number c.entries.at _ _ (sym c.in_default.ensures.entry) c.entries.invariant

@@ -1,13 +1,13 @@
 use Rattle.std.proofs.Common.{sym, ◌∙◌, subst}
-use Rattle.redo_json.specs.Private.LogLines.{AreVerbatim}
+use Rattle.redo_json.specs.Private.LogLines.{AreSimple}
 use Rattle.redo_json.proofs.LineLemmas.{fewer_left}
 use Rattle.redo_json.proofs.LogLineLemmas.{is_nothing}
-use Rattle.redo_json.proofs.VerbatimLineLemmas.{verbatim_stretch}
-use Rattle.redo_json.proofs.log_lines.are_verbatim.Goals as goal
+use Rattle.redo_json.proofs.VerbatimLineLemmas.{simple_stretch}
+use Rattle.redo_json.proofs.log_lines.are_simple.Goals as goal
 
 pub returns-then-is_empty : goal.returns-then-is_empty
 returns-then-is_empty c = λ _.
-    c.stretches.invariant (subst AreVerbatim
+    c.stretches.invariant (subst AreSimple
     (sym (c.next_lines-after.ensures.lines.none
     (is_nothing c.next_lines-after.result.0.now (sym c.is_empty.ensures ∙ c.if-is_empty.true)))) tt)
 
@@ -19,6 +19,6 @@ stretches-smaller c =
 pub stretches-preserved : goal.stretches-preserved
 stretches-preserved c = λ all.
     c.stretches.invariant
-    (verbatim_stretch _ c.args.number c.stretches.next c.next_lines-after.result.2 c.next_lines-after.result.0.now
+    (simple_stretch _ c.args.number c.stretches.next c.next_lines-after.result.2 c.next_lines-after.result.0.now
     c.next_lines-after.ensures.lines
-    (c.are_verbatim_lines.ensures c.if-not-are_verbatim_lines.false) all)
+    (c.are_verbatim_lines.ensures c.if-not-are_verbatim_lines.false) (c.may_have_temporary.ensures c.if-may_have_temporary.false) all)
