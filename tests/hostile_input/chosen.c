@@ -95,9 +95,10 @@ static int tried_numbers(int by_sip, long count) {
   return count > 0;
 }
 
-/* The first 96 bytes of each name. As a line of a log, a name is a diagnostic, and its key is the line itself. */
+/* The first 96 bytes of each name. As a line of a log, a name is a diagnostic without a file, and what is hashed of its key is the
+   line itself. */
 static const char prefix[LENGTH - 5] =
-  "together: error: together together together together together together together together as one ";
+  "error: together together together together together together together together together as one, ";
 
 /* Tries the last six letters of names. The first of them is in the lowest byte. */
 static int tried_names(long count) {

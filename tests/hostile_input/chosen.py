@@ -127,10 +127,10 @@ def needs_of_a_log(directory, names, numbers):
 
 
 def keys_of_diagnostics(directory, names, numbers):
-    """Each key occurs twice. Names of `sip` are keys."""
-    texts = [name.decode() if b"together: error: " in name else f"together: error: {name.decode()}" for name in names]
+    """Each key occurs twice. Names of `sip` are lines."""
+    texts = [name.decode() if name.startswith(b"error: ") else f"error: {name.decode()}" for name in names]
     place = {"severity": "error", "file": None, "row": None, "column": None}
-    found = [{"line": line, **place, "message": text.partition("error: ")[2], "flag": None, "key": text, "nth": line // len(texts),
+    found = [{"line": line, **place, "message": text.partition("error: ")[2], "flag": None, "key": f": {text}", "nth": line // len(texts),
               "new": None} for line, text in enumerate(texts * 2)]
     write(directory, "names", b"1 all\n")
     write(directory, "log.1", "".join(text + "\n" for text in texts * 2).encode())
