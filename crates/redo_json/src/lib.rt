@@ -10,7 +10,7 @@
 //!   bytes.
 //! - `json` writes into memory. Here parts are written to a `Sink`. Stretches without escapes are one write, and so is what is between
 //!   two lines. The text lines of a log are read from the table three times: for the texts, for the exact bytes, and for the
-//!   diagnostics. So no object is held in memory, only the commands and the needs of one log. For the
+//!   diagnostics. So no object is held in memory. Of one log, the commands, the needs and a map of its diagnostics' keys are. For the
 //!   exact bytes, lines that are stored together are tested together first: if all are UTF-8, no line is read. Before all that, one pass
 //!   tests whether all lines of a log are ASCII without escapes, and without names of temporary files. If so, no string of them is tested
 //!   for UTF-8, escapes or colours, and no key is a copy.
