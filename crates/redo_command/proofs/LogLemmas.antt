@@ -1,5 +1,5 @@
 -- Readers that give the streams of logs.
-use Rattle.std.proofs.Common.{◌≡◌, ◌∙◌, ℕ, ◌+◌, Bool, true, false, cond, List, [], ◌∷◌, ◌++◌, Option, None, Some, length, map, slice_get, take, refl, sym, ap, subst}
+use Rattle.std.proofs.Common.{◌≡◌, ◌∙◌, ℕ, ◌+◌, List, [], ◌∷◌, ◌++◌, Option, None, Some, length, map, slice_get, take, sym, ap, subst}
 use Rattle.std.proofs.lemmas.List.{take_more, map-append, length-map}
 use Rattle.std.proofs.lemmas.Option.{get_or_from_slice_get, slice_get_within, slice_get-map}
 use Rattle.std.specs.Option.{option_map}
@@ -8,8 +8,6 @@ use Rattle.redo_line.specs.Source.{StreamInput}
 use Rattle.redo_gather.specs.Streams.{MatchKnown, MatchesContents, known_inputs}
 use Rattle.redo_index.specs.declared.index_entry.IndexEntry.{IndexEntry}
 use Rattle.redo_index.specs.Index.{must_close_flags, numbers_of}
-use Rattle.redo_command.specs.declared.first_reading.FirstReading.{FirstReading}
-use Rattle.redo_command.specs.FirstReading.{first_contents}
 use Rattle.redo_command.specs.Logs.{AllGive, Gives, known_logs}
 
 -- A stream that a reader may give is one that its log may have.
@@ -61,12 +59,3 @@ give_next contents known index i number readers reader there give gives =
 
 pub known_logs-length : (known : ℕ → Option Stream) (index : List IndexEntry) → length (known_logs known index) ≡ length index
 known_logs-length known index = length-map (numbers_of index) known ∙ length-map index (λ (entry : IndexEntry). entry.number)
-
--- A log gives its stream in its first reading, too, if nothing is known of one that can't be read twice.
-pub first_gives : {F : Type 0} (contents : F → Option Stream) (known : Option Stream) (reading : FirstReading F)
-    → Gives known (contents reading.log) → (reading.can_rewind ≡ false → known ≡ None) → Gives known (first_contents contents reading)
-first_gives contents known reading gives unknown = by reading.can_rewind refl
-  where
-    by : (can : Bool) → reading.can_rewind ≡ can → Gives known (cond can (contents reading.log) None)
-    by true is = gives
-    by false is = subst (λ (k : Option Stream). Gives k None) (sym (unknown is)) tt

@@ -4,7 +4,6 @@ pub mod Explanation
 pub mod Facts
 pub mod Failure
 pub mod FirstByte
-pub mod FirstReading
 pub mod Job
 pub mod Laws
 pub mod LogFile

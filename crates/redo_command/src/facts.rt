@@ -6,8 +6,8 @@ ghost use Rattle.redo_options.specs.Limits.{IsSenderCount};
 ghost use Rattle.redo_command.specs.Facts.{AreBuildFacts, AreFactsOfFile, AreTimesOfLogs};
 ghost use Rattle.redo_command.specs.Logs.{AllGive, known_logs};
 
-use crate::first_reading::{open_first, rewind_all};
-use crate::logs::OpenFacts;
+use crate::first_reading::{FirstReadings, rewind_all};
+use crate::logs::{OpenFacts, open_logs};
 use crate::names_file::MAX_BYTES;
 use redo_facts::{Facts, read_facts};
 use redo_index::Index;
@@ -53,7 +53,7 @@ pub fn read_build_facts<L: OpenFacts>(
     ensures given { IfOk result (λ read. AllGive (known_logs (L.known files.now) index.now) (map L.Log.contents read.1.items)) }
     ensures count { IfOk result (λ read. length read.1.items ≡ length index.now) }
 {
-    let readings = open_first(alloc, files, index)?;
+    let readings = open_logs(alloc, &FirstReadings { files }, index)?;
     let (times, readings) = read_times(alloc, index, readings, MAX_BYTES)?;
     let (logs, log_bytes) = rewind_all(alloc, files, index, readings)?;
     let recipes = read_recipe_facts(alloc, files, index)?;

@@ -1,16 +1,15 @@
 //! Logs that are read twice, for their times and then for a text. Each is opened once.
 ghost use Rattle.std.specs.Prelude.{◌≡◌, ℕ, IfOk, length, map};
-ghost use Rattle.redo_command.specs.FirstReading.{first_contents};
 ghost use Rattle.redo_command.specs.Logs.{AllGive, known_logs};
 
-use crate::logs::OpenFacts;
+use crate::logs::{OpenFacts, OpenLog};
 use redo_index::Index;
 use redo_line::{Broken, Feed};
 use std::alloc::{AllocError, Global};
 
 /// A log that is read for the first time of two. A log that can be read only once gives nothing.
 #[derive(Drop)]
-pub struct FirstReading<F: Feed> {
+pub(crate) struct FirstReading<F: Feed> {
     log: F,
     can_rewind: bool,
     // The number of bytes that were read.
@@ -18,7 +17,7 @@ pub struct FirstReading<F: Feed> {
 }
 
 impl<F: Feed> Feed for FirstReading<F> {
-    ghost use Rattle.redo_command.specs.FirstReading.{first_contents};
+    ghost use Rattle.redo_command.specs.Private.FirstReading.{first_contents};
 
     ghost contents = { λ reading. first_contents F.contents reading };
 
@@ -32,32 +31,30 @@ impl<F: Feed> Feed for FirstReading<F> {
     }
 }
 
-/// Opens the logs of all targets, in the order of the index, as [`open_logs`](crate::open_logs) does, to read them twice.
-pub fn open_first<L: OpenFacts>(
-    alloc: Global,
-    files: &L,
-    index: &Index,
-) -> Result<Vec<FirstReading<L::Log>>, AllocError>
-    ensures given { IfOk result (λ readings. AllGive (known_logs (L.known files.now) index.now)
-        (map (first_contents L.Log.contents) readings.items)) }
-    ensures count { IfOk result (λ readings. length readings.items ≡ length index.now) }
-{
-    let mut readings = Vec::with_capacity(alloc, index.len() as usize)?;
-    for i in 0..index.len() {
-        let fid = index.fid(i);
-        let log = files.open(fid)?;
-        let can_rewind = files.can_rewind(fid, &log);
-        readings.push(FirstReading {
+/// The logs of a directory, each opened for the first reading of two.
+#[derive(Drop)]
+pub(crate) struct FirstReadings<'a, L> {
+    pub files: &'a L,
+}
+
+impl<L: OpenFacts> OpenLog for FirstReadings<'_, L> {
+    type Log = FirstReading<L::Log>;
+
+    ghost known = { λ logs. L.known logs.files.now };
+
+    fn open(&self, fid: u32) -> Result<FirstReading<L::Log>, AllocError> {
+        let log = self.files.open(fid)?;
+        let can_rewind = self.files.can_rewind(fid, &log);
+        Ok(FirstReading {
             log,
             can_rewind,
             bytes: 0,
-        })?;
+        })
     }
-    Ok(readings)
 }
 
 /// Goes back to the starts of logs that were read, for a second reading. Returns the logs, and the number of bytes of the first reading.
-pub fn rewind_all<L: OpenFacts>(
+pub(crate) fn rewind_all<L: OpenFacts>(
     alloc: Global,
     files: &L,
     index: &Index,

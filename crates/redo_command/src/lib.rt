@@ -42,7 +42,6 @@ pub use explanation::{
 pub use facts::{BuildFacts, read_build_facts, read_recipe_facts};
 pub use failure::{Failure, status};
 pub use first_byte::FirstByte;
-pub use first_reading::{FirstReading, open_first, rewind_all};
 pub use job::{Job, show_job, write_job};
 pub use laws::{baseline_fails_last, suggestions_are_listed_targets};
 pub use log_file::{LogFile, LogFiles, RegularLogFiles};

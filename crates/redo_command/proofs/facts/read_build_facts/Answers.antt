@@ -1,4 +1,4 @@
-use Rattle.redo_command.specs.FirstReading.{first_contents}
+use Rattle.redo_command.specs.Private.FirstReading.{first_contents}
 use Rattle.redo_command.proofs.FactLemmas.{times_of_logs}
 use Rattle.redo_command.proofs.facts.read_build_facts.Goals as goal
 
