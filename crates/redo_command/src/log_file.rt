@@ -70,7 +70,7 @@ impl<R: Files<File: Send> + AllocGlobal> OpenFacts for LogFiles<'_, R> {
 
     fn can_rewind(&self, _fid: u32, log: &LogFile<R::File>) -> bool {
         match log {
-            LogFile::Open(file) => is_regular_file(&file.0),
+            LogFile::Open(file) => is_regular(file.0.metadata()).unwrap_or(false),
             _ => true,
         }
     }
@@ -114,14 +114,6 @@ fn fails_to_rewind<F: Seek>(file: &mut F) -> bool {
     }
 }
 
-// Returns whether an open file is a regular file.
-fn is_regular_file<F: OpenFile>(file: &F) -> bool {
-    match file.metadata() {
-        Ok(found) => found.is_file(),
-        Err(_) => false,
-    }
-}
-
 // Opens the file at a path if it is a regular file. Otherwise it is taken as missing.
 fn open_regular<R: Files + AllocGlobal>(
     rt: &R,
@@ -134,7 +126,7 @@ fn open_regular<R: Files + AllocGlobal>(
     }
 }
 
-// Returns whether a file is a regular file, from what was found at its path. The only error is that memory ran out.
+// Returns whether a file is a regular file, from the result of reading its metadata. The only error is that memory ran out.
 fn is_regular(found: io::Result<Metadata>) -> Result<bool, AllocError>
     ensures file { IfOk found (λ metadata. IsOkAnd result (λ is. (is ≡ true) ↔ IsFile (file_type metadata))) }
     ensures other { IfErr found (λ _. IfOk result (λ is. is ≡ false)) }
