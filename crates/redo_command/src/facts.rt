@@ -19,7 +19,7 @@ use std::alloc::{AllocError, Global};
 const SMALL_LOG_BYTES: u64 = 8 * 1024;
 
 /// What is known of the targets of a directory, in the order of the index: when they began and ended, and the facts of their recipes.
-/// `keys` are the keys by which the index hashes names, and `log_bytes` is the number of bytes of the logs.
+/// `keys` are the keys by which the index hashes names, and `log_bytes` is the number of bytes that were read from the logs.
 #[derive(Drop)]
 pub struct BuildFacts {
     pub times: Vec<Times>,
