@@ -9,7 +9,7 @@ import re
 import shutil
 import subprocess
 
-from contracts import PARTS, TOP, Names, Specs, closing, is_private, read
+from contracts import PARTS, TOP, Names, Specs, closing, dependencies, is_private, libraries_of, read, root_of
 from kept import BadEdit
 
 KIT = os.path.dirname(os.path.dirname(os.path.realpath(shutil.which("rt") or "rt")))
@@ -240,29 +240,21 @@ class Trial:
 
     def command(self):
         """Returns the command of the check: `rt check` would first prove and build the libraries below."""
-        below, own = libraries(), []
-
-        def visit(crate):
-            for lower in below.get(crate, []):
-                visit(lower)
-            if crate in below and crate not in own:
-                own.append(crate)
-
-        for crate in self.crates:
-            visit(crate)
+        below = dependencies()
+        own = dict.fromkeys(crate for name in self.crates for crate in [*libraries_of(name), name])
         theirs = sorted({"core", "std", *(lower for crate in own for lower in below[crate] if lower not in below)})
         words = [os.path.join(KIT, "bin/rattle"), "check", "--crate-name", "wrong", "src/lib.rt", "-L", f"dependency={KIT}/rlibs"]
         for library in theirs:
             words += ["--extern", f"{library}={KIT}/rlibs/{library}.rlib"]
         for crate in own:
-            words += ["--lib", f"{crate}:{','.join(dict.fromkeys(['core', 'std', *below[crate]]))}={self.root_of(crate)}"]
+            words += ["--lib", f"{crate}:{','.join(dict.fromkeys(['core', 'std', *below[crate]]))}={self.library_of(crate)}"]
         logic = ["--antt-project", f"{KIT}/rattle/logic/antt-project.json", "--logic-built", f"{KIT}/logic_built"]
         return words + logic + ["--links", "wrong=", "--jobs", "1", "--only", "tried"]
 
-    def root_of(self, crate):
+    def library_of(self, crate):
         """Returns the root file of a library. For a program, writes a library that has only its definitions."""
         folder = os.path.join(TOP, "crates", crate)
-        if not os.path.exists(os.path.join(folder, "src/lib.rt")):
+        if root_of(crate) == "src/main.rt":
             shutil.copytree(os.path.join(folder, "specs"), os.path.join(self.folder, "programs", crate, "specs"), dirs_exist_ok=True)
             self.put(f"programs/{crate}/src/lib.rt", "//! The definitions of a program.\n")
             folder = os.path.join(self.folder, "programs", crate)
@@ -365,8 +357,3 @@ def short(text):
 
 def first_line(text):
     return short(text.split("\n")[0])[:70] if len(text) < 70 else re.sub(r"\s+", " ", text)[:200]
-
-
-def libraries():
-    """Returns the libraries of the repository and what each one depends on."""
-    return {crate.split()[0]: lower.split() for crate, lower in re.findall(r"^([^#\n:]+):([^#\n]*)", read("crates.txt"), re.M)}

@@ -31,18 +31,22 @@ def files(folder, ending):
     return sorted(path for path in found if "/out/" not in path)
 
 
-def libraries_of(program):
-    """Returns the libraries that a program depends on, each after its own dependencies."""
-    below = {crate.split()[0]: lower.split() for crate, lower in re.findall(r"^([^#\n:]+):([^#\n]*)", read("crates.txt"), re.M)}
-    order = []
+def dependencies():
+    """Returns the crates of the repository, each with the libraries that it uses directly."""
+    return {crate.split()[0]: lower.split() for crate, lower in re.findall(r"^([^#\n:]+):([^#\n]*)", read("crates.txt"), re.M)}
 
-    def visit(crate):
-        for lower in below.get(crate, []):
-            visit(lower)
-        if crate in below and crate not in order + [program]:
-            order.append(crate)
 
-    visit(program)
+def libraries_of(crate):
+    """Returns the libraries of the repository that a crate depends on, each after its own dependencies."""
+    below, order = dependencies(), []
+
+    def visit(upper):
+        for lower in below[upper]:
+            if lower in below and lower not in order:
+                visit(lower)
+                order.append(lower)
+
+    visit(crate)
     return order
 
 
@@ -54,7 +58,7 @@ def libraries():
 
 def root_of(crate):
     """Returns the root file of a crate, which is a library or a program."""
-    return "lib.rt" if os.path.exists(os.path.join(TOP, "crates", crate, "src/lib.rt")) else "main.rt"
+    return "src/lib.rt" if os.path.exists(os.path.join(TOP, "crates", crate, "src/lib.rt")) else "src/main.rt"
 
 
 def title_of(line):
@@ -140,10 +144,10 @@ def clauses(crate):
     """Yields each part of a public contract: its file, whether it is part of a model, what it cites, the type or trait of its block, and its
     place in the file: where its item begins, where the braces open, and where they close."""
     file = root_of(crate)
-    root = NO_CODE.sub("", read("crates", crate, "src", file))
+    root = NO_CODE.sub("", read("crates", crate, file))
     handed_out = {name for used in re.findall(r"\bpub use ([^;]+);", root) for name in WORD.findall(re.sub(r"\b\w+ as ", "", used))}
     # The modules of a program count as public.
-    modules = set(re.findall(r"\bpub mod (\w+)" if file == "lib.rt" else r"\bmod (\w+)", root)) | {"lib"}
+    modules = set(re.findall(r"\bpub mod (\w+)" if file == "src/lib.rt" else r"\bmod (\w+)", root)) | {"lib"}
     for path in files(f"crates/{crate}/src", ".rt"):
         text = NO_CODE.sub(lambda found: re.sub(r"[^\n]", " ", found[0]), read("crates", crate, "src", path))
         public = path.split(os.sep)[0].removesuffix(".rt") in modules

@@ -47,7 +47,7 @@ def rows(specs, crates):
     """Yields the purpose and the clauses of some crates, or of all."""
     for crate in crates or libraries():
         yield crate
-        purpose = re.match(r"(?://! .*\n)+", read("crates", crate, "src", root_of(crate)))
+        purpose = re.match(r"(?://! .*\n)+", read("crates", crate, root_of(crate)))
         yield from wrapped(" ".join(line.removeprefix("//! ") for line in purpose[0].splitlines()), "  ") if purpose else ()
         file = None
         for (where, name), (line, doc, parts) in functions(crate).items():
