@@ -2,12 +2,13 @@
 use Rattle.std.proofs.Common.{◌≡◌, ◌∙◌, ℕ, Bool, true, false, List, [], ◌∷◌, ◌++◌, filter, map, refl, sym, ap, ap₂}
 use Rattle.std.specs.Prelude.{if◌then◌else◌}
 use Rattle.std.proofs.lemmas.List.{append-nil}
+use Rattle.std.proofs.lemmas.Simd.{map-map}
 use Rattle.std.specs.List.{flat_map}
 use Rattle.redo_line.specs.Lines.{with_line_feed}
 use Rattle.redo_logs.specs.Logs.{Log}
 use Rattle.redo_options.specs.declared.options.Options.{Options}
 use Rattle.redo_view.specs.Expansion.{shown_events}
-use Rattle.redo_outline.specs.Outline.{outline_of}
+use Rattle.redo_outline.specs.Outline.{outline_of, without_warnings}
 use Rattle.redo_outline.specs.declared.node.Node.{Node}
 use Rattle.redo_compare.specs.Baseline.{BaselineValue, baseline_of}
 use Rattle.redo_new.specs.declared.section.Section.TheVariants.{NewlyFailing, New, Fixed}
@@ -63,12 +64,16 @@ module _ (baseline : BaselineValue) (logs : List Log) where
       (ap₂ (λ (a b : List ℕ). a ++ b) (new_text nodes) (fixed_text nodes) ∙ sym (text-append new fixes))
       ∙ sym (text-append fails (new ++ fixes))
 
+-- A target's news doesn't depend on its numbers of warnings.
 pub sections_are : (unchanged : Bool) (earlier logs : List Log) (requested : List (List ℕ)) (options : Options) (baseline : BaselineValue)
     (nodes : List Node) (targets : List TargetNews) → options ≡ options_of unchanged → baseline ≡ baseline_of earlier options requested
-    → nodes ≡ outline_of logs (shown_events logs options requested) → targets ≡ map (news_at baseline logs) nodes
+    → nodes ≡ map without_warnings (outline_of logs (shown_events logs options requested)) → targets ≡ map (news_at baseline logs) nodes
     → section_text logs NewlyFailing targets ++ (section_text logs New targets ++ section_text logs Fixed targets)
     ≡ news_text unchanged earlier logs requested
 sections_are unchanged earlier logs requested options baseline nodes targets options_are baseline_is nodes_are targets_are =
-    rw (targets_are, nodes_are, baseline_is, options_are)
+    let shown = outline_of logs (shown_events logs options requested) in
+    let same : targets ≡ map (news_at baseline logs) shown =
+    targets_are ∙ ap (map (news_at baseline logs)) nodes_are ∙ map-map (news_at baseline logs) without_warnings shown in
+    rw (same, baseline_is, options_are)
     (three_sections (baseline_of earlier (options_of unchanged) requested) logs
     (outline_of logs (shown_events logs (options_of unchanged) requested)))

@@ -41,7 +41,7 @@ pub fn write_news<W: Sink>(
     ensures { FormWrites (W.written out.old) (W.written out.new) (news_text unchanged earlier.now table.now requested.now) result }
 {
     let options = options_of(unchanged);
-    let outline = Outline::new(alloc, table, &options, requested)?;
+    let outline = Outline::without_warnings(alloc, table, &options, requested)?;
     let baseline = Baseline::new(alloc, keys, earlier, &options, requested)?;
     let news = news_of(alloc, &baseline, table, outline.nodes())?;
     write_section(alloc, table, Section::NewlyFailing, &news, out)?;
