@@ -166,13 +166,13 @@ here_is bytes flag is =
 
 -- ---- a flag at the end
 
-record Ends (text message flag : List ℕ) : Type 0 where
-  whole : text ≡ message ++ space ∷ open_bracket ∷ (flag ++ close_bracket ∷ [])
-  some : flag ≢ []
-  opens : HasNo open_bracket flag
-  closes : HasNo close_bracket flag
+pub record Ends (text message flag : List ℕ) : Type 0 where
+  pub whole : text ≡ message ++ space ∷ open_bracket ∷ (flag ++ close_bracket ∷ [])
+  pub some : flag ≢ []
+  pub opens : HasNo open_bracket flag
+  pub closes : HasNo close_bracket flag
 
-flag_is : (text : List ℕ) (parts : List ℕ × List ℕ) → split_flag text ≡ Some parts → Ends text parts.0 parts.1
+pub flag_is : (text : List ℕ) (parts : List ℕ × List ℕ) → split_flag text ≡ Some parts → Ends text parts.0 parts.1
 unfolding split_flag
 flag_is [] parts is = absurd (none-some parts is)
 flag_is (byte ∷ bytes) parts is =

@@ -13,6 +13,6 @@ pub mod PlainLemmas
 pub mod ReadLemmas
 pub mod SequenceLaws
 pub mod SplitLemmas
-mod StretchLemmas
+pub mod StretchLemmas
 mod TextLemmas
 pub mod WordLemmas

@@ -10,13 +10,14 @@ use Rattle.redo_line.specs.Lines.{ended}
 use Rattle.redo_logs.specs.Logs.{Log}
 use Rattle.redo_json.specs.Diagnostics.{flagged, numbered_from, placed_from, placed_if}
 use Rattle.redo_json.specs.Private.Diagnosing.{WroteDiagnostics}
-use Rattle.redo_json.specs.Private.LogLines.{AreCandidates, AreNextLines, AreSimple, IsNextCandidate, Remaining, texts_from}
+use Rattle.redo_json.specs.Private.LogLines.{AreCandidates, AreNextLines, AreOfKind, IsNextCandidate, Remaining, texts_from}
 use Rattle.redo_json.specs.Private.Parts.{diagnostics_text}
+use Rattle.redo_json.proofs.KindLemmas.{kind_parts}
 use Rattle.redo_json.proofs.LogLineLemmas.{is_nothing}
 use Rattle.redo_json.proofs.WritingLemmas.{left_is}
 
 pub same_lines : (lines : Remaining) → AreCandidates lines lines
-same_lines lines = record { placed = refl; fewer = omega arith; later = omega arith; simple = λ all. all }
+same_lines lines = record { placed = refl; fewer = omega arith; later = omega arith; of_kind = λ kind all. all }
 
 pub more_skipped : (before between after : Remaining) → AreCandidates before between → AreCandidates between after
     → AreCandidates before after
@@ -24,7 +25,7 @@ more_skipped before between after first second = record {
   placed = first.placed ∙ second.placed;
   fewer = let few = first.fewer in let fewer = second.fewer in omega (arith, few, fewer);
   later = let late = first.later in let later = second.later in omega (arith, late, later);
-  simple = λ all. second.simple (first.simple all);
+  of_kind = λ kind all. second.of_kind kind (first.of_kind kind all);
 }
 
 -- Lines without diagnostics have no part in what is found.
@@ -37,11 +38,6 @@ placed_after (line ∷ skipped) others position none =
     ap (λ (found : Option DiagnosticValue). placed_if position found (placed_from (suc position) (skipped ++ others))) none.0
     ∙ placed_after skipped others (suc position) none.1 ∙ ap (λ (n : ℕ). placed_from n others) same
 
--- Lines after others.
-simple_after : (skipped others : List (List ℕ)) → AreSimple (skipped ++ others) → AreSimple others
-simple_after [] others all = all
-simple_after (line ∷ skipped) others all = simple_after skipped others all.1
-
 -- A stretch without diagnostics.
 pub skips_stretch : (logs : List Log) (number at before count after : ℕ) (lines : List ℕ) → AreNextLines logs number at lines after
     → count ≡ length (ended lines) → AllByRecursion (λ line. diagnostic_of line ≡ None) (ended lines)
@@ -53,7 +49,7 @@ skips_stretch logs number at before count after lines are counted none = record 
   fewer = let split = ap length are.split in let sum = length-append (ended lines) (texts_from logs number after) in
       omega (arith, split, sum);
   later = omega arith;
-  simple = λ all. simple_after (ended lines) (texts_from logs number after) (subst AreSimple are.split all);
+  of_kind = λ kind all. (kind_parts kind (ended lines) (texts_from logs number after) (subst (AreOfKind kind) are.split all)).1;
 }
 
 -- A stretch that isn't skipped.
@@ -64,7 +60,7 @@ takes_stretch logs number at before after lines are = record {
   placed = ap (placed_from before) are.split;
   fewer = let split = ap length are.split in omega (arith, split);
   later = omega arith;
-  simple = subst AreSimple are.split;
+  of_kind = λ kind. subst (AreOfKind kind) are.split;
 }
 
 -- Nothing is left of the last stretch.

@@ -43,3 +43,18 @@ pub object_is : (is_first : Bool) (position nth : ℕ) (value : DiagnosticValue)
 object_is is_first position nth value new keys verbatim is =
     joined_object (record { line = position; value = value; nth = nth }) new is_first verbatim
     ∙ ap (λ (n : ℕ). diagnostic_text is_first (record { line = position; value = value; nth = n }, new)) is
+
+-- Bytes without escapes and an escape were appended, of a text that goes on.
+pub stretch_joined : (before middle after plain byte behind whole : List ℕ) → whole ≡ plain ++ (byte ++ behind)
+    → IsAppended before middle plain → IsAppended middle after byte → after ++ behind ≡ before ++ whole
+stretch_joined before middle after plain byte behind whole is first second =
+    ap (λ (l : List ℕ). l ++ behind) (second.is ∙ ap (λ (l : List ℕ). l ++ byte) first.is)
+    ∙ append_assoc (before ++ plain) byte behind ∙ append_assoc before plain (byte ++ behind)
+    ∙ ap (λ (l : List ℕ). before ++ l) (sym is)
+
+-- The rest of a text was appended.
+pub rest_joined : {E : Type 0} (done : Result (Unit {0}) E) (initial before after left text escaped : List ℕ) → escaped ≡ left
+    → before ++ escaped ≡ initial ++ text → OnOk done (IsAppended before after left) → OnOk done (IsAppended initial after text)
+rest_joined (Ok u) initial before after left text escaped same so_far last =
+    record { is = last.is ∙ ap (λ (l : List ℕ). before ++ l) (sym same) ∙ so_far }
+rest_joined (Err e) initial before after left text escaped same so_far last = tt

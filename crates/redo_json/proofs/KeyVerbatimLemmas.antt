@@ -153,7 +153,7 @@ flag_fit (byte ∷ bytes) all =
 
 -- ---- the file
 
-file_is : (head : List ℕ) → IfSome (place_of head) (λ (place : PlaceValue). place.file ≡ origin_of head)
+pub file_is : (head : List ℕ) → IfSome (place_of head) (λ (place : PlaceValue). place.file ≡ origin_of head)
 unfolding place_of
 file_is head = by (split_once colon head)
   where

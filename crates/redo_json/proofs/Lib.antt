@@ -13,6 +13,7 @@ mod FieldRows
 mod FormLemmas
 mod JoinLemmas
 mod KeyVerbatimLemmas
+mod KindLemmas
 mod LawLemmas
 mod LeftLemmas
 mod LineLemmas
@@ -33,6 +34,7 @@ mod PendingLemmas
 mod PlaceLemmas
 mod PrintLemmas
 mod ReadingLemmas
+mod SimpleLineLemmas
 mod StretchLemmas
 mod TextLemmas
 mod TextRows

@@ -11,7 +11,7 @@ use Rattle.simdutf8.proofs.StepsLemmas.{IsUtf8-append_ascii}
 use Rattle.json.specs.Json.{string}
 use Rattle.json.specs.Print.{escape}
 use Rattle.redo_line.proofs.LineLemmas.{are_lines}
-use Rattle.redo_line.specs.Lines.{ended, line_feed, with_line_feed}
+use Rattle.redo_line.specs.Lines.{ended, line_feed, rest, with_line_feed}
 use Rattle.redo_logs.specs.Logs.{Log}
 use Rattle.redo_json.specs.Fields.{Field, exact_fields, exact_items, exact_list, exact_name, field}
 use Rattle.redo_json.specs.Text.{base64_of, exact_of}
@@ -50,37 +50,48 @@ exact_line_parts name lines before after position line is first next =
 
 -- ---- lines of a text
 
--- A line of a text, and what follows its line feed.
-line_text : (line others : List ℕ) → IsUtf8 (with_line_feed line ++ others) → IsUtf8 line × IsUtf8 others
-line_text line others text = (
-  (IsUtf8-append_ascii line (line_feed ∷ []) feed).0
-      (subst IsUtf8 (take_at (with_line_feed line) others (length line + 1) size) (IsUtf8-take whole (length line + 1) text boundary)),
-  subst IsUtf8 (drop_at (with_line_feed line) others (length line + 1) size) (IsUtf8-drop whole (length line + 1) text boundary),
+-- A text that is cut at a byte of ASCII.
+pub cut_text : (a : List ℕ) (byte : ℕ) (b : List ℕ) → byte < 128 → IsUtf8 ((a ++ byte ∷ []) ++ b) → IsUtf8 a × IsUtf8 b
+cut_text a byte b small text = (
+  (IsUtf8-append_ascii a (byte ∷ []) ascii).0
+      (subst IsUtf8 (take_at (a ++ byte ∷ []) b (length a + 1) size) (IsUtf8-take whole (length a + 1) text boundary)),
+  subst IsUtf8 (drop_at (a ++ byte ∷ []) b (length a + 1) size) (IsUtf8-drop whole (length a + 1) text boundary),
 )
   where
     whole : List ℕ
-    whole = with_line_feed line ++ others
+    whole = (a ++ byte ∷ []) ++ b
 
-    size : length (with_line_feed line) ≡ length line + 1
-    size = length-append line (line_feed ∷ [])
+    size : length (a ++ byte ∷ []) ≡ length a + 1
+    size = length-append a (byte ∷ [])
 
-    feed : IsAscii (line_feed ∷ [])
-    feed zero = omega arith
-    feed (suc i) = omega arith
+    ascii : IsAscii (byte ∷ [])
+    ascii zero = omega (arith, small)
+    ascii (suc i) = omega arith
 
-    boundary : IsCharBoundary whole (length line + 1)
+    boundary : IsCharBoundary whole (length a + 1)
     boundary =
-        let is : get_or whole (length line) 0 ≡ line_feed =
-        get_or_append_left (with_line_feed line) others 0 (length line) (omega (arith, size))
-        ∙ get_or-append_seam line line_feed [] 0 in
-        let all = length-append (with_line_feed line) others in
-        IsCharBoundary-after_ascii whole (length line) text (omega (arith, size, all)) (omega (arith, is))
+        let is : get_or whole (length a) 0 ≡ byte =
+        get_or_append_left (a ++ byte ∷ []) b 0 (length a) (omega (arith, size))
+        ∙ get_or-append_seam a byte [] 0 in
+        let all = length-append (a ++ byte ∷ []) b in
+        IsCharBoundary-after_ascii whole (length a) text (omega (arith, size, all)) (omega (arith, is, small))
 
-utf8_lines : (lines after : List (List ℕ)) → IsUtf8 (flat_map with_line_feed lines) → AreUtf8 after → AreUtf8 (lines ++ after)
-utf8_lines [] after text all = all
-utf8_lines (line ∷ lines) after text all =
-    let parts = line_text line (flat_map with_line_feed lines) text in
-    (is_utf8-from_IsUtf8 line parts.0, utf8_lines lines after parts.1 all)
+utf8_lines : (lines : List (List ℕ)) → IsUtf8 (flat_map with_line_feed lines) → AreUtf8 lines
+utf8_lines [] text = tt
+utf8_lines (line ∷ lines) text =
+    let parts = cut_text line line_feed (flat_map with_line_feed lines) (omega arith) text in
+    (is_utf8-from_IsUtf8 line parts.0, utf8_lines lines parts.1)
+
+utf8_more : (lines after : List (List ℕ)) → AreUtf8 lines → AreUtf8 after → AreUtf8 (lines ++ after)
+utf8_more [] after text all = all
+utf8_more (line ∷ lines) after text all = (text.0, utf8_more lines after text.1 all)
+
+-- Each line of a text is UTF-8.
+pub text_lines : (bytes : List ℕ) → rest bytes ≡ [] → is_utf8 bytes ≡ true → AreUtf8 (ended bytes)
+text_lines bytes complete text =
+    utf8_lines (ended bytes)
+    (subst IsUtf8 ((are_lines bytes).whole ∙ ap (λ (l : List ℕ). flat_map with_line_feed (ended bytes) ++ l) complete
+    ∙ append-nil (flat_map with_line_feed (ended bytes))) (IsUtf8-from_is_utf8 bytes text))
 
 -- Lines that are UTF-8 have no exact bytes.
 pub no_exact_items : (position : ℕ) (lines : List (List ℕ)) → AreUtf8 lines → exact_items position lines ≡ []
@@ -94,9 +105,7 @@ module _ (logs : List Log) (number next after : ℕ) (bytes : List ℕ) (lines :
   pub text_stretch : is_utf8 bytes ≡ true → AreUtf8 (texts_from logs number after) → AreUtf8 (texts_from logs number next)
   text_stretch text all =
       subst AreUtf8 (sym lines.split)
-      (utf8_lines (ended bytes) (texts_from logs number after)
-      (subst IsUtf8 ((are_lines bytes).whole ∙ ap (λ (l : List ℕ). flat_map with_line_feed (ended bytes) ++ l) lines.complete
-      ∙ append-nil (flat_map with_line_feed (ended bytes))) (IsUtf8-from_is_utf8 bytes text)) all)
+      (utf8_more (ended bytes) (texts_from logs number after) (text_lines bytes lines.complete text) all)
 
   -- Fewer lines are left after a stretch.
   pub fewer_left : (length bytes == 0) ≡ false → length (texts_from logs number after) < length (texts_from logs number next)

@@ -8,12 +8,11 @@ use Rattle.json.specs.Print.{escape}
 use Rattle.json.specs.Run.{is_plain}
 use Rattle.redo_line.proofs.LineLemmas.{are_lines}
 use Rattle.redo_line.specs.Lines.{HasNoLineFeed, ended, line_feed, rest, with_line_feed}
-use Rattle.redo_json.specs.Private.Lines.{before_line, lines_left, lines_text, plain_lines_text}
-use Rattle.redo_json.specs.Private.LogLines.{ArePlainLines, AreUtf8}
+use Rattle.redo_json.specs.Private.Lines.{before_line, lines_left, lines_text}
+use Rattle.redo_json.specs.Private.LogLines.{ArePlainLines}
 use Rattle.redo_json.specs.Private.Writing.{IsAppended, is_plain_or_feed}
 use Rattle.redo_json.specs.Text.{text_of}
-use Rattle.redo_json.proofs.EscapeLemmas.{escape_plain}
-use Rattle.redo_json.proofs.PartLemmas.{first_text, text_is, text_step}
+use Rattle.redo_json.proofs.PartLemmas.{first_text, text_step}
 
 -- ---- the lines that are left
 
@@ -41,10 +40,6 @@ stretch_step is_first (line ∷ lines) more some =
     ∙ ap (λ (l : List ℕ). before_line is_first ++ (escape (text_of line) ++ l)) (other_lines lines more)
     ∙ nested (before_line is_first) (escape (text_of line)) (lines_text false lines) (lines_left false more)
 
-pub utf8_parts : (lines more : List (List ℕ)) → AreUtf8 (lines ++ more) → AreUtf8 lines × AreUtf8 more
-utf8_parts [] more all = (tt, all)
-utf8_parts (line ∷ lines) more all = let parts = utf8_parts lines more all.1 in ((all.0, parts.0), parts.1)
-
 -- ---- lines without escapes
 
 plain_line : (line : List ℕ) → HasNoLineFeed line → list_all is_plain_or_feed line ≡ true → list_all is_plain line ≡ true
@@ -69,13 +64,6 @@ plain_of (line ∷ lines) last free all =
       plain_of lines last free.1 (and_parts (is_plain_or_feed line_feed) (list_all is_plain_or_feed others) both.1).1,
     )
 
-pub same_text : (is_first : Bool) (lines : List (List ℕ)) → AreUtf8 lines → ArePlainLines lines
-    → plain_lines_text is_first lines ≡ lines_text is_first lines
-same_text is_first [] text plain = refl
-same_text is_first (line ∷ lines) text plain =
-    ap₂ (λ (a b : List ℕ). before_line is_first ++ (a ++ b)) (sym (ap escape (text_is line text.0) ∙ escape_plain line plain.0))
-    (same_text false lines text.1 plain.1)
-
 -- The lines of a stretch without escapes.
 pub plain_stretch : (bytes : List ℕ) → list_all is_plain_or_feed bytes ≡ true → ArePlainLines (ended bytes)
 plain_stretch bytes plain =
@@ -84,14 +72,14 @@ plain_stretch bytes plain =
 
 -- A line was joined to others.
 pub joined_line : (is_first : Bool) (before middle after start line : List ℕ) (lines others : List (List ℕ)) → lines ≡ line ∷ others
-    → start ≡ before_line is_first → IsAppended before middle start → IsAppended middle after line
-    → after ++ plain_lines_text false others ≡ before ++ plain_lines_text is_first lines
+    → start ≡ before_line is_first → IsAppended before middle start → IsAppended middle after (escape (text_of line))
+    → after ++ lines_text false others ≡ before ++ lines_text is_first lines
 joined_line is_first before middle after start line lines others is starts first second =
-    ap (λ (l : List ℕ). l ++ plain_lines_text false others)
-    (second.is ∙ ap (λ (l : List ℕ). l ++ line) (first.is ∙ ap (λ (l : List ℕ). before ++ l) starts))
-    ∙ append_assoc (before ++ before_line is_first) line (plain_lines_text false others)
-    ∙ append_assoc before (before_line is_first) (line ++ plain_lines_text false others)
-    ∙ ap (λ (l : List (List ℕ)). before ++ plain_lines_text is_first l) (sym is)
+    ap (λ (l : List ℕ). l ++ lines_text false others)
+    (second.is ∙ ap (λ (l : List ℕ). l ++ escape (text_of line)) (first.is ∙ ap (λ (l : List ℕ). before ++ l) starts))
+    ∙ append_assoc (before ++ before_line is_first) (escape (text_of line)) (lines_text false others)
+    ∙ append_assoc before (before_line is_first) (escape (text_of line) ++ lines_text false others)
+    ∙ ap (λ (l : List (List ℕ)). before ++ lines_text is_first l) (sym is)
 
 -- Bytes were joined in an empty buffer.
 pub stretch_joined : {E : Type 0} (done : Result (Unit {0}) E) (before after text : List ℕ) → is_ok done ≡ true → before ≡ []

@@ -1,24 +1,28 @@
 //! The member of an object with the diagnostics of a log.
 ghost use Rattle.std.specs.Prelude.{◌≡◌, ◌∷◌, ◌++◌, ℕ, List, [], None, Some, true, IfOk, OnOk, codes, option_copied, option_map};
+ghost use Rattle.std.specs.List.{list_all};
 ghost use Rattle.json.specs.Json.{string};
 ghost use Rattle.json.specs.Print.{print};
+ghost use Rattle.json.specs.Run.{is_plain};
 ghost use Rattle.json.specs.Tree.{json_tokens};
 ghost use Rattle.redo_device.specs.Sink.{Writes};
 ghost use Rattle.redo_diagnostics.specs.Counts.{AreCounts, stored, times_of};
-ghost use Rattle.redo_diagnostics.specs.Diagnostic.{diagnostic_of, with_key};
+ghost use Rattle.redo_diagnostics.specs.Diagnostic.{HasNoTemporary, diagnostic_of, with_key};
 ghost use Rattle.redo_outline.specs.Facts.{entries_at, texts_of};
 ghost use Rattle.redo_view.specs.Form.{FormWrites};
 ghost use Rattle.redo_json.specs.Diagnostics.{diagnostics_field, diagnostics_of, first_flag, flagged, other_flags, severity_name};
 ghost use Rattle.redo_json.specs.Fields.{boolean_value, field, number_value, optional_bytes_fields};
 ghost use Rattle.redo_json.specs.Private.Diagnosing.{Adds, IsOfLine, IsVerbatimDiagnostic};
-ghost use Rattle.redo_json.specs.Private.LogLines.{AreSimple, IsSimple};
+ghost use Rattle.redo_json.specs.Private.LogLines.{AreOfKind, IsOfKind, IsSimple};
 ghost use Rattle.redo_json.specs.Private.Parts.{comma_field, comma_fields, diagnostic_text, diagnostics_text, place_text};
 
 use crate::field::write_bytes;
 use crate::joined::{join_diagnostic, object_end, object_start};
+use crate::kind::Kind;
 use crate::log_lines::LogLines;
 use crate::part::{Part, write_parts};
-use crate::plain::is_verbatim;
+use crate::plain::{is_verbatim, plain_len};
+use memchr::{memchr, memmem};
 use redo_device::{Broken, Sink, push_all};
 use redo_diagnostics::{
     Diagnostic, Key, KeyCounts, Place, Severity, read_diagnostic, read_simple_diagnostic,
@@ -31,24 +35,23 @@ use std::alloc::{AllocError, Global};
 const FULL_BYTES: usize = 32_768;
 
 /// Writes a member with the diagnostics of a log. If there is a baseline, `flags` says of each diagnostic, in order, whether it is new.
-/// `are_simple` says that all lines are known to be written as they are, and to have no name of a temporary file. `buffer` is overwritten, and
-/// what `counts` had is lost.
+/// The lines are of this kind. `buffer` is overwritten, and what `counts` had is lost.
 pub fn write_diagnostics<'t, W: Sink>(
     alloc: Global,
     flags: Option<&[bool]>,
-    are_simple: bool,
+    kind: Kind,
     table: &'t LogTable,
     number: u32,
     buffer: &mut Vec<u8>,
     counts: &mut KeyCounts<'t>,
     out: &mut W,
 ) -> Result<(), FormFault>
-    requires { are_simple ≡ true → AreSimple (texts_of (entries_at number table.now)) }
+    requires { AreOfKind kind (texts_of (entries_at number table.now)) }
     ensures { FormWrites (W.written out.old) (W.written out.new)
         (comma_field (diagnostics_field (option_copied flags.entry) (texts_of (entries_at number table.now)))) result }
 {
     push_all(out, b",\"diagnostics\":[")?;
-    write_each(alloc, flags, are_simple, table, number, buffer, counts, out)?;
+    write_each(alloc, flags, kind, table, number, buffer, counts, out)?;
     push_all(out, b"]")?;
     Ok(())
 }
@@ -57,14 +60,14 @@ pub fn write_diagnostics<'t, W: Sink>(
 fn write_each<'t, W: Sink>(
     alloc: Global,
     flags: Option<&[bool]>,
-    are_simple: bool,
+    kind: Kind,
     table: &'t LogTable,
     number: u32,
     buffer: &mut Vec<u8>,
     counts: &mut KeyCounts<'t>,
     out: &mut W,
 ) -> Result<(), FormFault>
-    requires { are_simple ≡ true → AreSimple (texts_of (entries_at number table.now)) }
+    requires { AreOfKind kind (texts_of (entries_at number table.now)) }
     ensures { FormWrites (W.written out.old) (W.written out.new)
         (diagnostics_text true (flagged (option_copied flags.entry) (diagnostics_of (texts_of (entries_at number table.now))))) result }
 {
@@ -75,13 +78,14 @@ fn write_each<'t, W: Sink>(
     counts.clear();
     buffer.clear();
     'each: while let Some((position, line)) = lines.next_candidate() {
-        if let Some((diagnostic, key)) = read_line(alloc, are_simple, line, &mut plain)? {
+        let is_known = is_simple(kind, line);
+        if let Some((diagnostic, key)) = read_line(alloc, is_known, line, &mut plain)? {
             let (new, others) = next_flag(left);
             write_diagnostic(
                 alloc,
                 is_first,
                 position,
-                are_simple,
+                is_known,
                 &diagnostic,
                 key,
                 new,
@@ -94,6 +98,37 @@ fn write_each<'t, W: Sink>(
         }
     }
     flush(buffer, out)
+}
+
+// Returns true only if a line of a log of this kind is simple. It isn't worth knowing for a line without a colon, which is no diagnostic.
+fn is_simple(kind: Kind, line: &[u8]) -> bool
+    requires { IsOfKind kind line.now }
+    ensures { result ≡ true → IsSimple line.now }
+{
+    match kind {
+        Kind::Simple => true,
+        Kind::Text => {
+            if memchr(b':', line).is_none() {
+                return false;
+            }
+            has_no_escape(line) && has_no_temporary(line)
+        }
+        Kind::Any => false,
+    }
+}
+
+// Returns whether a string of JSON has the bytes of a line as they are.
+fn has_no_escape(line: &[u8]) -> bool
+    ensures { result ≡ true → list_all is_plain line.now ≡ true }
+{
+    plain_len(line) == line.len()
+}
+
+// Returns whether no name of a temporary file can be in a line.
+fn has_no_temporary(line: &[u8]) -> bool
+    ensures { result ≡ true → HasNoTemporary line.now }
+{
+    memmem::find(line, b"/cc").is_none()
 }
 
 // Writes what is in a buffer.
@@ -116,8 +151,8 @@ fn make_room<W: Sink>(buffer: &mut Vec<u8>, out: &mut W) -> Result<(), FormFault
     flush(buffer, out)
 }
 
-// Returns the diagnostic of a line, if it is one, and its key. `is_simple` says that the line is known to be written as it is, and to have no
-// name of a temporary file. Otherwise the key is a copy.
+// Returns the diagnostic of a line, if it is one, and its key. `is_simple` says that the line is known to be simple. Otherwise the key is a
+// copy.
 fn read_line<'t: 'a, 'a>(
     alloc: Global,
     is_simple: bool,

@@ -1,12 +1,14 @@
 //! Escapes of a string of JSON.
-ghost use Rattle.std.specs.Prelude.{◌≡◌, ◌<◌, IfNone, IfSome};
+ghost use Rattle.std.specs.Prelude.{◌≡◌, ◌<◌, IfNone, IfSome, OnOk};
 ghost use Rattle.std.specs.Char.{digit_char};
 ghost use Rattle.json.specs.Print.{escape, escape_byte, escape_letter};
 ghost use Rattle.redo_device.specs.Sink.{Writes};
-ghost use Rattle.redo_json.specs.Private.Writing.{HasEscape};
+ghost use Rattle.redo_json.specs.Private.Writing.{HasEscape, IsAppended};
 
+use crate::joined::join_bytes;
 use crate::plain::plain_len;
 use redo_device::{Broken, Sink, push_all};
+use std::alloc::AllocError;
 
 /// Writes what a string of JSON has for this text. Stretches without escapes are written at once.
 pub fn write_escaped<W: Sink>(text: &[u8], out: &mut W) -> Result<(), Broken>
@@ -19,6 +21,19 @@ pub fn write_escaped<W: Sink>(text: &[u8], out: &mut W) -> Result<(), Broken>
         left = behind;
     }
     push_all(out, left)
+}
+
+/// Appends what a string of JSON has for this text. After an error, a part of it may have been appended.
+pub fn join_escaped(text: &[u8], joined: &mut Vec<u8>) -> Result<(), AllocError>
+    ensures { OnOk result (IsAppended joined.old.items joined.new.items (escape text.now)) }
+{
+    let mut left = text;
+    'escapes: while let Some((plain, byte, behind)) = first_escape(left) {
+        join_bytes(plain, joined)?;
+        join_escape(byte, joined)?;
+        left = behind;
+    }
+    join_bytes(left, joined)
 }
 
 // Returns the bytes before the first one that has an escape, that byte, and the bytes after it.
@@ -47,6 +62,20 @@ fn write_escape<W: Sink>(byte: u8, out: &mut W) -> Result<(), Broken>
         );
     }
     push_all(out, &[byte])
+}
+
+fn join_escape(byte: u8, joined: &mut Vec<u8>) -> Result<(), AllocError>
+    ensures { OnOk result (IsAppended joined.old.items joined.new.items (escape_byte byte)) }
+{
+    let letter = letter(byte);
+    if letter > 0 {
+        return join_bytes(&[b'\\', letter], joined);
+    }
+    if byte < 32 {
+        let (high, low) = (hex(byte / 16), hex(byte % 16));
+        return join_bytes(&[b'\\', b'u', b'0', b'0', high, low], joined);
+    }
+    join_bytes(&[byte], joined)
 }
 
 // Returns the letter of a byte's short escape, or 0 if it has none.

@@ -31,6 +31,7 @@ mod every;
 mod exact;
 mod field;
 mod joined;
+mod kind;
 mod laws;
 mod lines;
 mod list;

@@ -1,22 +1,25 @@
 //! The member of an object with the text lines of a log. The lines are read from the table once for each part.
 ghost use Rattle.std.specs.Prelude.{◌≡◌, true, [], IfNone, IfSome, OnOk};
+ghost use Rattle.std.specs.List.{list_all};
 ghost use Rattle.std.specs.Str.{is_utf8};
 ghost use Rattle.json.specs.Print.{escape};
+ghost use Rattle.json.specs.Run.{is_plain};
 ghost use Rattle.redo_device.specs.Sink.{Writes};
 ghost use Rattle.redo_line.specs.Lines.{ended};
 ghost use Rattle.redo_outline.specs.Facts.{entries_at, texts_of};
 ghost use Rattle.redo_json.specs.Fields.{exact_items, exact_list, exact_name, list_fields};
-ghost use Rattle.redo_json.specs.Private.LogLines.{ArePlainLines, AreUtf8, AreVerbatim, IsNextExactLine};
+ghost use Rattle.redo_json.specs.Private.LogLines.{AreOfKind, ArePlainLines, AreUtf8, IsNextExactLine};
 ghost use Rattle.redo_json.specs.Private.Parts.{comma_fields, items_text};
-ghost use Rattle.redo_json.specs.Private.Lines.{BeginsWithLine, before_line, lines_left, lines_text, plain_lines_text};
+ghost use Rattle.redo_json.specs.Private.Lines.{BeginsWithLine, before_line, lines_left, lines_text};
 ghost use Rattle.redo_json.specs.Private.Writing.{IsAppended};
 ghost use Rattle.redo_json.specs.Text.{text_of};
 
-use crate::escape::write_escaped;
+use crate::escape::{join_escaped, write_escaped};
 use crate::field::is_text;
 use crate::joined::join_bytes;
+use crate::kind::Kind;
 use crate::list::write_exact_item;
-use crate::log_lines::{LogLines, are_text, next_lines};
+use crate::log_lines::{LogLines, next_lines};
 use crate::part::{Part, write_parts};
 use crate::plain::are_plain_lines;
 use crate::string::write_text;
@@ -25,56 +28,41 @@ use redo_device::{Broken, Sink, push_all};
 use redo_logs::LogTable;
 use std::alloc::AllocError;
 
-/// Writes a member with the texts of a log's lines, and another one with the exact bytes of lines whose texts don't have them.
-/// `are_verbatim` says that all lines are known to be written as they are. `buffer` is overwritten.
+/// Writes a member with the texts of a log's lines, which are of this kind, and another one with the exact bytes of lines whose texts don't
+/// have them. `buffer` is overwritten.
 pub fn write_lines<W: Sink>(
     name: &[u8],
-    are_verbatim: bool,
+    kind: Kind,
     table: &LogTable,
     number: u32,
     buffer: &mut Vec<u8>,
     out: &mut W,
 ) -> Result<(), Broken>
-    requires { are_verbatim ≡ true → AreVerbatim (texts_of (entries_at number table.now)) }
+    requires { AreOfKind kind (texts_of (entries_at number table.now)) }
     ensures { Writes (W.written out.old) (W.written out.new)
         (comma_fields (list_fields name.now (texts_of (entries_at number table.now)))) result }
 {
-    let are_text = are_known_text(are_verbatim, table, number);
     write_parts(
         &[Part::Json(b",\""), Part::Escaped(name), Part::Json(b"\":[")],
         out,
     )?;
-    write_texts(are_text, are_verbatim, table, number, buffer, out)?;
+    write_texts(kind, table, number, buffer, out)?;
     push_all(out, b"]")?;
-    if are_text {
+    if kind.is_text() {
         return Ok(());
     }
     write_exact_lines(name, table, number, out)
 }
 
-// Returns true only if all lines of a log are UTF-8. `are_verbatim` says that they are known to be written as they are.
-fn are_known_text(are_verbatim: bool, table: &LogTable, number: u32) -> bool
-    requires { are_verbatim ≡ true → AreVerbatim (texts_of (entries_at number table.now)) }
-    ensures { result ≡ true → AreUtf8 (texts_of (entries_at number table.now)) }
-{
-    if are_verbatim {
-        return true;
-    }
-    are_text(table, number)
-}
-
-// Writes the strings of a log's lines, with a comma between two of them. `are_text` says that all lines are known to be UTF-8, and
-// `are_verbatim` that they are known to be written as they are. `buffer` is overwritten.
+// Writes the strings of a log's lines, which are of this kind, with a comma between two of them. `buffer` is overwritten.
 fn write_texts<W: Sink>(
-    are_text: bool,
-    are_verbatim: bool,
+    kind: Kind,
     table: &LogTable,
     number: u32,
     buffer: &mut Vec<u8>,
     out: &mut W,
 ) -> Result<(), Broken>
-    requires text { are_text ≡ true → AreUtf8 (texts_of (entries_at number table.now)) }
-    requires verbatim { are_verbatim ≡ true → AreVerbatim (texts_of (entries_at number table.now)) }
+    requires { AreOfKind kind (texts_of (entries_at number table.now)) }
     ensures { Writes (W.written out.old) (W.written out.new) (items_text true (texts_of (entries_at number table.now))) result }
 {
     let logs = table.numbered();
@@ -85,7 +73,7 @@ fn write_texts<W: Sink>(
         if lines.is_empty() {
             return push_all(out, last_quote(is_first));
         }
-        write_stretch(are_text, are_verbatim, is_first, lines, buffer, out)?;
+        write_stretch(kind, is_first, lines, buffer, out)?;
         is_first = false;
         next = after;
     }
@@ -98,35 +86,34 @@ fn last_quote(is_first: bool) -> &'static [u8]
     if is_first { b"" } else { b"\"" }
 }
 
-// Writes the strings of lines that are stored together, from the quote that ends the string before them, up to the last line. `is_first`
-// says that there is no string before them. If no byte has an escape, the strings are joined in memory, and are one write.
+// Writes the strings of lines that are stored together, from the quote that ends the string before them, up to the last line. They are of this
+// kind. `is_first` says that there is no string before them. If they are UTF-8, the strings are joined in memory, and are one write.
 fn write_stretch<W: Sink>(
-    are_text: bool,
-    are_verbatim: bool,
+    kind: Kind,
     is_first: bool,
     lines: &[u8],
     buffer: &mut Vec<u8>,
     out: &mut W,
 ) -> Result<(), Broken>
-    requires text { are_text ≡ true → AreUtf8 (ended lines.now) }
-    requires verbatim { are_verbatim ≡ true → AreVerbatim (ended lines.now) }
+    requires { AreOfKind kind (ended lines.now) }
     ensures { Writes (W.written out.old) (W.written out.new) (lines_text is_first (ended lines.now)) result }
 {
-    if are_text && lines.len() <= JOINED_BYTES && are_plain(are_verbatim, lines) {
+    let are_text = kind.is_text();
+    if are_text && lines.len() <= JOINED_BYTES {
         buffer.clear();
-        if join_lines(is_first, lines, buffer).is_ok() {
+        if join_lines(is_first, are_plain(kind, lines), lines, buffer).is_ok() {
             return push_all(out, buffer);
         }
     }
     write_each_line(are_text, is_first, lines, out)
 }
 
-// Returns true only if the bytes of these lines have no escape. `are_verbatim` says that it is known.
-fn are_plain(are_verbatim: bool, lines: &[u8]) -> bool
-    requires { are_verbatim ≡ true → AreVerbatim (ended lines.now) }
+// Returns true only if no byte of these lines, which are of this kind, has an escape.
+fn are_plain(kind: Kind, lines: &[u8]) -> bool
+    requires { AreOfKind kind (ended lines.now) }
     ensures { result ≡ true → ArePlainLines (ended lines.now) }
 {
-    if are_verbatim {
+    if kind.is_plain() {
         return true;
     }
     are_plain_lines(lines)
@@ -135,19 +122,40 @@ fn are_plain(are_verbatim: bool, lines: &[u8]) -> bool
 // The most bytes of lines that are joined.
 const JOINED_BYTES: usize = 65_536;
 
-// Appends the strings of lines whose bytes have no escape, as `write_stretch` writes them.
-fn join_lines(is_first: bool, lines: &[u8], joined: &mut Vec<u8>) -> Result<(), AllocError>
-    ensures { OnOk result (IsAppended joined.old.items joined.new.items (plain_lines_text is_first (ended lines.now))) }
+// Appends the strings of lines that are UTF-8, as `write_stretch` writes them. `are_plain` says that no byte is known to have an escape.
+fn join_lines(
+    is_first: bool,
+    are_plain: bool,
+    lines: &[u8],
+    joined: &mut Vec<u8>,
+) -> Result<(), AllocError>
+    requires text { AreUtf8 (ended lines.now) }
+    requires plain { are_plain ≡ true → ArePlainLines (ended lines.now) }
+    ensures { OnOk result (IsAppended joined.old.items joined.new.items (lines_text is_first (ended lines.now))) }
 {
     let mut is_next_first = is_first;
     let mut left = lines;
     'lines: while let Some((line, others)) = split_line(left) {
         join_bytes(before_line(is_next_first), joined)?;
-        join_bytes(line, joined)?;
+        join_line(are_plain, line, joined)?;
         is_next_first = false;
         left = others;
     }
     Ok(())
+}
+
+// Appends what a string with the text of a line has between its quotes. The line is UTF-8. `has_no_escape` says that its bytes are known to
+// have no escape.
+#[inline(always)]
+fn join_line(has_no_escape: bool, line: &[u8], joined: &mut Vec<u8>) -> Result<(), AllocError>
+    requires text { is_utf8 line.now ≡ true }
+    requires plain { has_no_escape ≡ true → list_all is_plain line.now ≡ true }
+    ensures { OnOk result (IsAppended joined.old.items joined.new.items (escape (text_of line.now))) }
+{
+    if has_no_escape {
+        return join_bytes(line, joined);
+    }
+    join_escaped(line, joined)
 }
 
 // Writes the strings of lines one by one, as `write_stretch` does.

@@ -3,10 +3,10 @@ ghost use Rattle.std.specs.Prelude.{◌≡◌, ℕ, true, ◌+◌, ◌≤◌, �
 ghost use Rattle.redo_line.specs.Lines.{ended, rest};
 ghost use Rattle.redo_outline.specs.Facts.{entries_at, texts_of};
 ghost use Rattle.redo_json.specs.Diagnostics.{placed_from};
-ghost use Rattle.redo_json.specs.Private.LogLines.{AreNextCandidates, AreNextLines, AreSimple, AreUtf8, IsNextCandidate, IsRefilled};
+ghost use Rattle.redo_json.specs.Private.LogLines.{AreNextCandidates, AreNextLines, ArePlainLines, AreSimple, AreUtf8, IsNextCandidate, IsRefilled};
 
 use crate::field::is_text;
-use crate::plain::are_verbatim_lines;
+use crate::plain::{are_plain_lines, are_verbatim_lines};
 use memchr::memchr;
 use redo_diagnostics::{may_have_diagnostic, may_have_temporary};
 use redo_logs::{LogTable, Numbered};
@@ -113,7 +113,7 @@ pub fn are_text(table: &LogTable, number: u32) -> bool
     }
 }
 
-/// Returns true only if all lines of a log are ASCII that a string of JSON has as it is, and none has a name of a temporary file. Lines
+/// Returns true only if all lines of a log are simple: a string of JSON has them as they are, and none has a name of a temporary file. Lines
 /// that are stored together are tested at once.
 pub fn are_simple(table: &LogTable, number: u32) -> bool
     ensures { result ≡ true → AreSimple (texts_of (entries_at number table.now)) }
@@ -125,7 +125,7 @@ pub fn are_simple(table: &LogTable, number: u32) -> bool
         if lines.is_empty() {
             return true;
         }
-        if !are_verbatim_lines(lines) {
+        if !is_plain_text(lines) {
             return false;
         }
         if may_have_temporary(lines) {
@@ -133,6 +133,17 @@ pub fn are_simple(table: &LogTable, number: u32) -> bool
         }
         next = after;
     }
+}
+
+// Returns true only if these lines are UTF-8 that a string of JSON has as it is. Most lines are ASCII, which takes one test.
+fn is_plain_text(lines: &[u8]) -> bool
+    requires complete { rest lines.now ≡ [] }
+    ensures { result ≡ true → AreUtf8 (ended lines.now) × ArePlainLines (ended lines.now) }
+{
+    if are_verbatim_lines(lines) {
+        return true;
+    }
+    is_text(lines) && are_plain_lines(lines)
 }
 
 // Returns the stretch, or the next one if it is used up, and the number of the entry after it.

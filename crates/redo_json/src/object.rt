@@ -6,16 +6,16 @@ ghost use Rattle.redo_outline.specs.Facts.{entries_at, texts_of};
 ghost use Rattle.redo_view.specs.Form.{FormWrites};
 ghost use Rattle.redo_json.specs.Build.{object_text};
 ghost use Rattle.redo_json.specs.Object.{new_flags, number_fields};
-ghost use Rattle.redo_json.specs.Private.LogLines.{AreVerbatim};
+ghost use Rattle.redo_json.specs.Private.LogLines.{AreOfKind};
 ghost use Rattle.redo_json.specs.Private.Parts.{comma_fields, front_text};
 ghost use Rattle.redo_json.specs.Private.Values.{values_of};
 
 use crate::changes::write_baseline;
 use crate::diagnostics::write_diagnostics;
 use crate::field::{write_exact, write_number, write_optional_bytes, write_signed};
+use crate::kind::Kind;
 use crate::lines::write_lines;
 use crate::list::write_list;
-use crate::log_lines::are_simple;
 use crate::part::{Part, write_parts};
 use redo_compare::TargetChanges;
 use redo_device::{Broken, Sink, push_all};
@@ -65,12 +65,12 @@ pub fn write_object<'t, W: Sink>(
 ) -> Result<(), FormFault>
     ensures { FormWrites (W.written out.old) (W.written out.new) (with_line_feed (object_text (values_of log.now))) result }
 {
-    let are_simple = are_simple(log.table, log.number);
-    write_front(log, are_simple, buffer, out)?;
+    let kind = Kind::of(log.table, log.number);
+    write_front(log, kind, buffer, out)?;
     write_diagnostics(
         alloc,
         new_flags(log.changes),
-        are_simple,
+        kind,
         log.table,
         log.number,
         buffer,
@@ -92,14 +92,14 @@ fn new_flags(changes: Option<&TargetChanges>) -> Option<&[bool]>
     }
 }
 
-// Writes an object up to the text lines of the log. `are_verbatim` says that all lines are known to be written as they are.
+// Writes an object up to the text lines of the log, which are of this kind. `buffer` is overwritten.
 fn write_front<W: Sink>(
     log: &LogObject<'_, '_>,
-    are_verbatim: bool,
+    kind: Kind,
     buffer: &mut Vec<u8>,
     out: &mut W,
 ) -> Result<(), Broken>
-    requires { are_verbatim ≡ true → AreVerbatim (texts_of (entries_at log.now.number log.now.table.now)) }
+    requires { AreOfKind kind (texts_of (entries_at log.now.number log.now.table.now)) }
     ensures { Writes (W.written out.old) (W.written out.new) (front_text (values_of log.now)) result }
 {
     write_parts(&[Part::Json(b"{\"target\":"), Part::Text(log.target)], out)?;
@@ -109,7 +109,7 @@ fn write_front<W: Sink>(
     write_optional_bytes(b"directory", b",\"directory\":\"", log.directory, out)?;
     write_list(b"commands", log.commands, out)?;
     write_list(b"needs", log.needs, out)?;
-    write_lines(b"lines", are_verbatim, log.table, log.number, buffer, out)
+    write_lines(b"lines", kind, log.table, log.number, buffer, out)
 }
 
 fn write_numbers<W: Sink>(log: &LogObject<'_, '_>, out: &mut W) -> Result<(), Broken>

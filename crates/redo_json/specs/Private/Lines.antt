@@ -15,11 +15,6 @@ abbrev pub lines_text : Bool → List (List ℕ) → List ℕ
 lines_text is_first [] = []
 lines_text is_first (line ∷ lines) = before_line is_first ++ (escape (text_of line) ++ lines_text false lines)
 
--- The same of lines whose strings have their bytes as they are.
-abbrev pub plain_lines_text : Bool → List (List ℕ) → List ℕ
-plain_lines_text is_first [] = []
-plain_lines_text is_first (line ∷ lines) = before_line is_first ++ (line ++ plain_lines_text false lines)
-
 -- The strings of lines, with the quote that ends the string before them.
 abbrev pub lines_left : Bool → List (List ℕ) → List ℕ
 lines_left true lines = items_text true lines

@@ -8,9 +8,10 @@ use Rattle.redo_line.specs.Lines.{ended, rest}
 use Rattle.redo_logs.specs.Logs.{Log}
 use Rattle.redo_outline.specs.Facts.{entries_at, texts_of}
 use Rattle.redo_diagnostics.specs.Diagnostic.{HasNoTemporary}
+use Rattle.redo_json.specs.declared.kind.Kind.{Kind}
+use Rattle.redo_json.specs.declared.kind.Kind.TheVariants.{Any, Simple, Text}
 use Rattle.redo_json.specs.Diagnostics.{placed_from}
 use Rattle.redo_json.specs.Fields.{exact_items, field}
-use Rattle.redo_json.specs.Private.Writing.{is_verbatim_byte}
 use Rattle.redo_json.specs.Text.{base64_of}
 
 -- Lines that are left, and the number of lines before them.
@@ -45,24 +46,30 @@ AreUtf8 lines = AllByRecursion (λ line. is_utf8 line ≡ true) lines
 abbrev pub ArePlainLines : List (List ℕ) → Type 0
 ArePlainLines lines = AllByRecursion (λ line. list_all is_plain line ≡ true) lines
 
--- Each line is ASCII that is written as it is.
-abbrev pub AreVerbatim : List (List ℕ) → Type 0
-AreVerbatim lines = AllByRecursion (λ line. list_all is_verbatim_byte line ≡ true) lines
-
--- A line is ASCII that is written as it is, and has no name of a temporary file.
+-- A line is UTF-8 that a string of JSON has as it is, and has no name of a temporary file.
 pub record IsSimple (line : List ℕ) : Type 0 where
-  pub verbatim : list_all is_verbatim_byte line ≡ true
+  pub utf8 : is_utf8 line ≡ true
+  pub plain : list_all is_plain line ≡ true
   pub no_temporary : HasNoTemporary line
 
 abbrev pub AreSimple : List (List ℕ) → Type 0
 AreSimple lines = AllByRecursion IsSimple lines
+
+-- What is known of a line in a log of this kind.
+abbrev pub IsOfKind : Kind → List ℕ → Type 0
+IsOfKind Simple line = IsSimple line
+IsOfKind Text line = is_utf8 line ≡ true
+IsOfKind Any line = Unit {0}
+
+abbrev pub AreOfKind : Kind → List (List ℕ) → Type 0
+AreOfKind kind lines = AllByRecursion (IsOfKind kind) lines
 
 -- Some lines that are no diagnostics were skipped.
 pub record AreCandidates (before after : Remaining) : Type 0 where
   pub placed : placed_from before.done before.left ≡ placed_from after.done after.left
   pub fewer : length after.left ≤ length before.left
   pub later : before.done ≤ after.done
-  pub simple : AreSimple before.left → AreSimple after.left
+  pub of_kind : (kind : Kind) → AreOfKind kind before.left → AreOfKind kind after.left
 
 -- The lines of a log from entry `next` on, after `done` lines, were skipped up to these lines, which end before entry `after`. `before` is the
 -- number of lines before them.

@@ -1,17 +1,17 @@
-use Rattle.std.proofs.Common.{◌≡◌, ap, ℕ, List, true, [], ◌∷◌, ◌++◌, refl, sym, ◌∙◌, subst, arith, option_copied}
+use Rattle.std.proofs.Common.{ap, ℕ, List, true, [], ◌∷◌, ◌++◌, refl, sym, ◌∙◌, subst, arith, option_copied}
 use Rattle.std.proofs.lemmas.List.{length-append}
 use Rattle.std.proofs.lemmas.Result.{err_from_is_err_and}
 use Rattle.redo_diagnostics.specs.Counts.{stored, times_of}
 use Rattle.redo_outline.specs.Facts.{entries_at, texts_of}
 use Rattle.redo_diagnostics.specs.Diagnostic.{DiagnosticValue}
 use Rattle.redo_json.specs.Diagnostics.{diagnostics_of, flagged, numbered_from}
-use Rattle.redo_json.specs.Private.LogLines.{AreSimple}
+use Rattle.redo_json.specs.Private.LogLines.{AreOfKind}
 use Rattle.redo_json.specs.Private.Parts.{diagnostics_text}
 use Rattle.redo_json.proofs.CandidateLemmas.{at_candidates}
-use Rattle.redo_json.proofs.DiagnosingLemmas.{begins, finds, found_is, nth_is}
+use Rattle.redo_json.proofs.DiagnosingLemmas.{begins, finds, found_is, none_is, nth_is, skips}
 use Rattle.redo_json.proofs.FormLemmas.{ran_out}
 use Rattle.redo_json.proofs.PendingLemmas.{ends}
-use Rattle.redo_json.proofs.VerbatimLineLemmas.{verbatim_by_line}
+use Rattle.redo_json.proofs.SimpleLineLemmas.{verbatim_by_line}
 use Rattle.redo_json.proofs.WritingLemmas.{left_is}
 use Rattle.redo_json.proofs.diagnostics.write_each.Goals as goal
 
@@ -19,13 +19,16 @@ pub each-init : goal.each-init
 each-init g c = (
   begins _ (option_copied c.args.flags) (texts_of (entries_at c.args.number c.args.table.now)) _ _ _ c.new-lines.ensures.left
       c.new-lines.ensures.done c.clear.ensures c.clear-2.ensures.items,
-  λ is. subst AreSimple (sym c.new-lines.ensures.left) (c.requires is),
+  subst (AreOfKind c.args.kind) (sym c.new-lines.ensures.left) c.requires,
 )
 
-pub read_line-requires : goal.read_line-requires
-read_line-requires g c = λ is.
+pub is_simple-is_known-requires : goal.is_simple-is_known-requires
+is_simple-is_known-requires g c =
     let found = c.in-Some.ensures.some in
-    (subst AreSimple found.first (found.are.simple (c.each.invariant.1 is))).0
+    (subst (AreOfKind c.args.kind) found.first (found.are.of_kind c.args.kind c.each.invariant.1)).0
+
+pub read_line-requires : goal.read_line-requires
+read_line-requires g c = c.is_simple-is_known.ensures
 
 pub returns-in_err-diagnostic : goal.returns-in_err-diagnostic
 returns-in_err-diagnostic g c =
@@ -42,10 +45,8 @@ write_diagnostic-requires-clause-key g c =
 
 pub write_diagnostic-requires-clause-known : goal.write_diagnostic-requires-clause-known
 write_diagnostic-requires-clause-known g c = λ is.
-    let found = c.in-Some.ensures.some in
     verbatim_by_line c.in-Some.line.now c.in-Some-2.diagnostic
-    (found_is _ _ c.in-Some-2.key (sym c.in_ok-diagnostic.ensures ∙ c.in-Some-2.is)).0
-    (subst AreSimple found.first (found.are.simple (c.each.invariant.1 is))).0.verbatim
+    (found_is _ _ c.in-Some-2.key (sym c.in_ok-diagnostic.ensures ∙ c.in-Some-2.is)).0 (c.is_simple-is_known.ensures is)
 
 pub returns-in_err-write_diagnostic : goal.returns-in_err-write_diagnostic
 returns-in_err-write_diagnostic g c =
@@ -67,11 +68,20 @@ returns-in_err-write_diagnostic g c =
     c.in-Some-2.diagnostic c.in-Some.position (stored (times_of key so_far.keys)) _ _ is found.position_is nth
     c.next_flag-new.ensures.first c.next_flag-new.ensures.others)) so_far.wrote))
 
+pub each-preserved : goal.each-preserved
+each-preserved g c =
+    let found = c.in-Some.ensures.some in (
+      skips c.each.is_first (option_copied c.each.left) found.candidates c.next_candidate.new.self c.in-Some.line.now found.first found.done
+          _ _ _ _ _ (none_is _ (sym c.in_ok-diagnostic.ensures ∙ c.in_default-2.is))
+          (at_candidates _ _ _ _ _ _ found.candidates _ _ found.are c.each.invariant.0),
+      (subst (AreOfKind c.args.kind) found.first (found.are.of_kind c.args.kind c.each.invariant.1)).1,
+    )
+
 pub each-preserved-in-Some-2 : goal.each-preserved-in-Some-2
 each-preserved-in-Some-2 g c =
-    let verbatim : (c.args.are_simple ≡ true → AreSimple c.next_candidate.new.self.left) = λ is.
-    let found = c.in-Some.ensures.some in
-    (subst AreSimple found.first (found.are.simple (c.each.invariant.1 is))).1 in
+    let others : AreOfKind c.args.kind c.next_candidate.new.self.left =
+    (let found = c.in-Some.ensures.some in
+    (subst (AreOfKind c.args.kind) found.first (found.are.of_kind c.args.kind c.each.invariant.1)).1) in
     let is = (found_is _ _ c.in-Some-2.key (sym c.in_ok-diagnostic.ensures ∙ c.in-Some-2.is)).0 in
     let found = c.in-Some.ensures.some in
     let lines = found.candidates in
@@ -91,7 +101,7 @@ each-preserved-in-Some-2 g c =
             so_far.keys c.in-Some-2.diagnostic c.in-Some.position (stored (times_of key so_far.keys)) _ _ is found.position_is nth
             c.next_flag-new.ensures.first c.next_flag-new.ensures.others)) so_far.wrote);
       },
-      verbatim,
+      others,
     )
 
 pub returns : goal.returns

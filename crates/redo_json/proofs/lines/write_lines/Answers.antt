@@ -37,15 +37,15 @@ returns-in_err-push_all g c =
     (wrote_more _ _ _ _ _ _ (begin (g.W.Sink.written c.args.out.now) whole _ (list_parts name exact list)) c.in_ok-write_parts.ensures)
     c.in_ok-write_texts.ensures) c.in_err-push_all.ensures
 
-pub returns-then-are_text : goal.returns-then-are_text
-returns-then-are_text g c =
+pub returns-then-is_text : goal.returns-then-is_text
+returns-then-is_text g c =
     let name = c.args.name.now in
     let list = texts_of (entries_at c.args.number c.args.table.now) in
     let exact = comma_fields (exact_list (exact_name name) (exact_items 0 list)) in
     let whole = comma_fields (list_fields name list) in
     wrote_all _ _ whole
     (left_is _ _ whole exact [] (ap (λ (fields : List Field). comma_fields (exact_list (exact_name name) fields))
-    (no_exact_items 0 list (c.are_known_text-are_text.ensures c.if-are_text.true)))
+    (no_exact_items 0 list (c.is_text.ensures c.if-is_text.true list c.requires)))
     (wrote_more _ _ _ _ (93 ∷ []) exact
     (wrote_more _ _ _ _ (items_text true list) ((93 ∷ []) ++ exact)
     (wrote_more _ _ _ _ _ _ (begin (g.W.Sink.written c.args.out.now) whole _ (list_parts name exact list)) c.in_ok-write_parts.ensures)

@@ -2,12 +2,12 @@ use Rattle.std.proofs.Common.{true, sym, ap, ◌∙◌, subst}
 use Rattle.redo_line.specs.Lines.{ended}
 use Rattle.redo_outline.specs.Facts.{entries_at, texts_of}
 use Rattle.redo_json.specs.Private.Lines.{lines_left}
-use Rattle.redo_json.specs.Private.LogLines.{AreUtf8, AreVerbatim}
+use Rattle.redo_json.specs.Private.LogLines.{AreOfKind}
 use Rattle.redo_json.specs.Private.Parts.{items_text}
+use Rattle.redo_json.proofs.KindLemmas.{kind_parts}
 use Rattle.redo_json.proofs.LineLemmas.{fewer_left}
 use Rattle.redo_json.proofs.LogLineLemmas.{is_nothing, some_stretch}
-use Rattle.redo_json.proofs.StretchLemmas.{stretch_step, utf8_parts}
-use Rattle.redo_json.proofs.VerbatimLineLemmas.{verbatim_parts}
+use Rattle.redo_json.proofs.StretchLemmas.{stretch_step}
 use Rattle.redo_json.proofs.WritingLemmas.{failed_part, left_is, wrote_more, wrote_rest}
 use Rattle.redo_json.proofs.lines.write_texts.Goals as goal
 
@@ -20,15 +20,10 @@ returns-then-is_empty g c =
     (is_nothing c.next_lines-after.result.0.now (sym c.is_empty.ensures ∙ c.if-is_empty.true))) ∙ sym c.last_quote.ensures)
     c.stretches.invariant.wrote) c.push_all.ensures
 
-pub write_stretch-requires-clause-verbatim : goal.write_stretch-requires-clause-verbatim
-write_stretch-requires-clause-verbatim g c = λ is.
-    (verbatim_parts (ended c.next_lines-after.result.0.now) _
-    (subst AreVerbatim c.next_lines-after.ensures.lines.split (c.stretches.invariant.verbatim is))).0
-
-pub write_stretch-requires-clause-text : goal.write_stretch-requires-clause-text
-write_stretch-requires-clause-text g c = λ is.
-    (utf8_parts (ended c.next_lines-after.result.0.now) _
-    (subst AreUtf8 c.next_lines-after.ensures.lines.split (c.stretches.invariant.text is))).0
+pub write_stretch-requires : goal.write_stretch-requires
+write_stretch-requires g c =
+    (kind_parts c.args.kind (ended c.next_lines-after.result.0.now) _
+    (subst (AreOfKind c.args.kind) c.next_lines-after.ensures.lines.split c.stretches.invariant.of_kind)).0
 
 pub returns-in_err-write_stretch : goal.returns-in_err-write_stretch
 returns-in_err-write_stretch g c =
@@ -56,7 +51,6 @@ stretches-preserved g c =
           ∙ stretch_step c.stretches.is_first lines _
           (some_stretch _ _ _ _ _ c.next_lines-after.ensures.lines (sym c.is_empty.ensures ∙ c.if-is_empty.false)))
           c.stretches.invariant.wrote) c.in_ok-write_stretch.ensures;
-      text = λ is. (utf8_parts lines _ (subst AreUtf8 c.next_lines-after.ensures.lines.split (c.stretches.invariant.text is))).1;
-      verbatim = λ is.
-          (verbatim_parts lines _ (subst AreVerbatim c.next_lines-after.ensures.lines.split (c.stretches.invariant.verbatim is))).1;
+      of_kind = (kind_parts c.args.kind lines _
+          (subst (AreOfKind c.args.kind) c.next_lines-after.ensures.lines.split c.stretches.invariant.of_kind)).1;
     }

@@ -21,4 +21,4 @@ stretches-preserved c = λ all.
     c.stretches.invariant
     (simple_stretch _ c.args.number c.stretches.next c.next_lines-after.result.2 c.next_lines-after.result.0.now
     c.next_lines-after.ensures.lines
-    (c.are_verbatim_lines.ensures c.if-not-are_verbatim_lines.false) (c.may_have_temporary.ensures c.if-may_have_temporary.false) all)
+    (c.is_plain_text.ensures c.if-not-is_plain_text.false) (c.may_have_temporary.ensures c.if-may_have_temporary.false) all)
