@@ -58,7 +58,7 @@ impl Render for BuildRequest<'_> {
 ///
 /// A write that fails or takes no byte ends the call, and nothing is written after it. `out` isn't flushed. No object is held in memory,
 /// but the commands and the needs of one log are. A map has the keys of its diagnostics. A buffer holds some 32 KiB of diagnostics, or up to
-/// 64 KiB of lines.
+/// 64 KiB of lines with their escapes, which take at most six times as much.
 /// If there is a baseline, its diagnostics are in memory too, and the earlier log's diagnostics.
 pub fn write_build<W: Sink>(
     alloc: Global,

@@ -8,14 +8,13 @@
 //! - A string of JSON can't have bytes that are not UTF-8, and some readers reject raw bytes and lone surrogates. Therefore a string
 //!   has the text, in which U+FFFD replaces each piece that is no character. A member whose name ends with `_base64` has the exact
 //!   bytes.
-//! - `json` writes into memory. Here parts are written to a `Sink`. Stretches without escapes are one write, and so is what is between
-//!   two lines. The text lines of a log are read from the table three times: for the texts, for the exact bytes, and for the
-//!   diagnostics. So no object is held in memory. Of one log, the commands, the needs and a map of its diagnostics' keys are. For the
-//!   exact bytes, lines that are stored together are tested together first: if all are UTF-8, no line is read. Before all that, one pass
-//!   tests whether all lines of a log are ASCII without escapes, and without names of temporary files. If so, no string of them is tested
-//!   for UTF-8, escapes or colours, and no key is a copy.
-//! - Most diagnostics are written without escapes. The objects of such diagnostics are joined in a buffer, and some 32 KiB of them are one
-//!   write.
+//! - `json` writes into memory. Here parts are written to a `Sink`. The text lines of a log are read from the table three times: for the
+//!   texts, for the exact bytes, and for the diagnostics. So no object is held in memory. Of one log, the commands, the needs and a map of
+//!   its diagnostics' keys are.
+//! - Lines that are stored together are tested together. First, this tells of which `Kind` a log is. If all lines are UTF-8, none is read for
+//!   exact bytes, and up to 64 KiB of them are joined in a buffer with their escapes, and are one write.
+//! - A line is simple if it is UTF-8 without escapes, and without names of temporary files. Then no string of its diagnostic is tested for
+//!   UTF-8, escapes or colours, and its key is no copy. The objects of such diagnostics are joined, and some 32 KiB of them are one write.
 //! - The definition is a recursion over the tree of what is shown. The code iterates over the nodes of the outline.
 //! - Base64 is encoded in chunks of 768 bytes, on the stack, and written as the text of any string is. No proof knows its alphabet.
 //! - If there is a baseline, a log is compared before its object is written: `redo_compare` says of each diagnostic whether it is new, as a
