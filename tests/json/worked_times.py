@@ -29,6 +29,15 @@ TIMES = [
         [(None, 1700000030000), (None, None), (None, None)],
     ),
     (
+        "its own log decides: the other one is of an earlier build",
+        [
+            (b"all", b"@@REDO:do:7:1700000001@@ a\n@@REDO:done:7:1700000002@@ 0 a\n@@REDO:do:7:1700000003@@ b\n@@REDO:done:7:1700000004@@ 0 b\n"),
+            (b"a", b"@@REDO:do:8:1700000008@@ a\ntext\n@@REDO:done:8:1700000009@@ 2 a\n"),
+            (b"b", b"@@REDO:do:8:1700000009.5@@ b\ntext\n"),
+        ],
+        [(None, None), (1700000008000, 1700000009000), (1700000009500, None)],
+    ),
+    (
         "the clock was set: the beginning is after the end",
         [(b"a", b"@@REDO:do:7:1700000002.001@@ a\n@@REDO:done:7:1700000002@@ 0 a\n")],
         [(None, 1700000002000)],

@@ -22,7 +22,7 @@ def time_value(time):
 
 def times_of(logs):
     """Returns when each target began and ended: None for an unknown time. `logs` has the target and the bytes of each log."""
-    began, ended_in_own_log, ended_in_other_log = {}, {}, {}
+    began_in_own_log, began_in_other_log, ended_in_own_log, ended_in_other_log = {}, {}, {}, {}
     for target, data in logs:
         for line in logs_model.lines_of(data[: logs_model.MOST_BYTES]):
             entry = logs_model.entry_of(line, target) if logs_model.is_candidate(line) else None
@@ -32,6 +32,7 @@ def times_of(logs):
             if time is None:
                 continue
             if isinstance(entry, logs_model.Mention) and entry.kind == b"do":
+                began = began_in_own_log if entry.target == target else began_in_other_log
                 began[entry.target] = min(time, began.get(entry.target, time))
             elif isinstance(entry, logs_model.Closed):
                 ended_in_own_log[target] = max(time, ended_in_own_log.get(target, time))
@@ -39,7 +40,9 @@ def times_of(logs):
                 ended_in_other_log[entry.target] = max(time, ended_in_other_log.get(entry.target, time))
     times = {}
     for target, _ in logs:
-        begin, end = began.get(target), ended_in_own_log.get(target, ended_in_other_log.get(target))
+        begin = began_in_own_log.get(target, began_in_other_log.get(target))
+        # If its own log says when the target began, other logs may be of earlier builds.
+        end = ended_in_own_log.get(target, None if target in began_in_own_log else ended_in_other_log.get(target))
         if begin is not None and end is not None and begin > end:  # the clock was set
             begin = None
         times[target] = begin, end

@@ -11,7 +11,7 @@ use Rattle.redo_name.specs.Names.{normal, reduce_suffix}
 use Rattle.redo_line.specs.declared.entry.Entry.TheVariants.{Closing, Done, Mention}
 use Rattle.redo_line.specs.declared.entry.How.TheVariants.{Made, Waiting, Locked, Unlocked, Unchanged}
 use Rattle.redo_times.specs.declared.report.Report.{Report}
-use Rattle.redo_times.specs.declared.report.Stage.TheVariants.{Began, EndedInOtherLog, EndedInOwnLog}
+use Rattle.redo_times.specs.declared.report.Stage.TheVariants.{BeganInOtherLog, EndedInOtherLog, EndedInOwnLog}
 use Rattle.redo_times.specs.Readers.{logs_of, times_of_all}
 use Rattle.redo_times.specs.Report.{report_of, reports_in, stage_of}
 use Rattle.redo_times.specs.Time.{time_value}
@@ -22,9 +22,9 @@ abbrev long : List ℕ → List ℕ
 long end = replicate 499 97 ++ end
 
 abbrev report : List ℕ → ℕ → Report
-report target time = record { stage = Began; target = target; time = time }
+report target time = record { stage = BeganInOtherLog; target = target; time = time }
 
-long_names : times_at Began (long (codes "x"))
+long_names : times_at BeganInOtherLog (long (codes "x"))
     (report (long (codes "y")) 1000000000000 ∷ report (long (codes "x")) 1000000000001 ∷ report (codes "x") 1000000000002 ∷ [])
     ≡ 1000000000001 ∷ []
 long_names = refl
@@ -73,7 +73,7 @@ closing_records = refl
 
 -- A `do` record of any process says that a target began.
 do_records : map (λ pid. stage_of (codes "a") (Mention pid Made (codes "b"))) (0 ∷ 1 ∷ 7 ∷ 32768 ∷ 4194304 ∷ [])
-    ≡ replicate 5 (Some (Began, codes "b"))
+    ≡ replicate 5 (Some (BeganInOtherLog, codes "b"))
 do_records = refl
 
 -- The log of the last of 151 targets says when it ended.

@@ -10,8 +10,8 @@ use Rattle.redo_line.specs.Parts.{after_prefix, split_once}
 use Rattle.redo_line.specs.Record.{fields_of, record_fields, status_of}
 use Rattle.redo_name.specs.Names.{normal, reduce_suffix}
 use Rattle.redo_times.specs.declared.report.Stage.{Stage}
-use Rattle.redo_times.specs.declared.report.Stage.TheVariants.{Began, EndedInOwnLog, EndedInOtherLog}
-use Rattle.redo_times.specs.Laws.{BeginsAfter, IsEnd, IsFirst, IsLast, IsReported, Never}
+use Rattle.redo_times.specs.declared.report.Stage.TheVariants.{BeganInOwnLog, BeganInOtherLog, EndedInOwnLog, EndedInOtherLog}
+use Rattle.redo_times.specs.Laws.{BeginsAfter, BeginsInOwnLog, IsBeginning, IsEnd, IsFirst, IsLast, IsReported, Never, NeverBegins}
 use Rattle.redo_times.specs.Report.{TimedLog, line_time, report_of, stage_of}
 use Rattle.redo_times.specs.Time.{time_value}
 
@@ -44,7 +44,7 @@ done_in_all = log (codes "all") (with_line_feed (is_done (codes "1700000020")))
 abbrev done_in_b : TimedLog
 done_in_b = log (codes "b") (with_line_feed (is_done (codes "1700000021")))
 
-begun_at_1 : IsReported 1000 begun Began a 1700000001000
+begun_at_1 : IsReported 1000 begun BeganInOtherLog a 1700000001000
 unfolding split_lines ended record_fields fields_of status_of split_once after_prefix normal reduce_suffix number time_value entry_of record_entry report_of
 begun_at_1 = record {
   log = log (codes "all")
@@ -123,7 +123,7 @@ abbrev said : Stage → List ℕ → Option (Stage × List ℕ)
 said stage target = Some (stage, target)
 
 abbrev stage_in : Option (Stage × List ℕ) → Stage
-stage_in None = Began
+stage_in None = BeganInOtherLog
 stage_in (Some parts) = parts.0
 
 abbrev target_in : Option (Stage × List ℕ) → List ℕ
@@ -275,7 +275,7 @@ not_latest = λ end. elim end [
 abbrev begun_once : TimedLog
 begun_once = log (codes "all") (with_line_feed (begins (codes "1700000001")))
 
-begun_once_at_1 : IsReported 1000 (begun_once ∷ []) Began a 1700000001000
+begun_once_at_1 : IsReported 1000 (begun_once ∷ []) BeganInOtherLog a 1700000001000
 unfolding split_lines ended record_fields fields_of status_of split_once after_prefix normal reduce_suffix number time_value entry_of record_entry report_of
 begun_once_at_1 = record {
   log = begun_once;
@@ -286,21 +286,113 @@ begun_once_at_1 = record {
   at = refl;
 }
 
-only_at_1 : (time : ℕ) → IsReported 1000 (begun_once ∷ []) Began a time → time ≡ 1700000001000
+only_at_1 : (time : ℕ) → IsReported 1000 (begun_once ∷ []) BeganInOtherLog a time → time ≡ 1700000001000
 unfolding split_lines ended record_fields fields_of status_of split_once after_prefix normal reduce_suffix number time_value entry_of record_entry report_of
 only_at_1 time report =
-    let facts : (said Began a ≡ said Began a) × (Some 1700000001000 ≡ Some time) =
-    says_line (begun_once ∷ []) begun_once (begins (codes "1700000001")) Began a time refl report
+    let facts : (said BeganInOtherLog a ≡ said BeganInOtherLog a) × (Some 1700000001000 ≡ Some time) =
+    says_line (begun_once ∷ []) begun_once (begins (codes "1700000001")) BeganInOtherLog a time refl report
     (only begun_once report.log report.is_log) in
     sym (same_time 1700000001000 time facts.1)
 
+never_in_own : Never (IsReported 1000 (begun_once ∷ []) BeganInOwnLog a)
+unfolding split_lines ended record_fields fields_of status_of split_once after_prefix normal reduce_suffix number time_value entry_of record_entry report_of
+never_in_own time report =
+    let facts : (said BeganInOtherLog a ≡ said BeganInOwnLog a) × (Some 1700000001000 ≡ Some time) =
+    says_line (begun_once ∷ []) begun_once (begins (codes "1700000001")) BeganInOwnLog a time refl report
+    (only begun_once report.log report.is_log) in
+    let stages = same_stage BeganInOtherLog BeganInOwnLog a a facts.0 in absurd (cc)
+
+is_beginning : IsBeginning 1000 (begun_once ∷ []) a 1700000001000
+is_beginning = inr (
+  never_in_own,
+  record { is = begun_once_at_1; none_earlier = λ time report. let same = only_at_1 time report in omega (arith, same) },
+)
+
 begins_after : BeginsAfter 1000 (begun_once ∷ []) a (Some 1700000000999)
-begins_after = (1700000000999, refl, λ time report. let same = only_at_1 time report in omega (arith, same))
+begins_after = (1700000000999, 1700000001000, refl, is_beginning, omega arith)
 
 -- A beginning at the end is not after it. Nothing is after an end that is unknown.
 not_begins_after : ¬ BeginsAfter 1000 (begun_once ∷ []) a (Some 1700000001000) × ¬ BeginsAfter 1000 [] a None
 not_begins_after = (
-  λ after. let same : 1700000001000 ≡ after.0 = (let is = after.1 in cc) in let late = after.2 1700000001000 begun_once_at_1 in
-      omega (arith, same, late),
-  λ after. let none = after.1 in absurd (cc),
+  λ after. let same : 1700000001000 ≡ after.0 = (let is = after.2 in cc) in let late = after.4 in
+      elim after.3 [
+        | inl own ↦ absurd (never_in_own after.1 own.is)
+        | inr other ↦ (let at = only_at_1 after.1 other.1.is in absurd (omega (arith, same, late, at)))
+      ],
+  λ after. let none = after.2 in absurd (cc),
 )
+
+-- ---- its own log decides
+
+-- The own log of `a` says that it began at 5. Another log says that it ended at 3, and another one that it began at 7.
+abbrev begun_at_5 : TimedLog
+begun_at_5 = log a (with_line_feed (begins (codes "1700000005")))
+
+abbrev made_before : TimedLog
+made_before = log (codes "all") (with_line_feed (is_done (codes "1700000003")))
+
+abbrev begun_at_7 : TimedLog
+begun_at_7 = log (codes "all") (with_line_feed (begins (codes "1700000007")))
+
+own_beginning : (other : TimedLog) → IsReported 1000 (other ∷ begun_at_5 ∷ []) BeganInOwnLog a 1700000005000
+unfolding split_lines ended record_fields fields_of status_of split_once after_prefix normal reduce_suffix number time_value entry_of record_entry report_of
+own_beginning other = record {
+  log = begun_at_5;
+  is_log = (1, omega arith, refl);
+  line = begins (codes "1700000005");
+  is_line = (0, omega arith, refl);
+  says = refl;
+  at = refl;
+}
+
+other_end : IsReported 1000 (made_before ∷ begun_at_5 ∷ []) EndedInOtherLog a 1700000003000
+unfolding split_lines ended record_fields fields_of status_of split_once after_prefix normal reduce_suffix number time_value entry_of record_entry report_of
+other_end = record {
+  log = made_before;
+  is_log = (0, omega arith, refl);
+  line = is_done (codes "1700000003");
+  is_line = (0, omega arith, refl);
+  says = refl;
+  at = refl;
+}
+
+reported_in_builds : (stage : Stage) (time : ℕ) → IsReported 1000 (made_before ∷ begun_at_5 ∷ []) stage a time
+    → ((stage ≡ EndedInOtherLog) × (time ≡ 1700000003000)) ⊎ ((stage ≡ BeganInOwnLog) × (time ≡ 1700000005000))
+unfolding split_lines ended record_fields fields_of status_of split_once after_prefix normal reduce_suffix number time_value entry_of record_entry report_of
+reported_in_builds stage time report =
+    elim (one_of_two made_before begun_at_5 report.log report.is_log) [
+      | inl first ↦
+          let facts : (said EndedInOtherLog a ≡ said stage a) × (Some 1700000003000 ≡ Some time) =
+          says_line (made_before ∷ begun_at_5 ∷ []) made_before (is_done (codes "1700000003")) stage a time refl report first in
+          inl (sym (same_stage EndedInOtherLog stage a a facts.0), sym (same_time 1700000003000 time facts.1))
+      | inr second ↦
+          let facts : (said BeganInOwnLog a ≡ said stage a) × (Some 1700000005000 ≡ Some time) =
+          says_line (made_before ∷ begun_at_5 ∷ []) begun_at_5 (begins (codes "1700000005")) stage a time refl report second in
+          inr (sym (same_stage BeganInOwnLog stage a a facts.0), sym (same_time 1700000005000 time facts.1))
+    ]
+
+begins_in_own : BeginsInOwnLog 1000 (made_before ∷ begun_at_5 ∷ []) a
+begins_in_own = (1700000005000, own_beginning made_before)
+
+not_begins_in_own : ¬ BeginsInOwnLog 1000 (begun_once ∷ []) a
+not_begins_in_own = λ begins. never_in_own begins.0 begins.1
+
+not_never_begins : ¬ NeverBegins 1000 (made_before ∷ begun_at_5 ∷ []) a × ¬ NeverBegins 1000 (begun_once ∷ []) a
+not_never_begins = (
+  λ never. never.0 1700000005000 (own_beginning made_before),
+  λ never. never.1 1700000001000 begun_once_at_1,
+)
+
+not_beginning : ¬ IsBeginning 1000 (begun_at_7 ∷ begun_at_5 ∷ []) a 1700000007000
+not_beginning = λ beginning. elim beginning [
+  | inl own ↦ (let low = own.none_earlier 1700000005000 (own_beginning begun_at_7) in omega (arith, low))
+  | inr other ↦ other.0 1700000005000 (own_beginning begun_at_7)
+]
+
+-- What another log says is of an earlier build.
+not_end_before : ¬ IsEnd 1000 (made_before ∷ begun_at_5 ∷ []) a 1700000003000
+not_end_before = λ end. elim end [
+  | inl last ↦ elim (reported_in_builds EndedInOwnLog 1700000003000 last.is)
+      [ inl other ↦ (let stages = other.0 in absurd (cc)) | inr own ↦ (let stages = own.0 in absurd (cc)) ]
+  | inr other ↦ other.1 1700000005000 (own_beginning made_before)
+]

@@ -2,9 +2,8 @@
 use Rattle.std.proofs.Common.{◌≡◌, ℕ, inl, inr, List, [], ◌∷◌, Option, None, Some, IfSome, map, sym, subst}
 use Rattle.std.specs.List.{AllByRecursion}
 use Rattle.redo_device.specs.Feed.{Stream}
-use Rattle.redo_times.specs.declared.report.Stage.TheVariants.{Began}
 use Rattle.redo_times.specs.declared.times.Times.{Times}
-use Rattle.redo_times.specs.Laws.{IsEnd, IsFirst, IsReported}
+use Rattle.redo_times.specs.Laws.{IsBeginning, IsEnd}
 use Rattle.redo_times.specs.Readers.{AreTimesOfReaders, SomeStreams, logs_of, times_of_all}
 use Rattle.redo_times.specs.Report.{TimedLog}
 use Rattle.redo_times.specs.Time.{IsInRange}
@@ -26,13 +25,17 @@ in_any_case (Some stream ∷ known) P holds = in_any_case known P holds
 module _ (max_bytes : ℕ) (logs : List TimedLog) where
   times-in-range : (target : List ℕ) → AreInRange (times_of max_bytes logs target)
   times-in-range target = (
-    weaker_some (times_of max_bytes logs target).began (IsFirst (IsReported max_bytes logs Began target)) IsInRange
-        (λ time first. line-in-range first.is.line time first.is.at) (beginning-first max_bytes logs target),
-    weaker_some (times_of max_bytes logs target).ended (IsEnd max_bytes logs target) IsInRange
-        (λ time end. elim end [
+    weaker_some (times_of max_bytes logs target).began (IsBeginning max_bytes logs target) IsInRange
+        (λ time first. elim first [
           | inl own ↦ line-in-range own.is.line time own.is.at
           | inr other ↦ line-in-range other.1.is.line time
               other.1.is.at
+        ]) (beginning-first max_bytes logs target),
+    weaker_some (times_of max_bytes logs target).ended (IsEnd max_bytes logs target) IsInRange
+        (λ time end. elim end [
+          | inl own ↦ line-in-range own.is.line time own.is.at
+          | inr other ↦ line-in-range other.2.is.line time
+              other.2.is.at
         ]) (end-last max_bytes logs target),
   )
 

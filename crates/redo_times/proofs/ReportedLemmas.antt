@@ -12,7 +12,7 @@ use Rattle.redo_line.specs.Entry.{entry_of}
 use Rattle.redo_line.specs.Lines.{ended}
 use Rattle.redo_times.specs.declared.report.Report.{Report}
 use Rattle.redo_times.specs.declared.report.Stage.{Stage}
-use Rattle.redo_times.specs.declared.report.Stage.TheVariants.{Began, EndedInOwnLog, EndedInOtherLog}
+use Rattle.redo_times.specs.declared.report.Stage.TheVariants.{BeganInOwnLog, BeganInOtherLog, EndedInOwnLog, EndedInOtherLog}
 use Rattle.redo_times.specs.Laws.{IsFirst, IsLast, IsReported}
 use Rattle.redo_times.specs.Report.{TimedLog, line_time, log_reports, report_at, report_of, reports_of, stage_of}
 use Rattle.redo_times.specs.Times.{earlier, first_time, is_same_stage, last_time, later, time_if, times_at}
@@ -97,18 +97,26 @@ joined_to {X} {Y} f (first ∷ xs) x y here one =
 -- ---- reports
 
 same_stage : (one other : Stage) → is_same_stage one other ≡ true → one ≡ other
-same_stage Began Began is = refl
-same_stage Began EndedInOwnLog is = absurd (cc)
-same_stage Began EndedInOtherLog is = absurd (cc)
-same_stage EndedInOwnLog Began is = absurd (cc)
+same_stage BeganInOwnLog BeganInOwnLog is = refl
+same_stage BeganInOwnLog BeganInOtherLog is = absurd (cc)
+same_stage BeganInOwnLog EndedInOwnLog is = absurd (cc)
+same_stage BeganInOwnLog EndedInOtherLog is = absurd (cc)
+same_stage BeganInOtherLog BeganInOwnLog is = absurd (cc)
+same_stage BeganInOtherLog BeganInOtherLog is = refl
+same_stage BeganInOtherLog EndedInOwnLog is = absurd (cc)
+same_stage BeganInOtherLog EndedInOtherLog is = absurd (cc)
+same_stage EndedInOwnLog BeganInOwnLog is = absurd (cc)
+same_stage EndedInOwnLog BeganInOtherLog is = absurd (cc)
 same_stage EndedInOwnLog EndedInOwnLog is = refl
 same_stage EndedInOwnLog EndedInOtherLog is = absurd (cc)
-same_stage EndedInOtherLog Began is = absurd (cc)
+same_stage EndedInOtherLog BeganInOwnLog is = absurd (cc)
+same_stage EndedInOtherLog BeganInOtherLog is = absurd (cc)
 same_stage EndedInOtherLog EndedInOwnLog is = absurd (cc)
 same_stage EndedInOtherLog EndedInOtherLog is = refl
 
 own_stage : (stage : Stage) → is_same_stage stage stage ≡ true
-own_stage Began = refl
+own_stage BeganInOwnLog = refl
+own_stage BeganInOtherLog = refl
 own_stage EndedInOwnLog = refl
 own_stage EndedInOtherLog = refl
 

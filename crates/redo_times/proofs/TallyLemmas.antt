@@ -13,7 +13,7 @@ use Rattle.std.proofs.Math.ListN.{set}
 use Rattle.redo_line.proofs.PlaceLemmas.{some_place}
 use Rattle.redo_times.specs.declared.report.Report.{Report}
 use Rattle.redo_times.specs.declared.report.Stage.{Stage}
-use Rattle.redo_times.specs.declared.report.Stage.TheVariants.{Began, EndedInOwnLog, EndedInOtherLog}
+use Rattle.redo_times.specs.declared.report.Stage.TheVariants.{BeganInOwnLog, BeganInOtherLog, EndedInOwnLog, EndedInOtherLog}
 use Rattle.redo_times.specs.declared.tally.Tally.{Tally}
 use Rattle.redo_times.specs.Times.{earlier, first_time, is_same_stage, last_time, later, time_if, times_at}
 use Rattle.redo_times.specs.Private.Tally.{AreTallies, tally_of, with_time}
@@ -60,20 +60,30 @@ module _ (name target : List ℕ) (time : ℕ) (reports : List Report) where
   -- A report about the target.
   tally-pushed : bytes_eq name target ≡ true → (stage : Stage)
       → tally_of (more stage) target ≡ with_time stage time (tally_of reports target)
-  tally-pushed same Began = λ i. record {
-    began = (ap first_time (pushed Began target reports (report Began name time) time (rw same refl))
-        ∙ first-push (times_at Began target reports) time) i;
-    ended_in_own_log = last_time (kept EndedInOwnLog target reports (report Began name time) refl i);
-    ended_in_other_log = last_time (kept EndedInOtherLog target reports (report Began name time) refl i);
+  tally-pushed same BeganInOwnLog = λ i. record {
+    began_in_own_log = (ap first_time (pushed BeganInOwnLog target reports (report BeganInOwnLog name time) time (rw same refl))
+        ∙ first-push (times_at BeganInOwnLog target reports) time) i;
+    began_in_other_log = first_time (kept BeganInOtherLog target reports (report BeganInOwnLog name time) refl i);
+    ended_in_own_log = last_time (kept EndedInOwnLog target reports (report BeganInOwnLog name time) refl i);
+    ended_in_other_log = last_time (kept EndedInOtherLog target reports (report BeganInOwnLog name time) refl i);
+  }
+  tally-pushed same BeganInOtherLog = λ i. record {
+    began_in_own_log = first_time (kept BeganInOwnLog target reports (report BeganInOtherLog name time) refl i);
+    began_in_other_log = (ap first_time (pushed BeganInOtherLog target reports (report BeganInOtherLog name time) time (rw same refl))
+        ∙ first-push (times_at BeganInOtherLog target reports) time) i;
+    ended_in_own_log = last_time (kept EndedInOwnLog target reports (report BeganInOtherLog name time) refl i);
+    ended_in_other_log = last_time (kept EndedInOtherLog target reports (report BeganInOtherLog name time) refl i);
   }
   tally-pushed same EndedInOwnLog = λ i. record {
-    began = first_time (kept Began target reports (report EndedInOwnLog name time) refl i);
+    began_in_own_log = first_time (kept BeganInOwnLog target reports (report EndedInOwnLog name time) refl i);
+    began_in_other_log = first_time (kept BeganInOtherLog target reports (report EndedInOwnLog name time) refl i);
     ended_in_own_log = (ap last_time (pushed EndedInOwnLog target reports (report EndedInOwnLog name time) time (rw same refl))
         ∙ last-push (times_at EndedInOwnLog target reports) time) i;
     ended_in_other_log = last_time (kept EndedInOtherLog target reports (report EndedInOwnLog name time) refl i);
   }
   tally-pushed same EndedInOtherLog = λ i. record {
-    began = first_time (kept Began target reports (report EndedInOtherLog name time) refl i);
+    began_in_own_log = first_time (kept BeganInOwnLog target reports (report EndedInOtherLog name time) refl i);
+    began_in_other_log = first_time (kept BeganInOtherLog target reports (report EndedInOtherLog name time) refl i);
     ended_in_own_log = last_time (kept EndedInOwnLog target reports (report EndedInOtherLog name time) refl i);
     ended_in_other_log = (ap last_time (pushed EndedInOtherLog target reports (report EndedInOtherLog name time) time (rw same refl))
         ∙ last-push (times_at EndedInOtherLog target reports) time) i;
@@ -82,7 +92,8 @@ module _ (name target : List ℕ) (time : ℕ) (reports : List Report) where
   -- A report about another target.
   tally-kept : bytes_eq name target ≡ false → (stage : Stage) → tally_of (more stage) target ≡ tally_of reports target
   tally-kept other stage = λ i. record {
-    began = first_time (kept Began target reports (report stage name time) (unsaid Began stage) i);
+    began_in_own_log = first_time (kept BeganInOwnLog target reports (report stage name time) (unsaid BeganInOwnLog stage) i);
+    began_in_other_log = first_time (kept BeganInOtherLog target reports (report stage name time) (unsaid BeganInOtherLog stage) i);
     ended_in_own_log = last_time (kept EndedInOwnLog target reports (report stage name time) (unsaid EndedInOwnLog stage) i);
     ended_in_other_log = last_time (kept EndedInOtherLog target reports (report stage name time) (unsaid EndedInOtherLog stage) i);
   }

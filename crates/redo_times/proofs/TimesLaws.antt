@@ -7,10 +7,10 @@ use Rattle.std.specs.Option.{option_or}
 use Rattle.std.proofs.lemmas.Bool.{leb-true, leb-false}
 use Rattle.std.proofs.lemmas.List.Sorted.{Contains-permutation, IsPermutation-sym}
 use Rattle.redo_times.specs.declared.report.Stage.{Stage}
-use Rattle.redo_times.specs.declared.report.Stage.TheVariants.{Began, EndedInOwnLog, EndedInOtherLog}
-use Rattle.redo_times.specs.Laws.{BeginsAfter, IsEnd, IsFirst, IsLast, IsReported, Never}
+use Rattle.redo_times.specs.declared.report.Stage.TheVariants.{BeganInOwnLog, BeganInOtherLog, EndedInOwnLog, EndedInOtherLog}
+use Rattle.redo_times.specs.Laws.{BeginsAfter, BeginsInOwnLog, IsBeginning, IsEnd, IsFirst, IsLast, IsReported, Never, NeverBegins}
 use Rattle.redo_times.specs.Report.{TimedLog, reports_of}
-use Rattle.redo_times.specs.Times.{before_end, end_in, first_time, last_time, times_at, times_of}
+use Rattle.redo_times.specs.Times.{before_end, begin_in, end_in, first_time, last_time, times_at, times_of, unless_begun}
 use Rattle.redo_times.proofs.ReportedLemmas.{first-none, first-some, last-none, last-some, listed, reported}
 
 if_some : {X : Type 0} (found : Option X) (P : X → Type 0) → ((x : X) → found ≡ Some x → P x) → IfSome found P
@@ -54,6 +54,14 @@ neither : (own other : Option ℕ) → option_or own other ≡ None → (own ≡
 neither None other is = (refl, is)
 neither (Some own) other is = absurd (cc)
 
+counts : (began ended : Option ℕ) (time : ℕ) → unless_begun began ended ≡ Some time → (began ≡ None) × (ended ≡ Some time)
+counts None ended time is = (refl, is)
+counts (Some began) ended time is = absurd (cc)
+
+ignored : (began ended : Option ℕ) → unless_begun began ended ≡ None → ((time : ℕ) × (began ≡ Some time)) ⊎ (ended ≡ None)
+ignored None ended is = inr is
+ignored (Some began) ended is = inl (began, refl)
+
 -- ---- the laws
 
 module _ (max_bytes : ℕ) (logs : List TimedLog) (target : List ℕ) where
@@ -62,6 +70,9 @@ module _ (max_bytes : ℕ) (logs : List TimedLog) (target : List ℕ) where
 
   abbrev end : Option ℕ
   end = end_in (reports_of max_bytes logs) target
+
+  abbrev begin : Option ℕ
+  begin = begin_in (reports_of max_bytes logs) target
 
   first-reported : (stage : Stage) (time : ℕ) → first_time (at stage) ≡ Some time → IsFirst (IsReported max_bytes logs stage target) time
   first-reported stage time is =
@@ -83,45 +94,53 @@ module _ (max_bytes : ℕ) (logs : List TimedLog) (target : List ℕ) where
   never-last : (stage : Stage) → last_time (at stage) ≡ None → Never (IsReported max_bytes logs stage target)
   never-last stage none time from = last-none (at stage) none time (listed stage target time max_bytes logs from)
 
-  pub beginning-first : IfSome (times_of max_bytes logs target).began (IsFirst (IsReported max_bytes logs Began target))
-  beginning-first = if_some (before_end (first_time (at Began)) end) (IsFirst (IsReported max_bytes logs Began target))
-      (λ time is. first-reported Began time (kept (first_time (at Began)) end time is).0)
+  beginning-is : (time : ℕ) → begin ≡ Some time → IsBeginning max_bytes logs target time
+  beginning-is time is = elim (chosen (first_time (at BeganInOwnLog)) (first_time (at BeganInOtherLog)) time is) [
+    | inl own ↦ inl (first-reported BeganInOwnLog time own)
+    | inr (none, other) ↦ inr (never-first BeganInOwnLog none, first-reported BeganInOtherLog time other)
+  ]
+
+  pub beginning-first : IfSome (times_of max_bytes logs target).began (IsBeginning max_bytes logs target)
+  beginning-first = if_some (before_end begin end) (IsBeginning max_bytes logs target)
+      (λ time is. beginning-is time (kept begin end time is).0)
 
   pub beginning-before : IfSome (times_of max_bytes logs target).began
       (λ began. IfSome (times_of max_bytes logs target).ended (λ ended. began ≤ ended))
-  beginning-before = if_some (before_end (first_time (at Began)) end) (λ began. IfSome end (λ ended. began ≤ ended))
-      (λ time is. (kept (first_time (at Began)) end time is).1)
+  beginning-before = if_some (before_end begin end) (λ began. IfSome end (λ ended. began ≤ ended)) (λ time is. (kept begin end time is).1)
 
   pub beginning-unknown : IfNone (times_of max_bytes logs target).began
-      (Never (IsReported max_bytes logs Began target) ⊎ BeginsAfter max_bytes logs target (times_of max_bytes logs target).ended)
+      (NeverBegins max_bytes logs target ⊎ BeginsAfter max_bytes logs target (times_of max_bytes logs target).ended)
   beginning-unknown =
-      if_none (before_end (first_time (at Began)) end)
-      (Never (IsReported max_bytes logs Began target) ⊎ BeginsAfter max_bytes logs target end) (λ is.
-      elim (lost (first_time (at Began)) end is) [
-        | inl none ↦ inl (never-first Began none)
-        | inr (first, ended, first_is, end_is, order) ↦ inr (
-          ended,
-          end_is,
-          (λ time from. let bound = (first-reported Began first first_is).none_earlier time from in
-              omega (arith, order, bound)),
-        )
+      if_none (before_end begin end) (NeverBegins max_bytes logs target ⊎ BeginsAfter max_bytes logs target end) (λ is.
+      elim (lost begin end is) [
+        | inl none ↦ inl (let both = neither (first_time (at BeganInOwnLog)) (first_time (at BeganInOtherLog)) none in
+            (never-first BeganInOwnLog both.0, never-first BeganInOtherLog both.1))
+        | inr (first, ended, first_is, end_is, order) ↦ inr (ended, first, end_is, beginning-is first first_is, order)
       ])
+
+  abbrev others : Option ℕ
+  others = unless_begun (first_time (at BeganInOwnLog)) (last_time (at EndedInOtherLog))
 
   pub end-last : IfSome (times_of max_bytes logs target).ended (IsEnd max_bytes logs target)
   end-last =
       if_some end (IsEnd max_bytes logs target) (λ time is.
-      elim (chosen (last_time (at EndedInOwnLog)) (last_time (at EndedInOtherLog)) time is) [
+      elim (chosen (last_time (at EndedInOwnLog)) others time is) [
         | inl own ↦ inl (last-reported EndedInOwnLog time own)
-        | inr (none, other) ↦ inr (never-last EndedInOwnLog none, last-reported EndedInOtherLog time other)
+        | inr (none, other) ↦ inr (let both = counts (first_time (at BeganInOwnLog)) (last_time (at EndedInOtherLog)) time other in
+            (never-last EndedInOwnLog none, never-first BeganInOwnLog both.0, last-reported EndedInOtherLog time both.1))
       ])
 
   pub own-unknown : IfNone (times_of max_bytes logs target).ended (Never (IsReported max_bytes logs EndedInOwnLog target))
   own-unknown = if_none end (Never (IsReported max_bytes logs EndedInOwnLog target))
-      (λ is. never-last EndedInOwnLog (neither (last_time (at EndedInOwnLog)) (last_time (at EndedInOtherLog)) is).0)
+      (λ is. never-last EndedInOwnLog (neither (last_time (at EndedInOwnLog)) others is).0)
 
-  pub other-unknown : IfNone (times_of max_bytes logs target).ended (Never (IsReported max_bytes logs EndedInOtherLog target))
-  other-unknown = if_none end (Never (IsReported max_bytes logs EndedInOtherLog target))
-      (λ is. never-last EndedInOtherLog (neither (last_time (at EndedInOwnLog)) (last_time (at EndedInOtherLog)) is).1)
+  pub other-unknown : IfNone (times_of max_bytes logs target).ended
+      (BeginsInOwnLog max_bytes logs target ⊎ Never (IsReported max_bytes logs EndedInOtherLog target))
+  other-unknown = if_none end (BeginsInOwnLog max_bytes logs target ⊎ Never (IsReported max_bytes logs EndedInOtherLog target)) (λ is.
+      elim (ignored (first_time (at BeganInOwnLog)) (last_time (at EndedInOtherLog)) (neither (last_time (at EndedInOwnLog)) others is).1) [
+        | inl (time, own) ↦ inl (time, (first-reported BeganInOwnLog time own).is)
+        | inr none ↦ inr (never-last EndedInOtherLog none)
+      ])
 
 -- ---- the order of the logs
 
@@ -179,10 +198,15 @@ pub order-irrelevant : (max_bytes : ℕ) (logs others : List TimedLog) (target :
     → times_of max_bytes logs target ≡ times_of max_bytes others target
 order-irrelevant max_bytes logs others target order =
     let back = IsPermutation-sym logs others order in
-    let first = same-first _ _ (listed-moved max_bytes logs others order Began target)
-    (listed-moved max_bytes others logs back Began target) in
+    let begun = same-first _ _ (listed-moved max_bytes logs others order BeganInOwnLog target)
+    (listed-moved max_bytes others logs back BeganInOwnLog target) in
+    let first = same-first _ _ (listed-moved max_bytes logs others order BeganInOtherLog target)
+    (listed-moved max_bytes others logs back BeganInOtherLog target) in
     let own = same-last _ _ (listed-moved max_bytes logs others order EndedInOwnLog target)
     (listed-moved max_bytes others logs back EndedInOwnLog target) in
     let other = same-last _ _ (listed-moved max_bytes logs others order EndedInOtherLog target)
     (listed-moved max_bytes others logs back EndedInOtherLog target) in
-    λ i. record { began = before_end (first i) (option_or (own i) (other i)); ended = option_or (own i) (other i) }
+    λ i. record {
+      began = before_end (option_or (begun i) (first i)) (option_or (own i) (unless_begun (begun i) (other i)));
+      ended = option_or (own i) (unless_begun (begun i) (other i));
+    }

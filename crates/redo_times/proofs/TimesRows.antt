@@ -57,11 +57,16 @@ beginnings =
     (Some 1700000003000) None ∷
     from (log all (begins (codes "1700000005") (codes "b")) ∷ []) a None None ∷
     from (log all (begins (codes "5") (codes "a") ++ begins (codes "1700000006") (codes "a")) ∷ []) a (Some 1700000006000) None ∷
+    from (log all (begins (codes "1700000001") (codes "a")) ∷ log a (begins (codes "1700000008") (codes "a")) ∷ []) a
+    (Some 1700000008000) None ∷
+    from (log a (begins (codes "1700000008") (codes "a") ++ begins (codes "1700000009") (codes "a"))
+    ∷ log all (begins (codes "1700000010") (codes "a")) ∷ []) a (Some 1700000008000) None ∷
+    from (log a (begins (codes "5") (codes "a")) ∷ log all (begins (codes "1700000010") (codes "a")) ∷ []) a (Some 1700000010000) None ∷
     []
 
 these_beginnings : AllByRecursion (HasTimes 1000) beginnings
 unfolding split_lines ended record_fields fields_of status_of split_once after_prefix normal reduce_suffix number time_value entry_of record_entry report_of
-these_beginnings = (refl, (refl, (refl, (refl, (refl, (refl, (refl, tt)))))))
+these_beginnings = (refl, (refl, (refl, (refl, (refl, (refl, (refl, (refl, (refl, (refl, tt))))))))))
 
 -- When targets end: by their own log, which other logs don't change, and by other logs.
 abbrev ends : List Row
@@ -78,11 +83,13 @@ ends =
     from (log a (is_done (codes "5") (codes "0 a")) ∷ log all (is_done (codes "1700000020") (codes "0 a")) ∷ []) a None
     (Some 1700000020000) ∷
     from (log all (is_done (codes "1700000020") (codes "0 b")) ∷ []) a None None ∷
+    from (log all (is_done (codes "1700000020") (codes "0 a")) ∷ log a (begins (codes "1700000010") (codes "b")) ∷ []) a None
+    (Some 1700000020000) ∷
     []
 
 these_ends : AllByRecursion (HasTimes 1000) ends
 unfolding split_lines ended record_fields fields_of status_of split_once after_prefix normal reduce_suffix number time_value entry_of record_entry report_of
-these_ends = (refl, (refl, (refl, (refl, (refl, (refl, (refl, tt)))))))
+these_ends = (refl, (refl, (refl, (refl, (refl, (refl, (refl, (refl, tt))))))))
 
 -- Targets that begin and end. A beginning after the end is unknown.
 abbrev pairs : List Row
@@ -101,6 +108,23 @@ pairs =
 these_pairs : AllByRecursion (HasTimes 1000) pairs
 unfolding split_lines ended record_fields fields_of status_of split_once after_prefix normal reduce_suffix number time_value entry_of record_entry report_of
 these_pairs = (refl, (refl, (refl, (refl, tt))))
+
+-- A log of `all` that is of an earlier build, in which `a` was made. Since then, `a` failed; succeeded; is being made.
+abbrev earlier_build : TimedLog
+earlier_build = log all (begins (codes "1700000001") (codes "a") ++ is_done (codes "1700000002") (codes "0 a"))
+
+abbrev later_builds : List Row
+later_builds =
+    from (earlier_build ∷ log a (begins (codes "1700000008") (codes "a") ++ is_done (codes "1700000009") (codes "2 a")) ∷ []) a
+    (Some 1700000008000) (Some 1700000009000) ∷
+    from (log a (begins (codes "1700000008") (codes "a") ++ is_done (codes "1700000009") (codes "0 a")) ∷ earlier_build ∷ []) a
+    (Some 1700000008000) (Some 1700000009000) ∷
+    from (earlier_build ∷ log a (begins (codes "1700000008") (codes "a")) ∷ []) a (Some 1700000008000) None ∷
+    []
+
+these_later_builds : AllByRecursion (HasTimes 1000) later_builds
+unfolding split_lines ended record_fields fields_of status_of split_once after_prefix normal reduce_suffix number time_value entry_of record_entry report_of
+these_later_builds = (refl, (refl, (refl, tt)))
 
 -- Names are relative to the directory of the log's target.
 abbrev names : List Row

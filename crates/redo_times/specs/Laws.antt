@@ -4,7 +4,7 @@ use Rattle.std.specs.List.{Contains}
 use Rattle.redo_line.specs.Entry.{entry_of}
 use Rattle.redo_line.specs.Lines.{ended}
 use Rattle.redo_times.specs.declared.report.Stage.{Stage}
-use Rattle.redo_times.specs.declared.report.Stage.TheVariants.{Began, EndedInOwnLog, EndedInOtherLog}
+use Rattle.redo_times.specs.declared.report.Stage.TheVariants.{BeganInOwnLog, BeganInOtherLog, EndedInOwnLog, EndedInOtherLog}
 use Rattle.redo_times.specs.Report.{TimedLog, line_time, stage_of}
 
 -- A record that ends within the first `max_bytes` bytes of one of these logs says that the target reached this stage at this time.
@@ -30,12 +30,28 @@ abbrev pub Never : (ℕ → Type 0) → Type 0
 Never Is = (time : ℕ) → Is time → ⊥
 
 module _ (max_bytes : ℕ) (logs : List TimedLog) (target : List ℕ) where
-  -- The target ended at this time: the last one that its own log reports; if it reports none, the last one that another log reports.
+  -- The target began at this time: the first one that its own log reports; if it reports none, the first one that another log reports.
+  abbrev pub IsBeginning : ℕ → Type 0
+  IsBeginning time =
+      IsFirst (IsReported max_bytes logs BeganInOwnLog target) time
+      ⊎ (Never (IsReported max_bytes logs BeganInOwnLog target) × IsFirst (IsReported max_bytes logs BeganInOtherLog target) time)
+
+  -- The target ended at this time: the last one that its own log reports; if this reports neither a beginning nor an end, the last one that
+  -- another log reports.
   abbrev pub IsEnd : ℕ → Type 0
   IsEnd time =
       IsLast (IsReported max_bytes logs EndedInOwnLog target) time
-      ⊎ (Never (IsReported max_bytes logs EndedInOwnLog target) × IsLast (IsReported max_bytes logs EndedInOtherLog target) time)
+      ⊎ (Never (IsReported max_bytes logs EndedInOwnLog target) × Never (IsReported max_bytes logs BeganInOwnLog target)
+      × IsLast (IsReported max_bytes logs EndedInOtherLog target) time)
 
-  -- The end is known, and all beginnings that logs report are after it.
+  -- No log reports a beginning.
+  abbrev pub NeverBegins : Type 0
+  NeverBegins = Never (IsReported max_bytes logs BeganInOwnLog target) × Never (IsReported max_bytes logs BeganInOtherLog target)
+
+  -- The end is known, and the beginning is after it.
   abbrev pub BeginsAfter : Option ℕ → Type 0
-  BeginsAfter ended = (end : ℕ) × (ended ≡ Some end) × ((time : ℕ) → IsReported max_bytes logs Began target time → end < time)
+  BeginsAfter ended = (end time : ℕ) × (ended ≡ Some end) × IsBeginning time × (end < time)
+
+  -- The target's own log reports a beginning.
+  abbrev pub BeginsInOwnLog : Type 0
+  BeginsInOwnLog = (time : ℕ) × IsReported max_bytes logs BeganInOwnLog target time

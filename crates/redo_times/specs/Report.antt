@@ -1,6 +1,7 @@
 -- The reports of the records of logs about targets: that one began or ended, and when.
-use Rattle.std.specs.Prelude.{ℕ, true, List, Option, None, Some, option_and_then, take, filter_map}
+use Rattle.std.specs.Prelude.{ℕ, true, List, Option, None, Some, option_and_then, take, filter_map, if◌then◌else◌}
 use Rattle.std.specs.List.{flat_map}
+use Rattle.std.specs.Str.{bytes_eq}
 use Rattle.redo_line.specs.declared.entry.Entry.{Entry}
 use Rattle.redo_line.specs.declared.entry.Entry.TheVariants.{Text, Mention, Done, Closing, Note}
 use Rattle.redo_line.specs.declared.entry.How.TheVariants.{Made, Waiting, Locked, Unlocked, Unchanged}
@@ -9,7 +10,7 @@ use Rattle.redo_line.specs.Lines.{ended}
 use Rattle.redo_line.specs.Record.{Fields, record_fields}
 use Rattle.redo_times.specs.declared.report.Report.{Report}
 use Rattle.redo_times.specs.declared.report.Stage.{Stage}
-use Rattle.redo_times.specs.declared.report.Stage.TheVariants.{Began, EndedInOwnLog, EndedInOtherLog}
+use Rattle.redo_times.specs.declared.report.Stage.TheVariants.{BeganInOwnLog, BeganInOtherLog, EndedInOwnLog, EndedInOtherLog}
 use Rattle.redo_times.specs.Time.{time_value}
 
 -- A log whose times are read: its target, and the bytes of its stream.
@@ -17,9 +18,13 @@ pub record TimedLog : Type 0 where
   pub target : List ℕ
   pub bytes : List ℕ
 
+-- The stage that a `do` record in the log of `target` reports of a target.
+abbrev pub begin_stage : List ℕ → List ℕ → Stage
+begin_stage target name = if bytes_eq name target then BeganInOwnLog else BeganInOtherLog
+
 -- The stage that an entry in the log of `target` reports, and its target. `do` says that a target began, `done` that it ended.
 abbrev pub stage_of : List ℕ → Entry → Option (Stage × List ℕ)
-stage_of target (Mention pid Made name) = Some (Began, name)
+stage_of target (Mention pid Made name) = Some (begin_stage target name, name)
 stage_of target (Mention pid Waiting name) = None
 stage_of target (Mention pid Locked name) = None
 stage_of target (Mention pid Unlocked name) = None

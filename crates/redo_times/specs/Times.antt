@@ -4,7 +4,7 @@ use Rattle.std.specs.Option.{option_or}
 use Rattle.std.specs.Str.{bytes_eq}
 use Rattle.redo_times.specs.declared.report.Report.{Report}
 use Rattle.redo_times.specs.declared.report.Stage.{Stage}
-use Rattle.redo_times.specs.declared.report.Stage.TheVariants.{Began, EndedInOwnLog, EndedInOtherLog}
+use Rattle.redo_times.specs.declared.report.Stage.TheVariants.{BeganInOwnLog, BeganInOtherLog, EndedInOwnLog, EndedInOtherLog}
 use Rattle.redo_times.specs.declared.times.Times.{Times}
 use Rattle.redo_times.specs.Report.{TimedLog, reports_of}
 use Rattle.redo_times.specs.Time.{IsInRange}
@@ -27,7 +27,8 @@ last_time [] = None
 last_time (time ∷ times) = Some (later time (last_time times))
 
 abbrev pub is_same_stage : Stage → Stage → Bool
-is_same_stage Began Began = true
+is_same_stage BeganInOwnLog BeganInOwnLog = true
+is_same_stage BeganInOtherLog BeganInOtherLog = true
 is_same_stage EndedInOwnLog EndedInOwnLog = true
 is_same_stage EndedInOtherLog EndedInOtherLog = true
 is_same_stage stage other = false
@@ -46,16 +47,25 @@ before_end None ended = None
 before_end (Some began) None = Some began
 before_end (Some began) (Some ended) = if nat_le began ended then Some began else None
 
+-- When a target began: as its own log says, or else as other logs say.
+abbrev pub begin_in : List Report → List ℕ → Option ℕ
+begin_in reports target =
+    option_or (first_time (times_at BeganInOwnLog target reports)) (first_time (times_at BeganInOtherLog target reports))
+
+-- The end of which other logs say, unless the target's own log says when it began: then they may be of an earlier build.
+abbrev pub unless_begun : Option ℕ → Option ℕ → Option ℕ
+unless_begun None ended = ended
+unless_begun (Some began) ended = None
+
 -- When a target ended: as its own log says, or else as other logs say.
 abbrev pub end_in : List Report → List ℕ → Option ℕ
-end_in reports target = option_or (last_time (times_at EndedInOwnLog target reports)) (last_time (times_at EndedInOtherLog target reports))
+end_in reports target =
+    option_or (last_time (times_at EndedInOwnLog target reports))
+    (unless_begun (first_time (times_at BeganInOwnLog target reports)) (last_time (times_at EndedInOtherLog target reports)))
 
 -- When a target began and ended, by these reports.
 abbrev pub times_in : List Report → List ℕ → Times
-times_in reports target = record {
-  began = before_end (first_time (times_at Began target reports)) (end_in reports target);
-  ended = end_in reports target;
-}
+times_in reports target = record { began = before_end (begin_in reports target) (end_in reports target); ended = end_in reports target }
 
 -- When a target began and ended, by these logs.
 abbrev pub times_of : ℕ → List TimedLog → List ℕ → Times

@@ -19,7 +19,8 @@ const DONE: &[u8] = b"done";
 /// The stage that a record reports of a target.
 #[derive(Clone, Copy)]
 pub enum Stage {
-    Began,
+    BeganInOwnLog,
+    BeganInOtherLog,
     EndedInOwnLog,
     EndedInOtherLog,
 }
@@ -81,10 +82,11 @@ fn read_begin(
     log: &TargetName,
     text: &[u8],
 ) -> Result<Option<(Stage, TargetName)>, AllocError>
-    ensures { IfOk result (λ said. said ≡ begin_of (normal (Some log.now) text.now)) }
+    ensures { IfOk result (λ said. said ≡ begin_of log.now (normal (Some log.now) text.now)) }
 {
     match resolve(alloc, log, text)? {
-        Some(target) => Ok(Some((Stage::Began, target))),
+        Some(target) if target.same(log) => Ok(Some((Stage::BeganInOwnLog, target))),
+        Some(target) => Ok(Some((Stage::BeganInOtherLog, target))),
         None => Ok(None),
     }
 }

@@ -9,11 +9,12 @@ use crate::report::{Report, Stage};
 use crate::times::Times;
 use redo_index::Index;
 
-/// The times of a target, as they were found so far: when it first began, and when it last ended, as its own log and as
+/// The times of a target, as they were found so far: when it first began, and when it last ended, each as its own log and as
 /// other logs say.
 #[derive(Clone, Copy)]
 pub struct Tally {
-    pub began: Option<u64>,
+    pub began_in_own_log: Option<u64>,
+    pub began_in_other_log: Option<u64>,
     pub ended_in_own_log: Option<u64>,
     pub ended_in_other_log: Option<u64>,
 }
@@ -24,7 +25,8 @@ impl Tally {
         ensures { (target : _) → result ≡ tally_of [] target }
     {
         Tally {
-            began: None,
+            began_in_own_log: None,
+            began_in_other_log: None,
             ended_in_own_log: None,
             ended_in_other_log: None,
         }
@@ -35,7 +37,12 @@ impl Tally {
         ensures { self.new ≡ with_time stage time self.old }
     {
         match stage {
-            Stage::Began => self.began = Some(earlier(time, self.began)),
+            Stage::BeganInOwnLog => {
+                self.began_in_own_log = Some(earlier(time, self.began_in_own_log));
+            }
+            Stage::BeganInOtherLog => {
+                self.began_in_other_log = Some(earlier(time, self.began_in_other_log));
+            }
             Stage::EndedInOwnLog => {
                 self.ended_in_own_log = Some(later(time, self.ended_in_own_log));
             }
@@ -49,11 +56,22 @@ impl Tally {
     pub fn times(&self) -> Times
         ensures { result ≡ times_from self.now }
     {
-        let ended = self.ended_in_own_log.or(self.ended_in_other_log);
+        let began = self.began_in_own_log.or(self.began_in_other_log);
+        let others = unless_begun(self.began_in_own_log, self.ended_in_other_log);
+        let ended = self.ended_in_own_log.or(others);
         Times {
-            began: before_end(self.began, ended),
+            began: before_end(began, ended),
             ended,
         }
+    }
+}
+
+fn unless_begun(began: Option<u64>, ended: Option<u64>) -> Option<u64>
+    ensures { result ≡ spec.unless_begun began ended }
+{
+    match began {
+        None => ended,
+        Some(_) => None,
     }
 }
 

@@ -22,9 +22,11 @@ const READ_BYTES: usize = 64 * 1024;
 /// was not set.
 #[derive(Clone, Copy, Debug, PartialEq, Eq)]
 pub struct Times {
-    /// The first time of a `do` record of the target, in any log. It is `None` if it is after `ended`: the clock was set.
+    /// The first time of a `do` record of the target in its own log; if there is none, in another log. It is `None` if it is after
+    /// `ended`: the clock was set.
     pub began: Option<u64>,
-    /// The last time of a `done` record of the target in its own log; if there is none, in another log.
+    /// The last time of a `done` record of the target in its own log; if this has neither a `do` nor a `done` record of it, in another
+    /// log.
     pub ended: Option<u64>,
 }
 

@@ -5,17 +5,18 @@ use Rattle.redo_device.specs.Feed.{Stream}
 use Rattle.redo_line.specs.Lines.{ended}
 use Rattle.redo_times.specs.declared.report.Report.{Report}
 use Rattle.redo_times.specs.declared.report.Stage.{Stage}
-use Rattle.redo_times.specs.declared.report.Stage.TheVariants.{Began, EndedInOwnLog, EndedInOtherLog}
+use Rattle.redo_times.specs.declared.report.Stage.TheVariants.{BeganInOwnLog, BeganInOtherLog, EndedInOwnLog, EndedInOtherLog}
 use Rattle.redo_times.specs.declared.tally.Tally.{Tally}
 use Rattle.redo_times.specs.declared.times.Times.{Times}
 use Rattle.redo_times.specs.Readers.{SomeStreams, logs_of}
 use Rattle.redo_times.specs.Report.{reports_in, reports_of}
-use Rattle.redo_times.specs.Times.{before_end, earlier, first_time, last_time, later, times_at}
+use Rattle.redo_times.specs.Times.{before_end, earlier, first_time, last_time, later, times_at, unless_begun}
 
 -- The tally of a target, by these reports.
 abbrev pub tally_of : List Report → List ℕ → Tally
 tally_of reports target = record {
-  began = first_time (times_at Began target reports);
+  began_in_own_log = first_time (times_at BeganInOwnLog target reports);
+  began_in_other_log = first_time (times_at BeganInOtherLog target reports);
   ended_in_own_log = last_time (times_at EndedInOwnLog target reports);
   ended_in_other_log = last_time (times_at EndedInOtherLog target reports);
 }
@@ -24,15 +25,19 @@ tally_of reports target = record {
 abbrev pub AreTallies : List (List ℕ) → List Report → List Tally → Type 0
 AreTallies targets reports tallies = tallies ≡ map (tally_of reports) targets
 
+abbrev pub begin_of_tally : Tally → Option ℕ
+begin_of_tally tally = option_or tally.began_in_own_log tally.began_in_other_log
+
 abbrev pub end_of : Tally → Option ℕ
-end_of tally = option_or tally.ended_in_own_log tally.ended_in_other_log
+end_of tally = option_or tally.ended_in_own_log (unless_begun tally.began_in_own_log tally.ended_in_other_log)
 
 abbrev pub times_from : Tally → Times
-times_from tally = record { began = before_end tally.began (end_of tally); ended = end_of tally }
+times_from tally = record { began = before_end (begin_of_tally tally) (end_of tally); ended = end_of tally }
 
 -- A tally with one more time at which the target reached a stage.
 abbrev pub with_time : Stage → ℕ → Tally → Tally
-with_time Began time tally = record tally { began = Some (earlier time tally.began) }
+with_time BeganInOwnLog time tally = record tally { began_in_own_log = Some (earlier time tally.began_in_own_log) }
+with_time BeganInOtherLog time tally = record tally { began_in_other_log = Some (earlier time tally.began_in_other_log) }
 with_time EndedInOwnLog time tally = record tally { ended_in_own_log = Some (later time tally.ended_in_own_log) }
 with_time EndedInOtherLog time tally = record tally { ended_in_other_log = Some (later time tally.ended_in_other_log) }
 
