@@ -16,7 +16,7 @@ MOST_LINES = 400
 MOST_PAGE_LINES = 2970
 # The same without the definitions of the page and of its parts, for all laws and for a law by itself.
 MOST_READ_LINES = 2200
-MOST_LAW_LINES = 1230
+MOST_LAW_LINES = 980
 UNREAD = [("Rattle.redo_page.specs.Page", "page_html"), ("Rattle.redo_page.specs.Page", "page_parts")]
 PART = r"\w+ \w+(?:: (?:[^\s;]+ to )?[^\s;]+)?"
 MARK = re.compile(rf"^(<!-- ({PART}(?:; {PART})*) -->\n)(?:```\n.*?\n```\n)?", re.M | re.S)

@@ -7,8 +7,7 @@ use Rattle.std.proofs.lemmas.Grind.{flat_map-append}
 use Rattle.std.proofs.lemmas.List.{append-nil, append_assoc}
 use Rattle.redo_compare.specs.Baseline.{BaselineValue}
 use Rattle.redo_html.specs.declared.markup.Markup.TheVariants as markup
-use Rattle.redo_html.specs.Html.{read}
-use Rattle.redo_html.specs.Parts.{Part, part_tokens}
+use Rattle.redo_html.specs.Parts.{Part}
 use Rattle.redo_html.specs.Parts.Part.{MarkupPart, TextPart, NumberPart}
 use Rattle.redo_logs.specs.Logs.{Log}
 use Rattle.redo_page.specs.declared.frame.TheConstants.{HEADER}
@@ -21,15 +20,14 @@ use Rattle.redo_page.specs.declared.template.Item.{Item}
 use Rattle.redo_page.specs.Article.{line_of_node}
 use Rattle.redo_page.specs.Failed.{failed_parts}
 use Rattle.redo_page.specs.Frame.{footer_parts, head_parts, header_parts}
-use Rattle.redo_page.specs.Laws.{HasNewSection, IsPartOf, IsRead, ListsNews, line_item, line_list, news_link, news_shown, section_id, section_ids}
+use Rattle.redo_page.specs.Laws.{HasNewSection, IsPartOf, ListsNews, line_item, line_list, news_link, news_shown, section_id, section_ids}
 use Rattle.redo_page.specs.NewSection.{news_of, news_parts, no_news}
 use Rattle.redo_page.specs.News.{has_news}
-use Rattle.redo_page.specs.Page.{Request, body_parts, options_of, page_html, page_news, page_outline, page_parts, page_view, top_parts}
+use Rattle.redo_page.specs.Page.{Request, body_parts, options_of, page_news, page_outline, page_parts, page_view, top_parts}
 use Rattle.redo_page.specs.Scope.{View, count_of, holds, max_rows}
 use Rattle.redo_page.specs.Summary.{summary_parts}
 use Rattle.redo_page.specs.Targets.{parts_if}
 use Rattle.redo_page.specs.Template.{Block, block_parts, nothing, parts_of_item, parts_of_items}
-use Rattle.redo_page.proofs.PageNumbers.{part_read}
 use Rattle.redo_page.proofs.PagePartLemmas.{IsMore, any, list_in, more_end, more_start, part_earlier, part_later, some_parts, top_in_page}
 
 -- The parts of the section after some items.
@@ -210,10 +208,8 @@ module _ (request : Request) (logs : List Log) (requested : List (List ℕ)) (so
         (some_parts (holds view (HasAny Fixed)) (any view Fixed any_fixed) (fixed_in view))));
   }
 
-  pub news_read : read (page_html request logs requested) ≡ flat_map part_tokens (page_parts request logs requested)
-      → IsRead (news_shown (page_news request logs requested)) request logs requested
-  news_read are_read =
-      part_read request logs requested are_read (news_shown (page_news request logs requested)) (in_section (sentence_in view))
+  pub page_has_numbers : IsPartOf (news_shown (page_news request logs requested)) (page_parts request logs requested)
+  page_has_numbers = in_section (sentence_in view)
 
   pub page_has_more : section_ids (news_parts view) ≡ codes "new" ∷ []
       → HasNewSection (page_parts request logs requested) (page_parts (record request { baseline = None }) logs requested)

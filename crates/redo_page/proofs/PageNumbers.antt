@@ -2,12 +2,10 @@
 use Rattle.std.proofs.Common.{◌≡◌, ℕ, Bool, true, false, List, [], ◌∷◌, ◌++◌, refl, sym, ◌∙◌, ap, subst}
 use Rattle.std.specs.Prelude.{◌==◌, drop, is_some, length, nat_lt, not, unwrap_or, if◌then◌else◌}
 use Rattle.std.specs.List.{flat_map, list_any}
-use Rattle.std.proofs.lemmas.Grind.{flat_map-append}
 use Rattle.std.proofs.lemmas.List.{append_assoc, append-nil}
 use Rattle.redo_logs.specs.Logs.{Log}
 use Rattle.redo_html.specs.declared.markup.Markup.TheVariants as markup
-use Rattle.redo_html.specs.Html.{read}
-use Rattle.redo_html.specs.Parts.{Part, part_tokens}
+use Rattle.redo_html.specs.Parts.{Part}
 use Rattle.redo_html.specs.Parts.Part.{MarkupPart, TextPart, NumberPart}
 use Rattle.redo_html.specs.Shown.{number_text}
 use Rattle.redo_outline.specs.declared.node.Node.{Node}
@@ -18,8 +16,8 @@ use Rattle.redo_page.specs.declared.verdict.Verdict.{Verdict}
 use Rattle.redo_page.specs.declared.verdict.Verdict.TheVariants.{Failed, Unfinished, Made}
 use Rattle.redo_page.specs.Failed.{failed_parts, is_dependent_failure, positions_where}
 use Rattle.redo_page.specs.Frame.{footer_parts, head_parts, header_parts}
-use Rattle.redo_page.specs.Laws.{IsPartOf, IsRead, end_shown, heading_shown, heading_with, number_of, requested_shown, root_count, summary_shown, tile, took_shown}
-use Rattle.redo_page.specs.Page.{Request, body_parts, heading_of, options_of, page_facts, page_html, page_outline, page_parts, page_usage, page_view, top_parts}
+use Rattle.redo_page.specs.Laws.{IsPartOf, end_shown, heading_shown, heading_with, number_of, requested_shown, root_count, summary_shown, tile, took_shown}
+use Rattle.redo_page.specs.Page.{Request, body_parts, heading_of, options_of, page_facts, page_outline, page_parts, page_usage, page_view, top_parts}
 use Rattle.redo_page.specs.Scope.{View}
 use Rattle.redo_page.specs.NewSection.{news_parts}
 use Rattle.redo_page.specs.Summary.{summary_parts}
@@ -206,12 +204,12 @@ module _ (request : Request) (logs : List Log) (requested : List (List ℕ)) whe
       page_has inner
       (part_later (head_parts view) (part_earlier (failed_parts view ++ (news_parts view ++ summary_parts view)) part))
 
-  page_has_heading : IsPartOf (heading_shown nodes) (page_parts request logs requested)
+  pub page_has_heading : IsPartOf (heading_shown nodes) (page_parts request logs requested)
   page_has_heading =
       header_has_part (heading_shown nodes)
       (subst (λ (heading : List Part). IsPartOf heading (header_parts view)) (heading_is nodes) (header_has view))
 
-  page_has_summary : IsPartOf (summary_shown nodes facts usage) (page_parts request logs requested)
+  pub page_has_summary : IsPartOf (summary_shown nodes facts usage) (page_parts request logs requested)
   unfolding top_parts
   page_has_summary =
       page_has (summary_shown nodes facts usage)
@@ -228,31 +226,12 @@ module _ (request : Request) (logs : List Log) (requested : List (List ℕ)) whe
     splits = refl;
   }
 
-  page_has_end : IsPartOf (end_shown request requested nodes) (page_parts request logs requested)
+  pub page_has_end : IsPartOf (end_shown request requested nodes) (page_parts request logs requested)
   unfolding page_parts
   page_has_end = part_later (top_parts view) (part_later (body_parts view (options_of request) request.max_bytes requested) footer_has)
 
-  module _ (are_read : read (page_html request logs requested) ≡ flat_map part_tokens (page_parts request logs requested)) where
-    pub part_read : (inner : List Part) → IsPartOf inner (page_parts request logs requested) → IsRead inner request logs requested
-    part_read inner part = record {
-      before = flat_map part_tokens part.before;
-      after = flat_map part_tokens part.after;
-      splits =
-          ap (λ t. flat_map part_tokens part.before ++ t) (sym (flat_map-append part_tokens inner part.after))
-          ∙ sym (flat_map-append part_tokens part.before (inner ++ part.after)) ∙ ap (flat_map part_tokens) part.splits ∙ sym are_read;
-    }
+  pub page_has_names : IsPartOf (flat_map (requested_shown logs) nodes) (page_parts request logs requested)
+  page_has_names = header_has_part (flat_map (requested_shown logs) nodes) header_names
 
-    pub heading_read : IsRead (heading_shown nodes) request logs requested
-    heading_read = part_read (heading_shown nodes) page_has_heading
-
-    pub summary_read : IsRead (summary_shown nodes facts usage) request logs requested
-    summary_read = part_read (summary_shown nodes facts usage) page_has_summary
-
-    pub names_read : IsRead (flat_map (requested_shown logs) nodes) request logs requested
-    names_read = part_read (flat_map (requested_shown logs) nodes) (header_has_part (flat_map (requested_shown logs) nodes) header_names)
-
-    pub took_read : IsRead (took_shown facts) request logs requested
-    took_read = part_read (took_shown facts) (header_has_part (took_shown facts) header_took)
-
-    pub end_read : IsRead (end_shown request requested nodes) request logs requested
-    end_read = part_read (end_shown request requested nodes) page_has_end
+  pub page_has_took : IsPartOf (took_shown facts) (page_parts request logs requested)
+  page_has_took = header_has_part (took_shown facts) header_took

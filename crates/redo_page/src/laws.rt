@@ -16,7 +16,7 @@ ghost use Rattle.redo_logs.specs.Logs.{Log};
 ghost use Rattle.redo_options.specs.declared.options.Options.{Options};
 ghost use Rattle.redo_view.specs.View.{find_unknown};
 ghost use Rattle.redo_outline.specs.declared.node.Node.{Node};
-ghost use Rattle.redo_page.specs.Laws.{AreBeginnings, AreNewLines, HasNewSection, ListsNews, news_shown, AreInOrderOfEnd, ContainRoots, ListsFailures, ShowsRecipe, HasSameShape, IsArticle, IsLog, IsOfTarget, IsOwnTag, IsRead, IsTree, IsRed, AreCountable, budget_of_tree, TellsItsTarget, article_ids, article_links, event_lines, is_among, kept_lines, kept_within, lines_at, log_bytes, markups, numbers_from, page_lines, page_recipe, positioned_bytes, section_ids, section_links, target_ids, target_links, texts_of, unmoved_lines, charts, ChartsDraw, HasTimeline, end_shown, first, heading_shown, heading_tag, requested_shown, summary_shown, took_shown, page_limit, says_failed, shows_failure, title_in};
+ghost use Rattle.redo_page.specs.Laws.{AreBeginnings, AreNewLines, HasNewSection, ListsNews, news_shown, AreInOrderOfEnd, ContainRoots, ListsFailures, ShowsRecipe, HasSameShape, IsArticle, IsLog, IsOfTarget, IsOwnTag, IsPartOf, IsTree, IsRed, AreCountable, budget_of_tree, TellsItsTarget, article_ids, article_links, event_lines, is_among, kept_lines, kept_within, lines_at, log_bytes, markups, numbers_from, page_lines, page_recipe, positioned_bytes, section_ids, section_links, target_ids, target_links, texts_of, unmoved_lines, charts, ChartsDraw, HasTimeline, end_shown, first, heading_shown, heading_tag, requested_shown, summary_shown, took_shown, page_limit, says_failed, shows_failure, title_in};
 ghost use Rattle.redo_page.specs.Command.{command};
 ghost use Rattle.redo_page.specs.Failed.{is_dependent_failure, positions_where};
 ghost use Rattle.redo_page.specs.Limits.{bytes_shown, highest_cap};
@@ -97,9 +97,8 @@ pub fn targets_have_their_names()
     ensures targets { (request : Request) (logs : List Log) (requested : List (List ℕ)) →
         AllByRecursion (IsOfTarget logs (page_events request logs requested) request.times) (page_outline request logs requested) }
     ensures requested { (request : Request) (logs : List Log) (requested : List (List ℕ)) →
-        IsRead (flat_map (requested_shown logs) (page_outline request logs requested)) request logs requested }
+        IsPartOf (flat_map (requested_shown logs) (page_outline request logs requested)) (page_parts request logs requested) }
 {
-    page_is_read();
     ranks_have_values_of_targets();
 }
 
@@ -109,18 +108,17 @@ pub fn targets_have_their_names()
 /// known. Its last line has the number of logs, the capture directory, and the command that prints the same logs as text.
 pub fn numbers_are_shown()
     ensures heading { (request : Request) (logs : List Log) (requested : List (List ℕ)) →
-        IsRead (heading_shown (page_outline request logs requested)) request logs requested }
+        IsPartOf (heading_shown (page_outline request logs requested)) (page_parts request logs requested) }
     ensures summary { (request : Request) (logs : List Log) (requested : List (List ℕ)) →
-        IsRead (summary_shown (page_outline request logs requested) (page_facts request logs requested) (page_usage request logs requested))
-        request logs requested }
+        IsPartOf (summary_shown (page_outline request logs requested) (page_facts request logs requested)
+        (page_usage request logs requested)) (page_parts request logs requested) }
     ensures took { (request : Request) (logs : List Log) (requested : List (List ℕ)) →
-        IsRead (took_shown (page_facts request logs requested)) request logs requested }
+        IsPartOf (took_shown (page_facts request logs requested)) (page_parts request logs requested) }
     ensures command { (request : Request) (logs : List Log) (requested : List (List ℕ)) →
-        IsRead (end_shown request requested (page_outline request logs requested)) request logs requested }
+        IsPartOf (end_shown request requested (page_outline request logs requested)) (page_parts request logs requested) }
     ensures once { (request : Request) (logs : List Log) (requested : List (List ℕ)) →
         flat_map heading_tag (page_parts request logs requested) ≡ Title1 ∷ DescriptionList ∷ [] }
 {
-    page_is_read();
     positions_are_of_nodes();
     bars_lead_to_positions();
     trimmed_events_are_in_tree();
@@ -161,7 +159,7 @@ pub fn failures_are_listed()
 /// order. The section, and the link to it, are all that a baseline changes.
 pub fn news_are_shown()
     ensures numbers { (request : Request) (logs : List Log) (requested : List (List ℕ)) → is_some request.baseline ≡ true →
-        IsRead (news_shown (page_news request logs requested)) request logs requested }
+        IsPartOf (news_shown (page_news request logs requested)) (page_parts request logs requested) }
     ensures listed { (request : Request) (logs : List Log) (requested : List (List ℕ)) → is_some request.baseline ≡ true →
         ListsNews logs (page_outline request logs requested) (page_news request logs requested) (page_parts request logs requested) }
     ensures lines { (baseline : BaselineValue) (logs : List Log) (nodes : List Node) →
@@ -169,7 +167,6 @@ pub fn news_are_shown()
     ensures otherwise { (request : Request) (logs : List Log) (requested : List (List ℕ)) → is_some request.baseline ≡ true →
         HasNewSection (page_parts request logs requested) (page_parts (record request { baseline = None }) logs requested) }
 {
-    page_is_read();
     positions_are_of_nodes();
     bars_lead_to_positions();
     trimmed_events_are_in_tree();

@@ -1,11 +1,10 @@
 use Rattle.redo_page.proofs.NewsLemmas.{are_new_lines}
-use Rattle.redo_page.proofs.NewsParts.{compared, news_read, page_has_more, page_lists_news}
+use Rattle.redo_page.proofs.NewsParts.{compared, page_has_more, page_has_numbers, page_lists_news}
 use Rattle.redo_page.proofs.PageIds.{new_section}
 use Rattle.redo_page.proofs.laws.news_are_shown.Goals as goal
 
 pub returns-clause-numbers : goal.returns-clause-numbers
-returns-clause-numbers c = λ request logs requested some.
-    news_read request logs requested some (c.page_is_read.ensures.parts request logs requested)
+returns-clause-numbers c = page_has_numbers
 
 pub returns-clause-listed : goal.returns-clause-listed
 returns-clause-listed c = page_lists_news
