@@ -20,7 +20,7 @@ use Rattle.redo_view.specs.declared.event.Opening.TheVariants.{NotOpened, Opened
 use Rattle.redo_view.specs.Event.{Event}
 use Rattle.redo_view.specs.Event.Event.{Requested, Mentioned, EntryShown, LogEnds}
 use Rattle.redo_view.specs.Laws.{opened_name}
-use Rattle.redo_view.specs.LogLines.{lines_left_after, lines_of_log, text_lines}
+use Rattle.redo_view.specs.LogLines.{lines_left_after, lines_of_log}
 use Rattle.redo_html.specs.Parts.{Part}
 use Rattle.redo_outline.specs.declared.node.Node.{Node}
 use Rattle.redo_outline.specs.declared.node.RunTimes.{RunTimes}
@@ -34,7 +34,8 @@ use Rattle.redo_trim.specs.declared.limit.Gauge.{Gauge}
 use Rattle.redo_trim.specs.declared.limit.Limit.{Limit}
 use Rattle.redo_trim.specs.Laws.{head_and_tail}
 use Rattle.redo_trim.specs.Trim.{after_shown, gauge_of, kept, limit_of, no_limit, trim, with_shown_all}
-use Rattle.redo_page.specs.Laws.{PositionedLine, event_lines, log_bytes, positioned_bytes, positioned_lines, unmoved_lines}
+use Rattle.redo_page.specs.Laws.{PositionedLine, event_lines, positioned_bytes, positioned_lines, unmoved_lines}
+use Rattle.redo_page.proofs.PartNames.{log_bytes}
 use Rattle.redo_page.specs.Page.{Request, options_of, page_contents, page_events, page_outline, run_times}
 use Rattle.redo_page.specs.Limits.{at_most, bytes_shown, cap_for, fit_in, highest_cap, limit_at, limit_if, limits_from, limits_of, min_cap, position_limit, tree_limits}
 use Rattle.redo_page.specs.Tree.{Build, articles, is_moved, is_moved_if, node_at, position_of}
@@ -44,7 +45,7 @@ use Rattle.redo_page.proofs.OpeningLemmas.{AreNamed, ArePlaced, NamesItsLog, con
 use Rattle.redo_page.proofs.PageIds.{outline_counted}
 use Rattle.redo_page.proofs.PageNames.{page_placed}
 use Rattle.redo_page.proofs.PagePartLemmas.{page_tree}
-use Rattle.redo_page.proofs.PageLines.{Have, direct_lines, positioned_at, printed_lines, whole_has_none}
+use Rattle.redo_page.proofs.PageLines.{Have, direct_lines, entry_texts, positioned_at, printed_lines, whole_has_none}
 use Rattle.redo_page.proofs.TreeItems.{tree_is_streamed}
 use Rattle.redo_page.proofs.TreeNames.{event_name}
 use Rattle.redo_page.proofs.TreeLines.{bytes-append, tree_text}
@@ -523,10 +524,10 @@ timed_size logs times (node ∷ nodes) sized zero below = sized.0
 timed_size logs times (node ∷ nodes) sized (suc position) below = timed_size logs times nodes sized.1 position (omega (arith, below))
 
 -- No log has 2^64 bytes.
-lines_small : (logs : List Log) → AllByRecursion (λ (log : Log). text_size (text_lines log.entries) < 2 ^ 64) logs → (number : ℕ)
+lines_small : (logs : List Log) → AllByRecursion (λ (log : Log). text_size (facts.texts_of log.entries) < 2 ^ 64) logs → (number : ℕ)
     → text_size (lines_of_log number logs) < 2 ^ 64
 lines_small [] small number = omega arith
-lines_small (log ∷ logs) small zero = small.0
+lines_small (log ∷ logs) small zero = subst (λ (lines : List (List ℕ)). text_size lines < 2 ^ 64) (entry_texts log.entries) small.0
 lines_small (log ∷ logs) small (suc number) = lines_small logs small.1 number
 
 -- ---- the page
@@ -547,7 +548,7 @@ module _ (bounds : Bounds) (request : Request) (logs : List Log) (requested : Li
   abbrev status : ℕ → Option ℤ
   status = target_status logs events
 
-  pub page_bytes : 0 < request.max_bytes → AllByRecursion (λ (log : Log). text_size (text_lines log.entries) < 2 ^ 64) logs
+  pub page_bytes : 0 < request.max_bytes → AllByRecursion (λ (log : Log). text_size (facts.texts_of log.entries) < 2 ^ 64) logs
       → lines_left_after logs [] events ≡ Some []
       → IsDistinct (pointwise nat_eq) (flat_map opened_name events) → events_of 0 whole ≡ events
       → Have (λ number. head_and_tail (limit_of page_limits number) (lines_of_log number logs)) (page_contents request logs requested)

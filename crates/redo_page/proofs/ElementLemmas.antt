@@ -22,7 +22,8 @@ use Rattle.redo_outline.specs.Outline.{log_count}
 use Rattle.redo_page.specs.declared.block.Pending.{Pending}
 use Rattle.redo_page.specs.declared.block.Pending.TheVariants as pending
 use Rattle.redo_page.specs.declared.level.Level.{Level}
-use Rattle.redo_page.specs.Laws.{IsInside, PositionedLine, is_within, log_bytes, log_text, positioned_bytes, positioned_lines, target_id, target_ids, unmoved_lines}
+use Rattle.redo_page.specs.Laws.{IsInside, PositionedLine, is_within, log_text, positioned_bytes, positioned_lines, target_id, unmoved_lines}
+use Rattle.redo_page.proofs.PartNames.{log_bytes, target_ids}
 use Rattle.redo_page.specs.Tree.{Build, articles, closing_parts, depth_parts, empty_start, flat_end, flat_start, heading_parts, is_empty, is_expanded, level_of, max_depth, moved_parts, nested_start, node_at, opening_parts, section_end, section_start, top_level, nested_end}
 use Rattle.redo_page.specs.Private.Streaming.{after_log, after_shown, contents_parts, end_parts, group_end, group_left, group_start, shown_parts, streamed_tree}
 use Rattle.redo_page.proofs.Ids.{Bare, same_found, target_id_part}

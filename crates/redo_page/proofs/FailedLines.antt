@@ -22,7 +22,8 @@ use Rattle.redo_page.specs.Errors.{is_error}
 use Rattle.redo_page.specs.Excerpt.{Stretch, cut_to, emphasized_if, error_position, excerpt_line_end, excerpt_line_parts, excerpt_parts, in_tree_parts, is_kept, left_out_parts, max_excerpt_line, stretch_parts, stretches_from, with_left_out, with_shown}
 use Rattle.redo_page.specs.Excerpt.Stretch.{Shown, LeftOut}
 use Rattle.redo_page.specs.Article.{article_of, article_parts, max_path, nothing_parts, output_line_parts, output_parts, printed_by, whole_parts}
-use Rattle.redo_page.specs.Laws.{AreBeginnings, log_bytes, log_text}
+use Rattle.redo_page.specs.Laws.{AreBeginnings, log_text}
+use Rattle.redo_page.proofs.PartNames.{log_bytes}
 use Rattle.redo_page.specs.Recipe.{recipe_at}
 use Rattle.redo_page.specs.Tree.{is_short, node_at}
 use Rattle.redo_page.proofs.Ids.{badge_bare}

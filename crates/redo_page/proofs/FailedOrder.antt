@@ -4,18 +4,20 @@ use Rattle.std.specs.Prelude.{◌&&◌, nat_eq, not, take, if◌then◌else◌}
 use Rattle.std.specs.declared.cmp.Ordering.{Ordering}
 use Rattle.std.specs.declared.cmp.Ordering.TheVariants.{Less, Equal, Greater}
 use Rattle.std.specs.Cmp.{IsTotalOrder, ranks}
-use Rattle.std.specs.List.{AllByRecursion, IsDistinct, list_all}
+use Rattle.std.specs.List.{AllByRecursion, AllPairs, IsDistinct, list_all}
 use Rattle.std.specs.List.Sorted.{IsPermutation, IsSorted}
 use Rattle.std.specs.Ordering.{MatchOrdering, is_gt, nat_cmp, ordering_reverse, ordering_then}
 use Rattle.std.proofs.lemmas.Bool.{and_from, and_parts, eqb-false}
 use Rattle.std.proofs.lemmas.Bool.Decides.{nat_tests}
 use Rattle.std.proofs.lemmas.Cmp.{nat_cmp_total, nat_eq_equiv, on_total, then_total}
+use Rattle.std.proofs.lemmas.List.Elements.{All-from_recursion}
+use Rattle.std.proofs.lemmas.List.Kept.{AllPairs-cons}
 use Rattle.std.proofs.lemmas.List.Sorted.{IsPermutation-append_left, IsPermutation-cons, IsPermutation-middle, IsPermutation-refl, IsPermutation-sym, IsPermutation-trans}
 use Rattle.std.proofs.lemmas.Map.Keys.{IsDistinct-IsPermutation, IsDistinct-cons, IsDistinct-head, IsDistinct-tail}
 use Rattle.std.proofs.lemmas.Map.Lookups.{CmpEqualImpliesEq, exact_unsigned}
 use Rattle.redo_outline.specs.declared.node.Node.{Node}
 use Rattle.redo_page.specs.Failed.{is_dependent_failure, positions_where}
-use Rattle.redo_page.specs.Laws.{AreInOrderOfEnd, EndsBefore, IsListedBefore}
+use Rattle.redo_page.specs.Laws.{EndsBefore, IsListedBefore}
 use Rattle.redo_page.specs.Tree.{articles, end_cmp, is_root_failure, failure_cmp, root_failures, root_failures_from, has_failed, max_articles, node_at}
 use Rattle.redo_timeline.specs.Order.{insert_sorted, sort}
 use Rattle.redo_timeline.proofs.OrderLemmas.{IsRising, sort-permutation, sort-rising, sorted_same}
@@ -198,14 +200,15 @@ module _ (nodes : List Node) where
     all_before position positions up.1 differ.1,
   )
 
-  rising : (positions : List ℕ) → IsRising (failure_cmp nodes) positions → IsDistinct nat_eq positions → AreInOrderOfEnd nodes positions
-  rising [] up distinct = tt
-  rising (position ∷ positions) up distinct = (
-    all_before position positions up.0 (IsDistinct-head nat_eq position positions distinct),
-    rising positions up.1
-        (IsDistinct-tail nat_eq position positions distinct),
-  )
+  rising : (positions : List ℕ) → IsRising (failure_cmp nodes) positions → IsDistinct nat_eq positions
+      → AllPairs (IsListedBefore nodes) positions
+  rising [] up distinct = λ i j other before within. absurd (omega (arith, within))
+  rising (position ∷ positions) up distinct =
+      AllPairs-cons (IsListedBefore nodes) position positions
+      (All-from_recursion (IsListedBefore nodes position) positions
+      (all_before position positions up.0 (IsDistinct-head nat_eq position positions distinct)))
+      (rising positions up.1 (IsDistinct-tail nat_eq position positions distinct))
 
-  pub are_in_order : AreInOrderOfEnd nodes (root_failures nodes)
+  pub are_in_order : AllPairs (IsListedBefore nodes) (root_failures nodes)
   are_in_order = rising (root_failures nodes) (sort-rising (failure_cmp nodes) (failure_cmp_total nodes) (root_failures_from 0 nodes))
       (roots_distinct nodes)

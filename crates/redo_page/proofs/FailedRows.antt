@@ -17,6 +17,7 @@ use Rattle.redo_html.specs.Parts.Part.{MarkupPart, TextPart, NumberPart}
 use Rattle.redo_html.specs.Shown.{is_unprintable, number_text, unprintable_text, notation}
 use Rattle.redo_html.specs.Symbols.{first_code_point, first_symbol, is_sequence, code_point_len, sequence_len, sequence_numbers, symbol_len, symbols_after}
 use Rattle.redo_outline.specs.declared.node.Node.{Node}
+use Rattle.redo_page.specs.Laws.{target_link}
 use Rattle.redo_page.specs.Errors.{begins_with}
 use Rattle.redo_page.specs.Excerpt.{cut_to, excerpt_line_end, excerpt_line_parts, excerpt_parts, in_tree_parts, left_out_parts}
 use Rattle.redo_page.specs.declared.failed.Failures.{Failures}
@@ -25,7 +26,6 @@ use Rattle.redo_page.specs.Article.{article_of, article_parts, article_took, cau
 use Rattle.redo_page.specs.Private.PageTexts.{AreFailures}
 use Rattle.redo_page.specs.Failed.{is_dependent_failure, failed_parts, is_unclosed, positions_where}
 use Rattle.redo_page.specs.declared.failed.TheConstants.{DEPENDENTS, OTHERS, UNCLOSED}
-use Rattle.redo_page.specs.Laws.{target_links}
 use Rattle.redo_page.specs.NewSection.{no_news}
 use Rattle.redo_page.specs.Page.{build_view}
 use Rattle.redo_page.specs.Recipe.{commands_parts, recipe_parts}
@@ -327,7 +327,7 @@ abbrev many_lines : List Log
 many_lines = log (codes "e") (replicate 20 (Text (codes "a")) ++ Text (codes "error") ∷ replicate 85 (Text (codes "a"))) ∷ []
 
 -- If lines are left out, a link leads to the position of the target.
-excerpt_links : target_links (output_parts many_lines 5 (node 0 None (Some (pos 1)) 301 0 false)) ≡ 5 ∷ 5 ∷ []
+excerpt_links : flat_map target_link (output_parts many_lines 5 (node 0 None (Some (pos 1)) 301 0 false)) ≡ 5 ∷ 5 ∷ []
 unfolding output_parts excerpt_parts excerpt_line_parts excerpt_line_end cut_to left_out_parts in_tree_parts begins_with
 excerpt_links = refl
 

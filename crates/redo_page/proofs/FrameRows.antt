@@ -14,6 +14,7 @@ use Rattle.redo_logs.specs.declared.log_state.LogState.TheVariants.{Ended}
 use Rattle.redo_logs.specs.Logs.{Log}
 use Rattle.redo_options.specs.declared.options.Options.{Options}
 use Rattle.redo_outline.specs.declared.node.Node.{Node}
+use Rattle.redo_page.specs.Laws.{section_link}
 use Rattle.redo_page.specs.declared.verdict.Verdict.TheVariants.{Failed, Unfinished, Made}
 use Rattle.redo_summary.specs.Summary.{Facts}
 use Rattle.redo_timeline.specs.declared.span.Window.{Window}
@@ -25,7 +26,6 @@ use Rattle.redo_page.specs.NewSection.{no_news}
 use Rattle.redo_page.specs.Page.{build_view}
 use Rattle.redo_page.specs.Scope.{View, began_parts}
 use Rattle.redo_page.specs.Verdict.{body_markup, sign_text, title_text, titled, verdict_of, verdict_text}
-use Rattle.redo_page.specs.Laws.{section_links}
 use Rattle.redo_page.specs.Tree.{no_node}
 
 abbrev tag : Markup → Part
@@ -183,8 +183,8 @@ requested_are = refl
 
 -- There is a link to what failed only if a target failed, and one to the timeline only if most times are known.
 header_links_are :
-    (section_links (header_parts (view [] [] (facts None 0 1 0))) ≡ codes "summary" ∷ codes "tree" ∷ [])
-    × (section_links (header_parts (view [] (failed ∷ []) (facts (Some (record { began = 7; width = 1 })) 1 9 1)))
+    (flat_map section_link (header_parts (view [] [] (facts None 0 1 0))) ≡ codes "summary" ∷ codes "tree" ∷ [])
+    × (flat_map section_link (header_parts (view [] (failed ∷ []) (facts (Some (record { began = 7; width = 1 })) 1 9 1)))
     ≡ codes "failed" ∷ codes "summary" ∷ codes "timeline" ∷ codes "tree" ∷ [])
 unfolding duration_words dates.date_text_of dates.date_parts dates.period_of
 header_links_are = (refl, refl)
@@ -197,7 +197,8 @@ compared_is :
 compared_is = refl
 
 compared_links_are :
-    section_links (header_parts (record (view [] (failed ∷ []) (facts None 0 0 0)) { news = record no_news { is_compared = true } }))
+    flat_map section_link
+    (header_parts (record (view [] (failed ∷ []) (facts None 0 0 0)) { news = record no_news { is_compared = true } }))
     ≡ codes "failed" ∷ codes "new" ∷ codes "summary" ∷ codes "tree" ∷ []
 compared_links_are = refl
 

@@ -12,7 +12,8 @@ use Rattle.redo_html.specs.Chart.{drawing_links}
 use Rattle.redo_html.specs.Parts.{Part}
 use Rattle.redo_html.specs.Parts.Part.{MarkupPart, LogPart, TextPart, NumberPart, TitlePart, StylePart, ChartPart, MeterPart}
 use Rattle.redo_page.specs.declared.labels.TheConstants.{FACT_DOT}
-use Rattle.redo_page.specs.Laws.{target_id, target_ids, target_link, target_links, article_id, article_ids, article_link, article_links, is_among}
+use Rattle.redo_page.specs.Laws.{target_id, target_link, article_id, article_link, is_among}
+use Rattle.redo_page.proofs.PartNames.{target_ids, target_links, article_ids, article_links}
 use Rattle.redo_line.specs.declared.entry.How.{How}
 use Rattle.redo_outline.specs.declared.node.Node.{Node}
 use Rattle.redo_outline.specs.Facts.{is_failure}

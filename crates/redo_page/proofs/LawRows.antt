@@ -1,6 +1,7 @@
 -- Rows of the definitions that state the laws.
-use Rattle.std.proofs.Common.{◌≡◌, ℕ, true, false, List, [], ◌∷◌, Option, None, Some, pos, refl, inl, inr, arith, ◌++◌, length, length-append, ap}
+use Rattle.std.proofs.Common.{◌≡◌, ℕ, true, false, List, [], ◌∷◌, Option, None, Some, pos, refl, inl, inr, arith, ◌++◌, length, length-append, map, ap, replicate}
 use Rattle.std.specs.Prelude.{codes, drop}
+use Rattle.std.specs.List.{flat_map}
 use Rattle.std.proofs.lemmas.Option.{none-some, same_Some}
 use Rattle.redo_line.specs.declared.entry.Entry.TheVariants.{Text, Done, Closing, Note}
 use Rattle.redo_line.specs.declared.entry.How.TheVariants.{Made}
@@ -16,8 +17,9 @@ use Rattle.redo_html.specs.Style.{plain_style}
 use Rattle.redo_outline.specs.declared.node.Node.{Node}
 use Rattle.redo_outline.specs.Contents.{Contents}
 use Rattle.redo_outline.specs.Contents.Contents.{Nothing, Shown, Opened}
-use Rattle.redo_page.specs.Laws.{AreInOrderOfEnd, PositionedLine, article_ids, article_links, blank_event, blanked, event_lines, is_among, lines_at, log_bytes, markups, numbers_from, positioned_bytes, positioned_lines, section_ids, section_links, target_ids, target_links, texts_of, unmoved_lines, IsPartOf, charts, IsOwnTag}
+use Rattle.redo_page.specs.Laws.{IsListedBefore, PositionedLine, blank_event, blanked, event_lines, is_among, lines_at, positioned_bytes, positioned_lines, texts_of, unmoved_lines, IsPartOf, IsOwnTag, are_timed, article_id, article_link, log_text, markup_of, section_id, section_link, target_id, target_link, part_chart}
 use Rattle.redo_page.specs.Tree.{Build, no_node}
+use Rattle.redo_summary.specs.declared.target.Target.{Target}
 use Rattle.redo_page.proofs.OtherTags.{script_is_not_own}
 
 -- ---- parts
@@ -37,19 +39,19 @@ parts =
     ∷ StylePart ∷ LogPart plain_style (codes "d\n")
     ∷ ChartPart drawing ∷ MeterPart 12 ∷ []
 
-target_ids_are : target_ids parts ≡ 3 ∷ 4 ∷ 5 ∷ []
+target_ids_are : flat_map target_id parts ≡ 3 ∷ 4 ∷ 5 ∷ []
 target_ids_are = refl
 
-target_links_are : target_links parts ≡ 6 ∷ 11 ∷ 10 ∷ []
+target_links_are : flat_map target_link parts ≡ 6 ∷ 11 ∷ 10 ∷ []
 target_links_are = refl
 
-article_links_are : article_links parts ≡ 7 ∷ []
+article_links_are : flat_map article_link parts ≡ 7 ∷ []
 article_links_are = refl
 
-article_ids_are : article_ids parts ≡ 8 ∷ []
+article_ids_are : flat_map article_id parts ≡ 8 ∷ []
 article_ids_are = refl
 
-charts_are : charts parts ≡ drawing ∷ []
+charts_are : flat_map part_chart parts ≡ drawing ∷ []
 charts_are = refl
 
 -- Tags that begin sections or lead to them, and others.
@@ -60,16 +62,17 @@ framed =
     ∷ MarkupPart markup.NewSection ∷ MarkupPart markup.FailedSection ∷ MarkupPart markup.TimelineLink ∷ MarkupPart markup.TimelineSection
     ∷ MarkupPart markup.EndSection ∷ []
 
-section_links_are : section_links framed ≡ codes "failed" ∷ codes "new" ∷ codes "tree" ∷ codes "summary" ∷ codes "timeline" ∷ []
+section_links_are : flat_map section_link framed ≡ codes "failed" ∷ codes "new" ∷ codes "tree" ∷ codes "summary" ∷ codes "timeline" ∷ []
 section_links_are = refl
 
-section_ids_are : section_ids framed ≡ codes "tree" ∷ codes "summary" ∷ codes "new" ∷ codes "failed" ∷ codes "timeline" ∷ []
+section_ids_are : flat_map section_id framed ≡ codes "tree" ∷ codes "summary" ∷ codes "new" ∷ codes "failed" ∷ codes "timeline" ∷ []
 section_ids_are = refl
 
-log_bytes_are : log_bytes parts ≡ codes "a\nd\n"
+log_bytes_are : flat_map log_text parts ≡ codes "a\nd\n"
 log_bytes_are = refl
 
-markups_are : markups parts ≡ markup.TargetItem 3 ∷ markup.Details 4 ∷ markup.OpenDetails 5 ∷ markup.TargetLink 6 ∷ markup.OutputLink 7
+markups_are :
+    flat_map markup_of parts ≡ markup.TargetItem 3 ∷ markup.Details 4 ∷ markup.OpenDetails 5 ∷ markup.TargetLink 6 ∷ markup.OutputLink 7
     ∷ markup.Article 8 ∷ []
 markups_are = refl
 
@@ -114,9 +117,6 @@ scripts_are_not_own = script_is_not_own
 
 -- ---- numbers
 
-numbers_are : numbers_from 2 3 ≡ 2 ∷ 3 ∷ 4 ∷ []
-numbers_are = refl
-
 among_are : is_among (1 ∷ 2 ∷ []) 2 ∷ is_among (1 ∷ 2 ∷ []) 3 ∷ [] ≡ true ∷ false ∷ []
 among_are = refl
 
@@ -129,23 +129,20 @@ ended time = record no_node { ended = time }
 abbrev nodes : List Node
 nodes = ended None ∷ ended None ∷ ended (Some 9) ∷ ended (Some 5) ∷ ended (Some 5) ∷ []
 
-in_order : AreInOrderOfEnd nodes (3 ∷ 4 ∷ 2 ∷ 0 ∷ 1 ∷ [])
-in_order = (
-  (inr (refl, omega arith), (inl (omega arith), (inl tt, (inl tt, tt)))),
-  ((inl (omega arith), (inl tt, (inl tt, tt))), ((inl tt, (inl tt, tt)), ((inr (refl, omega arith), tt), (tt, tt)))),
-)
+in_order :
+    IsListedBefore nodes 3 4 × IsListedBefore nodes 4 2 × IsListedBefore nodes 2 0 × IsListedBefore nodes 4 1 × IsListedBefore nodes 0 1
+in_order = (inr (refl, omega arith), inl (omega arith), inl tt, inl tt, inr (refl, omega arith))
 
 -- One that ended later, an unknown end before a known one, and equal ends not in the order of the tree.
 not_in_order :
-    ¬ AreInOrderOfEnd nodes (2 ∷ 3 ∷ []) × ¬ AreInOrderOfEnd nodes (0 ∷ 2 ∷ []) × ¬ AreInOrderOfEnd nodes (4 ∷ 3 ∷ [])
-    × ¬ AreInOrderOfEnd nodes (1 ∷ 0 ∷ [])
-    × ¬ AreInOrderOfEnd nodes (3 ∷ 3 ∷ [])
+    ¬ IsListedBefore nodes 2 3 × ¬ IsListedBefore nodes 0 2 × ¬ IsListedBefore nodes 4 3 × ¬ IsListedBefore nodes 1 0
+    × ¬ IsListedBefore nodes 3 3
 not_in_order = (
-  λ is. elim is.0.0 [ inl less ↦ omega (arith, less) | inr same ↦ let equal = same_Some 9 5 same.0 in omega (arith, equal) ],
-  λ is. elim is.0.0 [ inl less ↦ less | inr same ↦ none-some 9 same.0 ],
-  λ is. elim is.0.0 [ inl less ↦ omega (arith, less) | inr same ↦ omega (arith, same.1) ],
-  λ is. elim is.0.0 [ inl less ↦ less | inr same ↦ omega (arith, same.1) ],
-  λ is. elim is.0.0 [ inl less ↦ omega (arith, less) | inr same ↦ omega (arith, same.1) ],
+  λ is. elim is [ inl less ↦ omega (arith, less) | inr same ↦ let equal = same_Some 9 5 same.0 in omega (arith, equal) ],
+  λ is. elim is [ inl less ↦ less | inr same ↦ none-some 9 same.0 ],
+  λ is. elim is [ inl less ↦ omega (arith, less) | inr same ↦ omega (arith, same.1) ],
+  λ is. elim is [ inl less ↦ less | inr same ↦ omega (arith, same.1) ],
+  λ is. elim is [ inl less ↦ omega (arith, less) | inr same ↦ omega (arith, same.1) ],
 )
 
 -- ---- lines
@@ -211,3 +208,22 @@ blanks_are = refl
 blank_entries_are : blank_event rename (EntryShown 1 (Done 9 (pos 2) (codes "x"))) ∷ blank_event rename (EntryShown 1 (Closing 9 (pos 2)))
     ∷ [] ≡ EntryShown 1 (Done 9 (pos 2) (codes "rx")) ∷ EntryShown 1 (Closing 9 (pos 2)) ∷ []
 blank_entries_are = refl
+
+-- ---- times
+
+-- The target at position 0 contains the one at position 1.
+abbrev target_at_times : Option ℕ → ℕ → Option ℕ → Option ℕ → Target
+target_at_times parent position began ended =
+    record { position = position; parent = parent; failed = false; times = record { began = began; ended = ended } }
+
+-- Callers, and targets that ran no others, of which the last one has a mark.
+abbrev timed_targets : ℕ → ℕ → List Target
+timed_targets callers recipes =
+    replicate callers (target_at_times None 0 (Some 1) (Some 9))
+    ++ (replicate recipes (target_at_times (Some 0) 1 (Some 2) (Some 3)) ++ target_at_times (Some 0) 2 (Some 4) None ∷ [])
+
+-- One of ten may have a mark.
+timed_are :
+    map (λ targets. are_timed targets) (timed_targets 0 9 ∷ timed_targets 0 8 ∷ timed_targets 8 1 ∷ timed_targets 7 1 ∷ [] ∷ [])
+    ≡ true ∷ false ∷ true ∷ false ∷ false ∷ []
+timed_are = refl

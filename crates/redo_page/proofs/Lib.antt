@@ -46,6 +46,7 @@ mod PageRows
 mod PageTags
 mod PartLemmas
 mod PartLoops
+mod PartNames
 mod PrintedLemmas
 mod RecipeLemmas
 mod RecipeParts

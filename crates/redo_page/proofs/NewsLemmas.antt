@@ -17,7 +17,7 @@ use Rattle.redo_outline.specs.Facts.{saturated}
 use Rattle.redo_page.specs.Article.{printed_by}
 use Rattle.redo_page.specs.Failed.{positions_where}
 use Rattle.redo_page.specs.Laws.{AreNewLines, IsDiagnosticAt, IsLineOfNode, values_at}
-use Rattle.redo_page.specs.NewSection.{line_rank, new_in, new_lines, news_of, news_since}
+use Rattle.redo_page.specs.NewSection.{line_rank, new_in, new_lines, news_of}
 use Rattle.redo_page.specs.Scope.{max_rows}
 use Rattle.redo_page.specs.Tree.{node_at}
 use Rattle.redo_page.proofs.FailedIds.{where_are_below}
@@ -194,7 +194,7 @@ module _ (baseline : BaselineValue) (logs : List Log) (all : List Node) where
       (omega (arith, within)))
 
 pub are_new_lines : (baseline : BaselineValue) (logs : List Log) (nodes : List Node)
-    → AreNewLines baseline logs nodes (news_since baseline logs nodes).lines
+    → AreNewLines baseline logs nodes (new_lines baseline logs 0 nodes)
 are_new_lines baseline logs nodes = record {
   each = λ position below.
       let is : position ≡ 0 + position = omega arith in

@@ -1,6 +1,6 @@
 -- The section with what is new is a part of a page, and all that a baseline changes.
-use Rattle.std.proofs.Common.{◌≡◌, ℕ, ◌<◌, Bool, true, false, List, [], ◌∷◌, ◌++◌, Option, None, Some, refl, sym, ◌∙◌, ap, arith}
-use Rattle.std.specs.Prelude.{codes, drop, is_some, length, not, take}
+use Rattle.std.proofs.Common.{◌≡◌, ℕ, ◌<◌, Bool, true, false, List, [], ◌∷◌, ◌++◌, Option, None, Some, refl, sym, ◌∙◌, ap, subst, arith}
+use Rattle.std.specs.Prelude.{◌&&◌, ◌==◌, codes, drop, is_some, length, not, take}
 use Rattle.std.specs.List.{flat_map}
 use Rattle.std.proofs.lemmas.Bool.{ne_eqb}
 use Rattle.std.proofs.lemmas.Grind.{flat_map-append}
@@ -10,6 +10,7 @@ use Rattle.redo_html.specs.declared.markup.Markup.TheVariants as markup
 use Rattle.redo_html.specs.Parts.{Part}
 use Rattle.redo_html.specs.Parts.Part.{MarkupPart, TextPart, NumberPart}
 use Rattle.redo_logs.specs.Logs.{Log}
+use Rattle.redo_outline.specs.declared.node.Node.{Node}
 use Rattle.redo_page.specs.declared.frame.TheConstants.{HEADER}
 use Rattle.redo_page.specs.declared.labels.TheConstants.{AND, FIXED, FIXED_COUNT, GONE, MORE_IN_LOGS, NEWLY_FAILING, NEWLY_FAILING_COUNT, NEW_LINES, NEW_SINCE, NOTHING_NEW, SENTENCE_END}
 use Rattle.redo_page.specs.declared.news.TheConstants.{FAILING_NOW, FIXED_NOW, LINES, SECTION}
@@ -20,9 +21,10 @@ use Rattle.redo_page.specs.declared.template.Item.{Item}
 use Rattle.redo_page.specs.Article.{line_of_node}
 use Rattle.redo_page.specs.Failed.{failed_parts}
 use Rattle.redo_page.specs.Frame.{footer_parts, head_parts, header_parts}
-use Rattle.redo_page.specs.Laws.{HasNewSection, IsPartOf, ListsNews, line_item, line_list, news_link, news_shown, section_id, section_ids}
-use Rattle.redo_page.specs.NewSection.{news_of, news_parts, no_news}
-use Rattle.redo_page.specs.News.{has_news}
+use Rattle.redo_page.specs.Laws.{HasNewSection, IsListed, IsPartOf, ListsNews, line_item, line_list, news_link, news_shown, section_id}
+use Rattle.redo_page.proofs.PartNames.{section_ids}
+use Rattle.redo_page.specs.NewSection.{new_lines, newly_failing, news_of, news_parts, news_since, no_news}
+use Rattle.redo_page.specs.News.{NewsValue, has_news}
 use Rattle.redo_page.specs.Page.{Request, body_parts, options_of, page_news, page_outline, page_parts, page_view, top_parts}
 use Rattle.redo_page.specs.Scope.{View, count_of, holds, max_rows}
 use Rattle.redo_page.specs.Summary.{summary_parts}
@@ -43,6 +45,19 @@ section_in_top view compared part =
     (part_later (failed_parts view)
     (part_earlier (summary_parts view) (part_earlier [] (some_parts (holds view HasBaseline) compared part)))))
 
+-- The sentence that has the numbers. `none` is whether nothing is new.
+abbrev sentence : Bool → NewsValue → List Part
+sentence none news =
+    MarkupPart markup.QuietParagraph
+    ∷ (parts_if none (TextPart NOTHING_NEW.now ∷ [])
+    ++ TextPart NEW_LINES.now ∷ NumberPart (length news.lines) ∷ TextPart GONE.now ∷ NumberPart news.gone
+    ∷ TextPart NEWLY_FAILING.now ∷ NumberPart (length news.failing) ∷ TextPart FIXED.now ∷ NumberPart (length news.fixed)
+    ∷ TextPart SENTENCE_END.now ∷ MarkupPart markup.EndParagraph ∷ [])
+
+not_not : (is : Bool) → not (not is) ≡ is
+not_not true = refl
+not_not false = refl
+
 module _ (view : View) where
   abbrev in_list : Block (Block (Unit {0})) → List Part
   in_list list = block_parts (block_parts nothing) list view
@@ -60,7 +75,7 @@ module _ (view : View) where
       ∷ TextPart NEWLY_FAILING.now ∷ NumberPart (length view.news.failing) ∷ TextPart FIXED.now ∷ NumberPart (length view.news.fixed)
       ∷ TextPart SENTENCE_END.now ∷ MarkupPart markup.EndParagraph ∷ []
 
-  sentence_in : IsPartOf (news_shown view.news) (after view 0)
+  sentence_in : IsPartOf (sentence (not (has_news view.news)) view.news) (after view 0)
   sentence_in = record {
     before = start;
     after = after view 16;
@@ -194,22 +209,41 @@ module _ (request : Request) (logs : List Log) (requested : List (List ℕ)) (so
       by None is = absurd (cc)
       by (Some baseline) is = refl
 
+  abbrev nodes : List Node
+  nodes = page_outline request logs requested
+
+  -- The lists of what is new.
+  abbrev Lists : NewsValue → Type 0
+  Lists news =
+      (0 < length news.lines → IsPartOf (line_list logs nodes (take max_rows news.lines)) (page_parts request logs requested))
+      × IsListed logs nodes false (page_parts request logs requested) news.failing
+      × IsListed logs nodes false (page_parts request logs requested) news.fixed
+
   in_section : {inner : List Part} → IsPartOf inner (after view 0) → IsPartOf inner (page_parts request logs requested)
   in_section part = top_in_page request logs requested (section_in_top view compared part)
 
-  pub page_lists_news : ListsNews logs (page_outline request logs requested) (page_news request logs requested)
-      (page_parts request logs requested)
-  page_lists_news = record {
-    lines = λ any_new. in_section (after_sentence view (part_earlier (after view 17)
-        (some_parts (holds view HasNew) (some_new view any_new) (lines_in view))));
-    failing = λ any_failing. in_section (after_lines view (part_earlier (after view 18)
-        (some_parts (holds view (HasAny NewlyFailing)) (any view NewlyFailing any_failing) (failing_in view))));
-    fixed = λ any_fixed. in_section (after_failing view (part_earlier (after view 19)
-        (some_parts (holds view (HasAny Fixed)) (any view Fixed any_fixed) (fixed_in view))));
-  }
+  module _ (baseline : BaselineValue) (is : request.baseline ≡ Some baseline) where
+    news_are : page_news request logs requested ≡ news_since baseline logs nodes
+    news_are = ap (λ (known : Option BaselineValue). news_of known logs nodes) is
 
-  pub page_has_numbers : IsPartOf (news_shown (page_news request logs requested)) (page_parts request logs requested)
-  page_has_numbers = in_section (sentence_in view)
+    pub page_lists_news : ListsNews baseline logs nodes (page_parts request logs requested)
+    page_lists_news =
+        let listed = subst Lists news_are (
+          (λ any_new. in_section (after_sentence view (part_earlier (after view 17)
+              (some_parts (holds view HasNew) (some_new view any_new) (lines_in view))))),
+          (λ any_failing. in_section (after_lines view (part_earlier (after view 18)
+              (some_parts (holds view (HasAny NewlyFailing)) (any view NewlyFailing any_failing) (failing_in view))))),
+          (λ any_fixed. in_section (after_failing view (part_earlier (after view 19)
+              (some_parts (holds view (HasAny Fixed)) (any view Fixed any_fixed) (fixed_in view))))),
+        ) in
+        record { lines = listed.0; failing = listed.1; fixed = listed.2 }
+
+    pub page_has_numbers : IsPartOf (news_shown baseline logs nodes) (page_parts request logs requested)
+    page_has_numbers =
+        subst (λ (none : Bool). IsPartOf (sentence none (news_since baseline logs nodes)) (page_parts request logs requested))
+        (not_not (length (new_lines baseline logs 0 nodes) == 0 && length (newly_failing baseline logs nodes) == 0))
+        (subst (λ (news : NewsValue). IsPartOf (sentence (not (has_news news)) news) (page_parts request logs requested)) news_are
+        (in_section (sentence_in view)))
 
   pub page_has_more : section_ids (news_parts view) ≡ codes "new" ∷ []
       → HasNewSection (page_parts request logs requested) (page_parts (record request { baseline = None }) logs requested)

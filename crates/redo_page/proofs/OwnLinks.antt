@@ -20,7 +20,8 @@ use Rattle.redo_page.specs.Article.{article_of, article_parts, article_took, max
 use Rattle.redo_page.specs.Errors.{is_error}
 use Rattle.redo_page.specs.Excerpt.{Stretch, cut_to, emphasized_if, error_position, excerpt_line_end, excerpt_line_parts, excerpt_parts, in_tree_parts, is_kept, left_out_parts, max_excerpt_line, stretch_parts, stretches_from}
 use Rattle.redo_page.specs.Excerpt.Stretch.{Shown, LeftOut}
-use Rattle.redo_page.specs.Laws.{target_link, target_links}
+use Rattle.redo_page.specs.Laws.{target_link}
+use Rattle.redo_page.proofs.PartNames.{target_links}
 use Rattle.redo_page.specs.Recipe.{recipe_at, recipe_parts}
 use Rattle.redo_page.specs.Targets.{badge_parts, name_parts}
 use Rattle.redo_page.specs.Tree.{is_short, node_at}

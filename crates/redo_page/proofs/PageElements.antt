@@ -13,7 +13,8 @@ use Rattle.redo_logs.specs.Logs.{Log}
 use Rattle.redo_outline.specs.declared.node.Node.{Node}
 use Rattle.redo_page.specs.declared.block.Pending.TheVariants as pending
 use Rattle.redo_page.specs.Frame.{footer_parts}
-use Rattle.redo_page.specs.Laws.{IsArticle, IsInside, IsLog, IsPartOf, IsTree, article_id, is_among, kept_lines, kept_within, log_bytes, positioned_bytes, unmoved_lines}
+use Rattle.redo_page.specs.Laws.{IsArticle, IsInside, IsLog, IsPartOf, IsTree, article_id, is_among, kept_lines, kept_within, positioned_bytes, unmoved_lines}
+use Rattle.redo_page.proofs.PartNames.{log_bytes}
 use Rattle.redo_page.specs.Page.{Request, options_of, page_build, page_contents, page_outline, page_parts, page_view, top_parts}
 use Rattle.redo_page.specs.Private.Streaming.{contents_parts, streamed_tree}
 use Rattle.redo_page.specs.Scope.{View}

@@ -1,7 +1,7 @@
 -- The ids and the links of a page.
 use Rattle.std.proofs.Common.{◌≡◌, ℕ, zero, suc, ◌+◌, ◌<◌, ◌≤◌, Bool, true, false, List, [], ◌∷◌, ◌++◌, map, refl, sym, ◌∙◌, ap, subst, arith}
 use Rattle.std.specs.Prelude.{◌==◌, ◌||◌, ◌&&◌, codes, nat_lt, length, take, if◌then◌else◌, is_some, None, Option, Some}
-use Rattle.std.specs.List.{AllByRecursion, flat_map, list_all}
+use Rattle.std.specs.List.{AllByRecursion, flat_map, list_all, range_with_len}
 use Rattle.std.proofs.lemmas.Bool.{and_from, and_parts, eqb-false, lt-ltb, ltb-true}
 use Rattle.std.proofs.lemmas.List.{append-nil, length-map}
 use Rattle.redo_facts.specs.Facts.{RecipeFacts}
@@ -28,7 +28,8 @@ use Rattle.redo_page.specs.declared.scope.Rows.TheVariants as rows
 use Rattle.redo_page.specs.declared.summary.TheConstants.{SECTION}
 use Rattle.redo_page.specs.Failed.{failed_parts, is_dependent_failure, is_unclosed}
 use Rattle.redo_page.specs.Frame.{footer_parts}
-use Rattle.redo_page.specs.Laws.{article_ids, article_links, charts, is_among, numbers_from, part_chart, section_id, section_ids, section_link, section_links, target_ids, target_links, heading_tag}
+use Rattle.redo_page.specs.Laws.{HasTimeline, is_among, part_chart, section_id, section_link, heading_tag}
+use Rattle.redo_page.proofs.PartNames.{article_ids, article_links, charts, section_ids, section_links, target_ids, target_links}
 use Rattle.redo_page.specs.Page.{Request, options_of, page_contents, page_events, page_facts, page_outline, page_parts, page_view, run_times, top_parts}
 use Rattle.redo_page.specs.Scope.{View, positions_of, rows_of}
 use Rattle.redo_page.specs.NewSection.{news_parts}
@@ -44,10 +45,10 @@ use Rattle.redo_page.proofs.TimelineLemmas.{BarsLead, timeline_found, timeline_r
 use Rattle.redo_page.specs.Limits.{tree_limits}
 use Rattle.redo_trim.specs.declared.limit.Limit.{Limit}
 use Rattle.redo_trim.specs.Trim.{trim}
-use Rattle.redo_page.proofs.TreeIds.{nodes_counted, tree_refers}
+use Rattle.redo_page.proofs.TreeIds.{nodes_counted, numbers_are, numbers_from, tree_refers}
 use Rattle.redo_page.proofs.TreeItems.{tree_is_streamed}
 use Rattle.redo_summary.specs.Laws.{AreOfNodes, AreRanksBelow}
-use Rattle.redo_page.specs.Timeline.{facts_drawing, has_timeline, timeline_parts}
+use Rattle.redo_page.specs.Timeline.{facts_drawing, timeline_parts}
 use Rattle.redo_summary.specs.Summary.{Facts, is_timed, summary_of}
 use Rattle.redo_summary.specs.Usage.{usage_of}
 use Rattle.redo_timeline.specs.declared.span.Span.{Span}
@@ -372,11 +373,14 @@ module _ (have : HavePositions) (memory : HavePositionsOfMemory) (lead : BarsLea
       in_sections section_id section_id_part (template_parts NEWS view) ∙ ap section_ids news.sections_are
       ∙ ap (λ (is : Bool). section_ids (parts_if is (MarkupPart NewSection ∷ []) ++ [])) compared
 
-  pub page_target_ids : target_ids parts ≡ numbers_from 0 (length nodes)
-  page_target_ids =
+  own_target_ids : target_ids parts ≡ numbers_from 0 (length nodes)
+  own_target_ids =
       page_refers.target_ids_are ∙ append-nil (numbers_from 0 (log_count shown))
       ∙ ap (numbers_from 0) (keep (tree_limits logs (options_of request) nodes request.max_bytes) (contents_of events)
       ∙ sym (outline_counted request logs requested))
+
+  pub page_target_ids : target_ids parts ≡ range_with_len 0 (length nodes)
+  page_target_ids = own_target_ids ∙ numbers_are 0 (length nodes)
 
   pub page_article_ids : article_ids parts ≡ articles nodes
   page_article_ids =
@@ -386,7 +390,7 @@ module _ (have : HavePositions) (memory : HavePositionsOfMemory) (lead : BarsLea
 
   pub page_target_links : list_all (is_among (target_ids parts)) (target_links parts) ≡ true
   page_target_links =
-      ap (λ ids. list_all (is_among ids) (target_links parts)) page_target_ids
+      ap (λ ids. list_all (is_among ids) (target_links parts)) own_target_ids
       ∙ all_weaker (λ number. nat_lt number (length nodes)) (is_among (numbers_from 0 (length nodes)))
       (λ number less. let below : number < length nodes = ltb-true number (length nodes) less in
       among_numbers 0 (length nodes) number (omega arith) (omega arith)) (target_links parts) page_refers.target_links_lead
@@ -413,12 +417,13 @@ module _ (have : HavePositions) (memory : HavePositionsOfMemory) (lead : BarsLea
   page_has_chart window is timed = charts_are ∙ ap (λ (w : Option Window). charts (timeline_found view (is_timed facts) w)) is
       ∙ ap (λ (b : Bool). charts (timeline_found view b (Some window))) timed
 
-  pub page_has_no_chart : has_timeline facts ≡ false → charts parts ≡ []
-  page_has_no_chart none = charts_are ∙ by facts.window (is_timed facts) none
+  pub page_has_no_chart : ((window : Window) → HasTimeline request logs requested window → ⊥) → charts parts ≡ []
+  page_has_no_chart none = charts_are ∙ by facts.window (is_timed facts) (λ window is timed. none window (is, timed))
     where
-      by : (window : Option Window) (timed : Bool) → (is_some window && timed) ≡ false → charts (timeline_found view timed window) ≡ []
+      by : (known : Option Window) (timed : Bool) → ((window : Window) → known ≡ Some window → timed ≡ true → ⊥)
+          → charts (timeline_found view timed known) ≡ []
       by None timed none = refl
-      by (Some window) true none = absurd (cc)
+      by (Some window) true none = absurd (none window refl refl)
       by (Some window) false none = refl
 
 -- What holds of the only chart holds of each chart.

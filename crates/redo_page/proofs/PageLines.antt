@@ -1,6 +1,7 @@
 -- The text lines of a page, and of the logs that are opened.
 use Rattle.std.proofs.Common.{◌≡◌, ℕ, zero, suc, ◌+◌, ◌-◌, ◌<◌, ◌≤◌, ◌⊎◌, inl, inr, Bool, true, false, ℤ, List, [], ◌∷◌, ◌++◌, Option, None, Some, cond, get_or, length, map, refl, sym, ◌∙◌, ap, subst, arith}
 use Rattle.std.specs.Prelude.{◌==◌, nat_eq, nat_lt, option_and_then, if◌then◌else◌}
+use Rattle.std.specs.Option.{option_eq}
 use Rattle.std.specs.Cmp.Lexicographic.{pointwise, same_text}
 use Rattle.std.specs.List.{flat_map, list_all}
 use Rattle.std.proofs.lemmas.Bool.{and_parts, eq-eqb, eqb-true, ltb-false, ltb-true, ne_eqb, or_cases}
@@ -24,7 +25,7 @@ use Rattle.redo_outline.specs.Facts as facts
 use Rattle.redo_outline.specs.Laws.{events_of}
 use Rattle.redo_outline.specs.Outline.{log_count, nodes_of}
 use Rattle.redo_page.specs.Laws.{PositionedLine, event_lines, is_among, lines_at, positioned_lines, texts_of}
-use Rattle.redo_page.specs.Tree.{is_same_position, no_node}
+use Rattle.redo_page.specs.Tree.{no_node}
 use Rattle.redo_page.proofs.TreeIds.{nodes_counted}
 
 -- ---- all lines
@@ -189,11 +190,11 @@ texts_at at around position contents = texts_of (lines_at at (positioned_lines a
 at-append : (at : ℕ) (lines others : List PositionedLine)
     → texts_of (lines_at at (lines ++ others)) ≡ texts_of (lines_at at lines) ++ texts_of (lines_at at others)
 at-append at lines others =
-    ap texts_of (filter-append (λ (positioned : PositionedLine). is_same_position positioned.position (Some at)) lines others)
+    ap texts_of (filter-append (λ (positioned : PositionedLine). option_eq nat_eq positioned.position (Some at)) lines others)
     ∙ texts-append (lines_at at lines) (lines_at at others)
 
 -- All lines of one log are at its position, or none.
-event_at : (at : ℕ) (around : Option ℕ) (event : Event) (same : Bool) → is_same_position around (Some at) ≡ same
+event_at : (at : ℕ) (around : Option ℕ) (event : Event) (same : Bool) → option_eq nat_eq around (Some at) ≡ same
     → texts_of (lines_at at (positioned_at around event)) ≡ (if same then event_lines event else [])
 event_at at around event same is = by event same is
   where
@@ -201,7 +202,7 @@ event_at at around event same is = by event same is
     none true = refl
     none false = refl
 
-    by : (event : Event) (same : Bool) → is_same_position around (Some at) ≡ same
+    by : (event : Event) (same : Bool) → option_eq nat_eq around (Some at) ≡ same
         → texts_of (lines_at at (positioned_at around event)) ≡ (if same then event_lines event else [])
     by (Requested name opening) same is = none same
     by (Mentioned depth pid how name opening) same is = none same
@@ -216,11 +217,11 @@ event_at at around event same is = by event same is
 abbrev IsOutside : ℕ → ℕ → ℕ → Type 0
 IsOutside at position count = (at < position) ⊎ (position + count ≤ at)
 
-same_differs : (position at : ℕ) → (position ≡ at → ⊥) → is_same_position (Some position) (Some at) ≡ false
+same_differs : (position at : ℕ) → (position ≡ at → ⊥) → option_eq nat_eq (Some position) (Some at) ≡ false
 same_differs position at differ = ne_eqb position at differ
 
 -- If no log with this position is opened in some contents, only their own lines can be at it.
-outside_lines : (at : ℕ) (around : Option ℕ) (position : ℕ) (contents : Contents) (same : Bool) → is_same_position around (Some at) ≡ same
+outside_lines : (at : ℕ) (around : Option ℕ) (position : ℕ) (contents : Contents) (same : Bool) → option_eq nat_eq around (Some at) ≡ same
     → IsOutside at position (log_count contents) → texts_at at around position contents ≡ (if same then direct_lines contents else [])
 outside_lines at around position Nothing true is outside = refl
 outside_lines at around position Nothing false is outside = refl
@@ -258,7 +259,7 @@ IsBefore None position = Unit {0}
 IsBefore (Some around) position = around < position
 
 before_differs : (around : Option ℕ) (position at : ℕ) → IsBefore around position → position ≤ at
-    → is_same_position around (Some at) ≡ false
+    → option_eq nat_eq around (Some at) ≡ false
 before_differs None position at before after = refl
 before_differs (Some around) position at before after = ne_eqb around at (omega arith)
 
@@ -342,7 +343,7 @@ module _ (lines : ℕ → List (List ℕ)) (logs : List Log) (status : ℕ → O
 
 -- ---- the output of a target
 
-entry_texts : (entries : List Entry) → facts.texts_of entries ≡ text_lines entries
+pub entry_texts : (entries : List Entry) → facts.texts_of entries ≡ text_lines entries
 entry_texts [] = refl
 entry_texts (Text line ∷ entries) = ap (λ t. line ∷ t) (entry_texts entries)
 entry_texts (Mention pid how name ∷ entries) = entry_texts entries

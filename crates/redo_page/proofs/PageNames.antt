@@ -19,7 +19,7 @@ use Rattle.redo_page.specs.declared.frame.TheConstants.{FOOTER, HEAD, HEADER}
 use Rattle.redo_page.specs.declared.summary.TheConstants.{SECTION}
 use Rattle.redo_page.specs.Laws.{IsOfTarget, TellsItsTarget}
 use Rattle.redo_page.specs.Limits.{tree_limits}
-use Rattle.redo_page.specs.Page.{Request, options_of, page_contents, page_events, page_facts, page_news, page_outline, page_parts, page_usage, page_view, run_times, top_parts}
+use Rattle.redo_page.specs.Page.{Request, options_of, page_contents, page_events, page_facts, page_news, page_outline, page_parts, page_view, run_times, top_parts}
 use Rattle.redo_page.specs.Scope.{View, max_rows}
 use Rattle.redo_page.specs.Summary.{summary_parts}
 use Rattle.redo_page.specs.Tree.{node_at}
@@ -177,7 +177,7 @@ module _ (request : Request) (logs : List Log) (requested : List (List ℕ)) whe
             (if shown then (page_facts request logs requested).alone else [])
         by true = each alone_at (page_facts request logs requested).alone (ranks.alone nodes request.times)
         by false = tt
-    values MostMemory = each memory_at (page_usage request logs requested).memory
+    values MostMemory = each memory_at (usage_of nodes request.recipes (page_facts request logs requested).recipes).memory
         (ranks.memory nodes request.recipes (page_facts request logs requested).recipes)
     values rows.New = each_new (take max_rows (page_news request logs requested).lines)
     values Warned = each warnings_at (page_facts request logs requested).warned (ranks.warned nodes request.times)

@@ -17,7 +17,7 @@ use Rattle.redo_page.specs.declared.verdict.Verdict.TheVariants.{Failed, Unfinis
 use Rattle.redo_page.specs.Failed.{failed_parts, is_dependent_failure, positions_where}
 use Rattle.redo_page.specs.Frame.{footer_parts, head_parts, header_parts}
 use Rattle.redo_page.specs.Laws.{IsPartOf, end_shown, heading_shown, heading_with, number_of, requested_shown, root_count, summary_shown, tile, took_shown}
-use Rattle.redo_page.specs.Page.{Request, body_parts, heading_of, options_of, page_facts, page_outline, page_parts, page_usage, page_view, top_parts}
+use Rattle.redo_page.specs.Page.{Request, body_parts, heading_of, options_of, page_facts, page_outline, page_parts, page_view, top_parts}
 use Rattle.redo_page.specs.Scope.{View}
 use Rattle.redo_page.specs.NewSection.{news_parts}
 use Rattle.redo_page.specs.Summary.{summary_parts}
@@ -27,8 +27,11 @@ use Rattle.redo_page.specs.Verdict.{is_unfinished, sign_text, unfinished_count, 
 use Rattle.redo_page.specs.Words.{words_parts}
 use Rattle.redo_page.specs.Tree.{root_failures}
 use Rattle.redo_page.proofs.PagePartLemmas.{part_earlier, part_later}
+use Rattle.redo_summary.specs.declared.target.Target.{Target}
 use Rattle.redo_summary.specs.Summary.{Facts, is_timed}
-use Rattle.redo_summary.specs.Usage.{UsageFacts}
+use Rattle.redo_summary.specs.Targets.{targets_of}
+use Rattle.redo_summary.specs.Usage.{UsageFacts, usage_of}
+use Rattle.redo_summary.specs.Window.{known_times}
 use Rattle.redo_units.specs.Durations.{duration_words}
 use Rattle.redo_units.specs.Sizes.{size_words, tenths_words}
 
@@ -123,13 +126,16 @@ module _ (request : Request) (logs : List Log) (requested : List (List ℕ)) whe
   abbrev nodes : List Node
   nodes = page_outline request logs requested
 
+  abbrev targets : List Target
+  targets = targets_of nodes request.times
+
   abbrev facts : Facts
   facts = page_facts request logs requested
 
   abbrev usage : UsageFacts
-  usage = page_usage request logs requested
+  usage = usage_of nodes request.recipes facts.recipes
 
-  summary_has : IsPartOf (summary_shown nodes facts usage) (summary_parts view)
+  summary_has : IsPartOf (summary_shown nodes targets usage.processor) (summary_parts view)
   unfolding summary_parts
   summary_has =
       let size = words_parts (size_words facts.bytes) in
@@ -185,13 +191,13 @@ module _ (request : Request) (logs : List Log) (requested : List (List ℕ)) whe
         (append_assoc title [] (each_requested nodes ++ after_item 10));
   }
 
-  header_took : IsPartOf (took_shown facts) (header_parts view)
+  header_took : IsPartOf (took_shown (known_times targets)) (header_parts view)
   header_took = record {
     before = with_title (each_requested nodes);
     after = after_item 11;
     splits =
         ap (λ (t : List Part). MarkupPart markup.Header ∷ (heading_with (sign_text view.verdict) view.heading ++ t))
-        (append_assoc title (each_requested nodes) (took_shown facts ++ after_item 11));
+        (append_assoc title (each_requested nodes) (took_shown (known_times targets) ++ after_item 11));
   }
 
   page_has : (inner : List Part) → IsPartOf inner (top_parts view) → IsPartOf inner (page_parts request logs requested)
@@ -209,10 +215,10 @@ module _ (request : Request) (logs : List Log) (requested : List (List ℕ)) whe
       header_has_part (heading_shown nodes)
       (subst (λ (heading : List Part). IsPartOf heading (header_parts view)) (heading_is nodes) (header_has view))
 
-  pub page_has_summary : IsPartOf (summary_shown nodes facts usage) (page_parts request logs requested)
+  pub page_has_summary : IsPartOf (summary_shown nodes targets usage.processor) (page_parts request logs requested)
   unfolding top_parts
   page_has_summary =
-      page_has (summary_shown nodes facts usage)
+      page_has (summary_shown nodes targets usage.processor)
       (part_later (head_parts view)
       (part_later (header_parts view) (part_later (failed_parts view) (part_later (news_parts view) summary_has))))
 
@@ -233,5 +239,5 @@ module _ (request : Request) (logs : List Log) (requested : List (List ℕ)) whe
   pub page_has_names : IsPartOf (flat_map (requested_shown logs) nodes) (page_parts request logs requested)
   page_has_names = header_has_part (flat_map (requested_shown logs) nodes) header_names
 
-  pub page_has_took : IsPartOf (took_shown facts) (page_parts request logs requested)
-  page_has_took = header_has_part (took_shown facts) header_took
+  pub page_has_took : IsPartOf (took_shown (known_times targets)) (page_parts request logs requested)
+  page_has_took = header_has_part (took_shown (known_times targets)) header_took

@@ -39,11 +39,11 @@ use Rattle.redo_page.specs.Command.{is_safe}
 use Rattle.redo_page.specs.Frame.{footer_parts}
 use Rattle.redo_page.specs.Recipe.{commands_parts, recipe_parts}
 use Rattle.redo_page.specs.Summary.{summary_parts}
-use Rattle.redo_page.specs.Laws.{AreBeginnings, HasSameShape, article_ids, article_links, log_bytes, positioned_lines, BeginWith, IsList, line_item, line_list, list_item}
+use Rattle.redo_page.specs.Laws.{AreBeginnings, HasSameShape, page_processor, positioned_lines, BeginWith, IsList, line_item, line_list, list_item, article_id, article_link, log_text}
 use Rattle.redo_summary.specs.Summary.{is_timed}
 use Rattle.redo_summary.specs.declared.rank.Rank.{Rank}
 use Rattle.redo_page.specs.NewSection.{news_parts}
-use Rattle.redo_page.specs.Page.{Request, body_parts, options_of, page_contents, page_events, page_facts, page_html, page_outline, page_parts, page_usage, page_view, request_of, run_times, top_parts, tree_contents}
+use Rattle.redo_page.specs.Page.{Request, body_parts, options_of, page_contents, page_events, page_facts, page_html, page_outline, page_parts, page_view, request_of, run_times, top_parts, tree_contents}
 use Rattle.redo_timeline.specs.declared.span.Window.{Window}
 use Rattle.redo_units.specs.Dates as dates
 use Rattle.redo_units.specs.Durations.{duration_words}
@@ -398,9 +398,9 @@ with_usage = record timed { recipes = used 9 9 9000 ∷ used 30 5 2000 ∷ [] }
 
 -- The first target ran the second one, so its usage includes the usage of the second one.
 usage_is :
-    (page_usage with_usage made (codes "a" ∷ []) ≡ record { processor = Some 35; memory = record { value = 2000; position = 1 } ∷ [] })
+    (page_processor with_usage made (codes "a" ∷ []) ≡ Some 35)
     × ((page_view with_usage made (codes "a" ∷ [])).usage ≡ record { processor = Some 35; memory = record { value = 2000; position = 1 } ∷ [] })
-    × (page_usage timed made (codes "a" ∷ []) ≡ record { processor = None; memory = [] })
+    × (page_processor timed made (codes "a" ∷ []) ≡ None)
 unfolding show_log show_log_within
 usage_is = (refl, refl, refl)
 
@@ -582,8 +582,8 @@ abbrev both_ended : Request
 both_ended = record (request [] false false) { times = begun ∷ ran 1795829211000 1795829213500 ∷ ran 1795829211200 1795829213000 ∷ [] }
 
 failures_in_order :
-    (article_ids (page_parts both_ended both_failed (codes "a" ∷ [])) ≡ 2 ∷ 1 ∷ [])
-    × (article_links (page_parts both_ended both_failed (codes "a" ∷ [])) ≡ 2 ∷ 1 ∷ [])
+    (flat_map article_id (page_parts both_ended both_failed (codes "a" ∷ [])) ≡ 2 ∷ 1 ∷ [])
+    × (flat_map article_link (page_parts both_ended both_failed (codes "a" ∷ [])) ≡ 2 ∷ 1 ∷ [])
 unfolding page_parts top_parts summary_parts size_words tenths_words duration_words dates.date_text_of dates.date_parts dates.period_of footer_parts failed_parts news_parts cause_of_node cause_parts article_parts article_of recipe_parts commands_parts path_parts in_tree_parts output_parts nothing_parts is_safe number_text digits show_log show_log_within symbols_after first_symbol symbol_len is_sequence first_code_point code_point_len is_unprintable
 failures_in_order = (refl, refl)
 
@@ -615,8 +615,8 @@ charts_are = (refl, refl)
 
 -- The tree of a page shows these lines.
 limited_page :
-    (length (log_bytes (page_parts (limited 0) long (codes "a" ∷ []))) ≡ 5005)
-    × (length (log_bytes (page_parts (limited 1) long (codes "a" ∷ []))) ≡ 4004)
+    (length (flat_map log_text (page_parts (limited 0) long (codes "a" ∷ []))) ≡ 5005)
+    × (length (flat_map log_text (page_parts (limited 1) long (codes "a" ∷ []))) ≡ 4004)
 unfolding page_parts top_parts summary_parts size_words footer_parts failed_parts news_parts is_safe number_text digits show_log show_log_within symbols_after first_symbol symbol_len is_sequence first_code_point code_point_len is_unprintable
 limited_page = (refl, refl)
 

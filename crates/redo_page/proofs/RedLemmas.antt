@@ -1,6 +1,6 @@
 -- A page is red exactly if a target failed.
 use Rattle.std.proofs.Common.{◌≡◌, ℕ, suc, zero, Bool, true, false, List, [], ◌∷◌, ◌++◌, map, length, take, refl, sym, ◌∙◌, ap, subst, arith}
-use Rattle.std.specs.Prelude.{◌&&◌, ◌||◌, nat_lt, not, if◌then◌else◌}
+use Rattle.std.specs.Prelude.{◌&&◌, ◌||◌, nat_lt, not, slice_get, if◌then◌else◌}
 use Rattle.std.specs.List.{flat_map, list_any}
 use Rattle.std.proofs.lemmas.Bool.{lt-ltb}
 use Rattle.std.proofs.lemmas.List.Sorted.{length_permutation}
@@ -14,7 +14,7 @@ use Rattle.redo_page.specs.declared.verdict.Verdict.{Verdict}
 use Rattle.redo_page.specs.declared.verdict.Verdict.TheVariants.{Failed, Unfinished, Made}
 use Rattle.redo_page.specs.Failed.{failed_parts}
 use Rattle.redo_page.specs.Frame.{footer_parts, head_parts, header_parts}
-use Rattle.redo_page.specs.Laws.{IsRed, first, says_failed, title_in}
+use Rattle.redo_page.specs.Laws.{IsRed, says_failed, title_in}
 use Rattle.redo_page.specs.Page.{Request, body_parts, options_of, page_view}
 use Rattle.redo_page.specs.Scope.{View}
 use Rattle.redo_page.specs.NewSection.{news_parts}
@@ -99,11 +99,11 @@ module _ (failed unfinished : Bool) (view : View) (rest : List Part) (verdict : 
       by true red = absurd (cc)
       by false red = absurd (cc)
 
-  pub title_is : says_failed (first (flat_map title_in (page_of view rest verdict))) ≡ failed
-  title_is = ap (λ (v : Verdict). says_failed (first (flat_map title_in (page_of view rest v)))) is ∙ by failed unfinished
+  pub title_is : says_failed (slice_get (flat_map title_in (page_of view rest verdict)) 0) ≡ failed
+  title_is = ap (λ (v : Verdict). says_failed (slice_get (flat_map title_in (page_of view rest v)) 0)) is ∙ by failed unfinished
     where
       by : (failed unfinished : Bool)
-          → says_failed (first (flat_map title_in (page_of view rest (verdict_if failed unfinished)))) ≡ failed
+          → says_failed (slice_get (flat_map title_in (page_of view rest (verdict_if failed unfinished))) 0) ≡ failed
       by true unfinished = refl
       by false true = refl
       by false false = refl

@@ -1,5 +1,5 @@
 -- Rows of the summary, as the parts that are written. The values are worked out by hand.
-use Rattle.std.proofs.Common.{◌≡◌, ℕ, Bool, true, false, List, [], ◌∷◌, ◌++◌, Option, None, Some, ℤ, pos, replicate, refl}
+use Rattle.std.proofs.Common.{◌≡◌, ℕ, Bool, true, false, List, [], drop, ◌∷◌, ◌++◌, Option, None, Some, ℤ, pos, replicate, refl}
 use Rattle.std.specs.Fmt.{digits}
 use Rattle.std.specs.List.{flat_map, list_any}
 use Rattle.std.specs.Prelude.{bytes_eq, codes, take}
@@ -19,6 +19,7 @@ use Rattle.redo_page.specs.Summary.{summary_parts}
 use Rattle.redo_page.specs.Template.{nothing, tile_end, tile_start}
 use Rattle.redo_page.specs.Words.{word_part, words_parts}
 use Rattle.redo_summary.specs.declared.rank.Rank.{Rank}
+use Rattle.redo_summary.specs.declared.target.Target.{Target}
 use Rattle.redo_summary.specs.Summary.{Facts}
 use Rattle.redo_summary.specs.Usage.{UsageFacts}
 use Rattle.redo_timeline.specs.declared.span.Span.{Span}
@@ -26,7 +27,7 @@ use Rattle.redo_timeline.specs.declared.span.Window.{Window}
 use Rattle.redo_units.specs.Durations.{duration_words}
 use Rattle.redo_units.specs.Sizes.{size_words, tenths_words}
 use Rattle.redo_units.specs.Words.WordValue.{NumberWord, TextWord}
-use Rattle.redo_page.specs.Tree.{no_node}
+use Rattle.redo_page.specs.Tree.{no_node, node_at}
 
 abbrev tag : Markup → Part
 tag markup = MarkupPart markup
@@ -433,9 +434,22 @@ heading_is :
 unfolding number_text digits
 heading_is = refl
 
+-- The first log has seven warnings and one byte.
+abbrev counted : List Node
+counted = record (node_at nodes 0) { warnings = 7; bytes = 1 } ∷ drop 1 nodes
+
+abbrev target : ℕ → ℕ → ℕ → Target
+target position began ended =
+    record { position = position; parent = Some 0; failed = false; times = record { began = Some began; ended = Some ended } }
+
+-- Two recipes, which ran for 60 s and for 65 s.
+abbrev targets : List Target
+targets = target 1 0 60000 ∷ target 2 25000 90000 ∷ []
+
 tiles_are :
-    (summary_shown nodes known unused ≡ tag markup.DescriptionList ∷ all_tiles (tag markup.EndDescriptionList ∷ []))
-    × (summary_shown nodes known used ≡ tag markup.DescriptionList ∷ all_tiles (processor_tile (tag markup.EndDescriptionList ∷ [])))
+    (summary_shown counted targets None ≡ tag markup.DescriptionList ∷ all_tiles (tag markup.EndDescriptionList ∷ []))
+    × (summary_shown counted targets (Some 61000)
+    ≡ tag markup.DescriptionList ∷ all_tiles (processor_tile (tag markup.EndDescriptionList ∷ [])))
 unfolding duration_words size_words tenths_words
 tiles_are = (refl, refl)
 

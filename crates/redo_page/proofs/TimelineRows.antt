@@ -16,7 +16,7 @@ use Rattle.redo_outline.specs.declared.node.Node.{Node}
 use Rattle.redo_page.specs.NewSection.{no_news}
 use Rattle.redo_page.specs.Page.{build_view}
 use Rattle.redo_page.specs.Scope.{View}
-use Rattle.redo_page.specs.Timeline.{facts_drawing, has_timeline, timeline_end, timeline_if, timeline_parts, timeline_section, timeline_start}
+use Rattle.redo_page.specs.Timeline.{facts_drawing, timeline_end, timeline_if, timeline_parts, timeline_section, timeline_start}
 use Rattle.redo_summary.specs.Summary.{Facts}
 use Rattle.redo_timeline.specs.declared.span.Span.{Span}
 use Rattle.redo_timeline.specs.declared.span.Window.{Window}
@@ -79,16 +79,6 @@ known = facts (Some window) (span 0 1000 11000 ∷ []) (span 1 1000 6000 ∷ spa
 
 abbrev view : Facts → View
 view facts = build_view [] [] [] [] logs nodes facts no_news
-
--- ---- whether there is a timeline
-
--- One of ten targets may have a mark.
-timelines_are :
-    (has_timeline known ≡ true) × (has_timeline (facts None (some 1) (some 2) []) ≡ false)
-    × (has_timeline (facts (Some window) [] [] []) ≡ false)
-    × (has_timeline (facts (Some window) (some 1) (some 8) (some 1)) ≡ true)
-    × (has_timeline (facts (Some window) (some 1) (some 7) (some 1)) ≡ false)
-timelines_are = (refl, refl, refl, refl, refl)
 
 -- ---- the parts before the chart
 

@@ -1,5 +1,6 @@
 -- The ids and the links of the tree.
 use Rattle.std.proofs.Common.{◌≡◌, ℕ, zero, suc, ◌+◌, Bool, true, false, ℤ, List, [], ◌∷◌, ◌++◌, Option, None, Some, refl, sym, ◌∙◌, ap, subst, arith}
+use Rattle.std.specs.List.{range_with_len}
 use Rattle.std.specs.Prelude.{◌==◌, ◌&&◌, not, nat_le, bytes_eq, codes, length, option_and_then, if◌then◌else◌}
 use Rattle.std.proofs.lemmas.Bool.{lt-ltb}
 use Rattle.std.proofs.lemmas.Grind.{flat_map-append}
@@ -24,13 +25,22 @@ use Rattle.redo_page.specs.declared.labels.TheConstants.{SHOWN_ABOVE}
 use Rattle.redo_page.specs.declared.block.Pending.{Pending}
 use Rattle.redo_page.specs.declared.block.Pending.TheVariants as pending
 use Rattle.redo_page.specs.declared.level.Level.{Level}
-use Rattle.redo_page.specs.Laws.{numbers_from}
 use Rattle.redo_page.specs.Targets.{facts_parts, how_parts, linked_parts, parts_if}
 use Rattle.redo_page.specs.Tree.{Build, articles, closing_parts, done_parts, empty_start, flat_end, flat_start, has_article, heading_parts, is_empty, is_expanded, is_moved_if, is_seen, is_short, no_node, level_of, max_depth, mention_parts, moved_parts, nested_start, node_at, note_parts, note_prefix, opening_parts, opening_position, position_of, position_of_name, request_parts, top_level, nested_end}
 use Rattle.redo_page.specs.Private.Streaming.{after_log, after_shown, contents_parts, end_parts, fits, group_end, group_left, group_parts, group_size, group_start, item_parts, line_parts, line_size, line_start, log_end, log_start, shown_parts, streamed_tree}
 use Rattle.redo_page.proofs.Ids.{Bare, IsBelow, Refer, Refers, article_link_refers, bare_if, bare_refers, bare_then, facts_bare, how_bare, linked_refers, references, same_refer, then_refer}
 
 -- ---- numbers
+
+abbrev pub numbers_from : ℕ → ℕ → List ℕ
+numbers_from first zero = []
+numbers_from first (suc count) = first ∷ numbers_from (suc first) count
+
+pub numbers_are : (first count : ℕ) → numbers_from first count ≡ range_with_len first count
+numbers_are first zero = refl
+numbers_are first (suc count) =
+    let next : suc first ≡ first + 1 = omega arith in
+    ap (λ t. first ∷ t) (numbers_are (suc first) count ∙ ap (λ n. range_with_len n count) next)
 
 numbers_from-append : (first count more : ℕ)
     → numbers_from first (count + more) ≡ numbers_from first count ++ numbers_from (first + count) more

@@ -24,7 +24,8 @@ use Rattle.redo_outline.specs.Outline.{log_count}
 use Rattle.redo_page.specs.declared.block.Pending.{Pending}
 use Rattle.redo_page.specs.declared.block.Pending.TheVariants as pending
 use Rattle.redo_page.specs.declared.level.Level.{Level}
-use Rattle.redo_page.specs.Laws.{PositionedLine, texts_of, log_bytes, log_text, positioned_bytes, positioned_lines, unmoved_lines}
+use Rattle.redo_page.specs.Laws.{PositionedLine, texts_of, log_text, positioned_bytes, positioned_lines, unmoved_lines}
+use Rattle.redo_page.proofs.PartNames.{log_bytes}
 use Rattle.redo_page.specs.Targets.{linked_parts, parts_if}
 use Rattle.redo_page.specs.Tree.{Build, articles, done_parts, empty_start, flat_start, heading_parts, is_empty, is_expanded, is_moved, is_moved_if, is_seen, level_of, max_depth, mention_parts, moved_parts, nested_start, node_at, note_parts, opening_parts, opening_position, position_of_name, request_parts, top_level}
 use Rattle.redo_page.specs.Private.Streaming.{after_log, after_shown, block_for, contents_parts, end_parts, group_left, group_start, item_parts, line_part, line_parts, line_size, line_start, log_end, log_start, shown_parts, streamed_tree}

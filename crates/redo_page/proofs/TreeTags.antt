@@ -26,7 +26,8 @@ use Rattle.redo_outline.specs.Contents.Contents.{Nothing, Shown, Opened}
 use Rattle.redo_outline.specs.Facts.{is_failure, text_size}
 use Rattle.redo_outline.specs.Outline.{log_count}
 use Rattle.redo_page.specs.declared.level.Level.{Level}
-use Rattle.redo_page.specs.Laws.{blank_event, blank_line, blanked, markup_of, markups}
+use Rattle.redo_page.specs.Laws.{blank_event, blanked, markup_of}
+use Rattle.redo_page.proofs.PartNames.{markups}
 use Rattle.redo_page.specs.Targets.{exit_parts, how_parts, linked_parts}
 use Rattle.redo_page.specs.Blocks.{lines_block, blocks_from, blocks_of, fit_together, max_block_bytes, max_block_lines, text_item}
 use Rattle.redo_page.specs.Tree.{Build, Items, are_group, articles, closing_parts, depth_parts, done_parts, empty_start, event_before, flat_end, flat_start, group_start_of, heading_parts, is_empty, is_expanded, is_in_level, is_moved_if, is_seen_done, items_of, items_parts, leading_logs, level_of, line_before, log_before, log_parts, max_depth, mention_parts, moved_parts, nested_end, nested_start, node_at, note_parts, note_prefix, opening_parts, opening_position, position_of, position_of_name, section_start, seen_parts, silent_parts, top_level}
@@ -46,6 +47,10 @@ block_markups block = markup.Pre ∷ markup.EndPre ∷ []
 both_same : (a b c d : List Part) → markups a ≡ markups c → markups b ≡ markups d → markups (a ++ b) ≡ markups (c ++ d)
 both_same a b c d first last = flat_map-append markup_of a b ∙ ap (λ t. t ++ markups b) first ∙ ap (λ t. markups c ++ t) last
     ∙ sym (flat_map-append markup_of c d)
+
+-- A text line, with each byte blanked.
+abbrev blank_line : List ℕ → List ℕ
+blank_line line = map (λ byte. 32) line
 
 size_same : (lines : List (List ℕ)) → text_size (map blank_line lines) ≡ text_size lines
 size_same [] = refl

@@ -1,6 +1,7 @@
 -- The statements of the laws.
-use Rattle.std.specs.Prelude.{◌≡◌, ◌⊎◌, ℕ, zero, suc, ◌+◌, ◌-◌, ◌*◌, ◌^◌, ◌<◌, ◌≤◌, ◌==◌, ◌||◌, ◌&&◌, nat_le, max, length, Bool, true, not, List, [], ◌∷◌, ◌++◌, map, Option, None, Some, is_none, is_some, codes, false, nat_eq, nat_lt, slice_get, take, drop, unwrap_or, if◌then◌else◌}
+use Rattle.std.specs.Prelude.{◌≡◌, ◌⊎◌, ℕ, suc, ◌+◌, ◌-◌, ◌*◌, ◌^◌, ◌<◌, ◌≤◌, ◌==◌, ◌||◌, ◌&&◌, nat_le, max, length, Bool, true, not, List, [], ◌∷◌, ◌++◌, map, Option, None, Some, is_none, is_some, codes, false, nat_eq, nat_lt, slice_get, take, drop, unwrap_or, if◌then◌else◌}
 use Rattle.std.specs.List.{AllByRecursion, Contains, filter, flat_map, list_any, starts_with}
+use Rattle.std.specs.Option.{option_eq}
 use Rattle.redo_compare.specs.Baseline.{BaselineValue}
 use Rattle.redo_compare.specs.Occurrences.{OccurrenceValue}
 use Rattle.redo_diagnostics.specs.Diagnostic.{diagnostic_of}
@@ -11,7 +12,6 @@ use Rattle.redo_line.specs.declared.entry.How.{How}
 use Rattle.redo_line.specs.Lines.{with_line_feed}
 use Rattle.redo_logs.specs.Logs.{Log, log_number}
 use Rattle.redo_view.specs.Event.{Event}
-use Rattle.redo_view.specs.LogLines.{text_lines}
 use Rattle.redo_view.specs.Event.Event.{Requested, Mentioned, EntryShown}
 use Rattle.redo_html.specs.declared.markup.Markup.{Markup}
 use Rattle.redo_html.specs.declared.markup.Markup.TheVariants.{BodyBad, BodyGood, BodyOpen, FailedSection, NewSection, EndSection, SummarySection, TimelineSection, TreeSection, FailedLink, NewLink, SummaryLink, TimelineLink, TreeLink, TargetLink, EndLink, OutputLink, Article, EndArticle, TargetItem, Details, OpenDetails, EndDetails, Summary, Title3, EndTitle3, MetaParagraph, Paragraph, QuietParagraph, EndParagraph, Ordered, OrderedFrom, EndOrdered, Item, EndItem, RowHeading, EndRowHeading, NumberCell, EndCell, Title1, EndTitle1, Sign, EndSign, DescriptionList, EndDescriptionList, Div, EndDiv, Term, EndTerm, Description, EndDescription, Code, EndCode, Pre, EndPre}
@@ -26,29 +26,31 @@ use Rattle.redo_html.specs.Tags.{markup_text}
 use Rattle.redo_outline.specs.declared.node.Node.{Node}
 use Rattle.redo_outline.specs.Contents.{Contents, contents_of}
 use Rattle.redo_outline.specs.Contents.Contents.{Nothing, Shown, Opened}
+use Rattle.redo_outline.specs.Facts as facts
 use Rattle.redo_outline.specs.Facts.{saturated, target_at, target_status, text_size}
 use Rattle.redo_outline.specs.Outline.{log_count}
 use Rattle.redo_page.specs.declared.labels.TheConstants.{AND_COUNT, AS_ONE_TEXT, AT_MOST, AT_ONCE, BUILD_TOOK, DEPENDENT, DIRECTORY, FAILED, FAILED_SIGN, FIXED, GONE, IN_ITS_LOG, LOGS, LOGS_IN, LOG_IN, MADE_SIGN, NEWLY_FAILING, NEW_LINES, NEW_SINCE, NOTHING_NEW, OF, PLACE_IN_TREE, PROCESSOR_TIME, SENTENCE_END, SHOWN_ABOVE, SUM_OF_TIMES, TARGETS, TARGETS_FAILED, TARGETS_MADE, TARGETS_UNFINISHED, TARGET_FAILED, TARGET_MADE, TARGET_UNFINISHED, TOOK, UNFINISHED_SIGN, WARNED_LINES}
 use Rattle.redo_page.specs.Command.{command}
 use Rattle.redo_page.specs.Errors.{cause_of}
-use Rattle.redo_page.specs.Article.{article_took, cause_parts, max_path, path_parts, printed_by}
+use Rattle.redo_page.specs.Article.{article_took, cause_parts, path_parts, printed_by}
 use Rattle.redo_page.specs.Failed.{is_dependent_failure, is_unclosed, positions_where}
-use Rattle.redo_page.specs.NewSection.{new_in}
-use Rattle.redo_page.specs.News.{NewsValue, has_news}
-use Rattle.redo_page.specs.Page.{Request, options_of, page_contents, page_events, page_facts, page_outline, page_parts}
-use Rattle.redo_page.specs.Recipe.{recipe_at}
-use Rattle.redo_page.specs.Scope.{began_parts, max_rows}
+use Rattle.redo_page.specs.NewSection.{fixed_since, gone_count, new_in, new_lines, newly_failing}
+use Rattle.redo_page.specs.Page.{Request, options_of, page_contents, page_events, page_outline, page_parts}
+use Rattle.redo_page.specs.Scope.{began_parts}
 use Rattle.redo_chart.specs.Laws.{DrawsAll, shapes_of}
 use Rattle.redo_summary.specs.declared.rank.Rank.{Rank}
-use Rattle.redo_summary.specs.Summary.{Facts, is_timed}
-use Rattle.redo_summary.specs.Targets.{duration_of, times_of}
-use Rattle.redo_summary.specs.Usage.{UsageFacts, usage_at}
-use Rattle.redo_summary.specs.Window.{cut}
+use Rattle.redo_summary.specs.declared.target.Target.{Target}
+use Rattle.redo_summary.specs.Callers.{callers_of, marks_of, recipes_of}
+use Rattle.redo_summary.specs.Summary.{bytes_of, sum_of, warnings_of}
+use Rattle.redo_summary.specs.Targets.{duration_of, targets_of, times_of}
+use Rattle.redo_summary.specs.Usage.{known_usages, processor_of, usage_at}
+use Rattle.redo_summary.specs.Window.{cut, known_times, time_over, window_over}
 use Rattle.redo_timeline.specs.Alone.{alone}
+use Rattle.redo_timeline.specs.Parallelism.{most_of}
 use Rattle.redo_timeline.specs.declared.span.Span.{Span}
 use Rattle.redo_timeline.specs.declared.span.Window.{Window}
 use Rattle.redo_times.specs.declared.times.Times.{Times}
-use Rattle.redo_page.specs.Tree.{Build, articles, has_failed, is_moved_if, is_root_failure, is_same_position, max_articles, node_at, root_failures}
+use Rattle.redo_page.specs.Tree.{Build, articles, is_moved_if, is_root_failure, max_articles, node_at, root_failures}
 use Rattle.redo_page.specs.Verdict.{is_unfinished, unfinished_count}
 use Rattle.redo_page.specs.Limits.{tree_limits}
 use Rattle.redo_page.specs.Targets.{badge_parts, facts_parts, how_parts, name_parts, parts_if, plural}
@@ -72,22 +74,14 @@ abbrev pub title_in : Part → List (List ℕ)
 title_in (TitlePart title) = title ∷ []
 title_in part = []
 
-abbrev pub first : {X : Type 0} → List X → Option X
-first [] = None
-first (item ∷ items) = Some item
-
 -- The body of a page in the colours of a failed build.
 abbrev pub IsRed : List Part → Type 0
-IsRed parts = first (flat_map body_tag parts) ≡ Some BodyBad
+IsRed parts = slice_get (flat_map body_tag parts) 0 ≡ Some BodyBad
 
 -- A title that begins with the sign of a failed build, a ballot cross (U+2717) in UTF-8.
 abbrev pub says_failed : Option (List ℕ) → Bool
 says_failed None = false
 says_failed (Some title) = starts_with nat_eq title (0xE2 ∷ 0x9C ∷ 0x97 ∷ [])
-
--- Whether a target that a page shows failed.
-abbrev pub shows_failure : Request → List Log → List (List ℕ) → Bool
-shows_failure request logs requested = list_any has_failed (page_outline request logs requested)
 
 -- ---- ids and links
 
@@ -98,33 +92,21 @@ target_id (MarkupPart (Details number)) = number ∷ []
 target_id (MarkupPart (OpenDetails number)) = number ∷ []
 target_id part = []
 
-abbrev pub target_ids : List Part → List ℕ
-target_ids parts = flat_map target_id parts
-
--- The links to targets.
+-- The links to targets, by their numbers.
 abbrev pub target_link : Part → List ℕ
 target_link (MarkupPart (TargetLink number)) = number ∷ []
 target_link (ChartPart drawing) = drawing_links drawing
 target_link part = []
-
-abbrev pub target_links : List Part → List ℕ
-target_links parts = flat_map target_link parts
 
 -- The ids of articles, by their numbers.
 abbrev pub article_id : Part → List ℕ
 article_id (MarkupPart (Article number)) = number ∷ []
 article_id part = []
 
-abbrev pub article_ids : List Part → List ℕ
-article_ids parts = flat_map article_id parts
-
 -- The links to articles.
 abbrev pub article_link : Part → List ℕ
 article_link (MarkupPart (OutputLink number)) = number ∷ []
 article_link part = []
-
-abbrev pub article_links : List Part → List ℕ
-article_links parts = flat_map article_link parts
 
 -- The ids of the sections of a page, and the links to them.
 abbrev pub section_id : Part → List (List ℕ)
@@ -135,9 +117,6 @@ section_id (MarkupPart TimelineSection) = codes "timeline" ∷ []
 section_id (MarkupPart TreeSection) = codes "tree" ∷ []
 section_id part = []
 
-abbrev pub section_ids : List Part → List (List ℕ)
-section_ids parts = flat_map section_id parts
-
 abbrev pub section_link : Part → List (List ℕ)
 section_link (MarkupPart FailedLink) = codes "failed" ∷ []
 section_link (MarkupPart NewLink) = codes "new" ∷ []
@@ -145,14 +124,6 @@ section_link (MarkupPart SummaryLink) = codes "summary" ∷ []
 section_link (MarkupPart TimelineLink) = codes "timeline" ∷ []
 section_link (MarkupPart TreeLink) = codes "tree" ∷ []
 section_link part = []
-
-abbrev pub section_links : List Part → List (List ℕ)
-section_links parts = flat_map section_link parts
-
--- `count` numbers, from `first` on.
-abbrev pub numbers_from : ℕ → ℕ → List ℕ
-numbers_from first zero = []
-numbers_from first (suc count) = first ∷ numbers_from (suc first) count
 
 abbrev pub is_among : List ℕ → ℕ → Bool
 is_among numbers number = list_any (λ other. number == other) numbers
@@ -193,7 +164,7 @@ module _ (logs : List Log) (nodes : List Node) where
       ⊎ ((how : How)
       × BeginWith (start ++ (name_parts (target_name position) ++ (how_parts true how ++ facts_parts (node_at nodes position)))) after)
 
-  -- An article begins with this name, the status of the target, how long it took, the logs around it, and a link to its place.
+  -- An article begins with this name, the status of the target, how long it took, at most four logs around it, and a link to its place.
   abbrev pub IsArticleHeading : ℕ → List Part → Type 0
   IsArticleHeading position after =
       BeginWith (MarkupPart Title3
@@ -201,7 +172,7 @@ module _ (logs : List Log) (nodes : List Node) where
       ++ (badge_parts (node_at nodes position).status
       ++ (MarkupPart EndTitle3 ∷ MarkupPart MetaParagraph
       ∷ (article_took (node_at nodes position).took
-      ++ (path_parts logs nodes (max_path logs nodes) (node_at nodes position).parent
+      ++ (path_parts logs nodes 4 (node_at nodes position).parent
       ++ MarkupPart (TargetLink position) ∷ TextPart PLACE_IN_TREE.now ∷ MarkupPart EndLink ∷ MarkupPart EndParagraph ∷ []))))))
       after
 
@@ -227,7 +198,7 @@ module _ (logs : List Log) (nodes : List Node) where
   -- Whether parts have a list of these targets, unless there are none. It names at most 200.
   abbrev pub IsListed : Bool → List Part → List ℕ → Type 0
   IsListed causes parts positions =
-      0 < length positions → IsPartOf (target_list (λ position. TargetLink position) causes (take max_rows positions)) parts
+      0 < length positions → IsPartOf (target_list (λ position. TargetLink position) causes (take 200 positions)) parts
 
   -- The lists of what failed: the targets with articles, if there are several; the other root failures; the dependent failures; and the targets
   -- at the ends of paths that have no record of how they ended. The first two lists say why each target failed.
@@ -245,12 +216,6 @@ module _ (logs : List Log) (nodes : List Node) where
   -- A list of these lines, up to its end.
   abbrev pub line_list : List Rank → List Part
   line_list ranks = flat_map line_item ranks ++ MarkupPart EndOrdered ∷ []
-
-  -- The lists of what is new: the lines with new warnings and errors, the targets that newly fail, and the fixed ones.
-  pub record ListsNews (news : NewsValue) (parts : List Part) : Type 0 where
-    pub lines : 0 < length news.lines → IsPartOf (line_list (take max_rows news.lines)) parts
-    pub failing : IsListed false parts news.failing
-    pub fixed : IsListed false parts news.fixed
 
   -- A row of a table: a link with the name of its target, the status of the target, and a value.
   abbrev pub IsRowWith : List Part → ℕ → List Part → Type 0
@@ -320,6 +285,12 @@ heading_tag (MarkupPart Title1) = Title1 ∷ []
 heading_tag (MarkupPart DescriptionList) = DescriptionList ∷ []
 heading_tag part = []
 
+-- Whether the summary has sums of times, and the page a timeline: there is a span, and at most a tenth of the spans and marks are marks.
+abbrev pub are_timed : List Target → Bool
+are_timed targets =
+    nat_lt 0 (length (callers_of targets) + length (recipes_of targets))
+    && nat_le (length (marks_of targets) * 10) (length (callers_of targets) + length (recipes_of targets) + length (marks_of targets))
+
 module _ (nodes : List Node) where
   -- The number of targets that failed without a failure below them, and the number of targets that failed with these.
   abbrev pub root_count : ℕ
@@ -336,25 +307,27 @@ module _ (nodes : List Node) where
       else heading_with MADE_SIGN.now (number_of (length nodes) TARGET_MADE.now TARGETS_MADE.now)
 
   -- The summary. Times that are unknown are left out.
-  abbrev pub summary_shown : Facts → UsageFacts → List Part
-  summary_shown facts usage =
+  abbrev pub summary_shown : List Target → Option ℕ → List Part
+  summary_shown targets processor =
+      let took = time_over (known_times targets) in
+      let sum = sum_of (recipes_of targets) in
       MarkupPart DescriptionList
       ∷ ((tile TARGETS.now (NumberPart (length nodes) ∷ [])
       ++ (tile FAILED.now (NumberPart root_count ∷ parts_if (not (dependent_count == 0)) (TextPart AND_COUNT.now ∷ NumberPart dependent_count ∷ TextPart DEPENDENT.now ∷ []))
-      ++ (tile WARNED_LINES.now (NumberPart facts.warnings ∷ [])
-      ++ (tile LOGS.now (words_parts (size_words facts.bytes))
-      ++ (parts_if (is_some facts.window) (tile TOOK.now (words_parts (duration_words facts.took)))
-      ++ (parts_if (is_timed facts)
-      (tile SUM_OF_TIMES.now (words_parts (duration_words facts.sum))
-      ++ tile AT_ONCE.now (words_parts (tenths_words facts.sum facts.took) ++ TextPart AT_MOST.now ∷ NumberPart facts.most ∷ []))
-      ++ parts_if (is_some usage.processor) (tile PROCESSOR_TIME.now (words_parts (duration_words (unwrap_or usage.processor 0))))))))))
+      ++ (tile WARNED_LINES.now (NumberPart (warnings_of nodes) ∷ [])
+      ++ (tile LOGS.now (words_parts (size_words (bytes_of nodes)))
+      ++ (parts_if (is_some (window_over (known_times targets))) (tile TOOK.now (words_parts (duration_words took)))
+      ++ (parts_if (are_timed targets)
+      (tile SUM_OF_TIMES.now (words_parts (duration_words sum))
+      ++ tile AT_ONCE.now (words_parts (tenths_words sum took) ++ TextPart AT_MOST.now ∷ NumberPart (most_of (recipes_of targets)) ∷ []))
+      ++ parts_if (is_some processor) (tile PROCESSOR_TIME.now (words_parts (duration_words (unwrap_or processor 0))))))))))
       ++ MarkupPart EndDescriptionList ∷ [])
 
--- When the build began, if this has a date, and how long it took, if any time is known.
-abbrev pub took_shown : Facts → List Part
-took_shown facts =
-    parts_if (is_some facts.window)
-    (MarkupPart MetaParagraph ∷ (began_parts facts.window ++ TextPart BUILD_TOOK.now ∷ (words_parts (duration_words facts.took) ++ MarkupPart EndParagraph ∷ [])))
+-- When the build began, if this has a date, and how long it took, if any time is known. `times` are the known times.
+abbrev pub took_shown : List ℕ → List Part
+took_shown times =
+    parts_if (is_some (window_over times))
+    (MarkupPart MetaParagraph ∷ (began_parts (window_over times) ++ TextPart BUILD_TOOK.now ∷ (words_parts (duration_words (time_over times)) ++ MarkupPart EndParagraph ∷ [])))
 
 -- The name and the status of a target, if it was requested and its log is in no other one.
 abbrev pub requested_shown : List Log → Node → List Part
@@ -381,11 +354,6 @@ abbrev pub IsListedBefore : List Node → ℕ → ℕ → Type 0
 IsListedBefore nodes position other =
     EndsBefore (node_at nodes position).ended (node_at nodes other).ended
     ⊎ (((node_at nodes position).ended ≡ (node_at nodes other).ended) × (position < other))
-
--- Each target is listed before all those that follow.
-abbrev pub AreInOrderOfEnd : List Node → List ℕ → Type 0
-AreInOrderOfEnd nodes [] = Unit {0}
-AreInOrderOfEnd nodes (position ∷ positions) = AllByRecursion (IsListedBefore nodes position) positions × AreInOrderOfEnd nodes positions
 
 -- Among the targets below each dependent failure is a root failure. `take node.below nodes` are the nodes of the targets below.
 abbrev pub ContainRoots : List Node → Type 0
@@ -415,14 +383,22 @@ module _ (baseline : BaselineValue) (logs : List Log) (nodes : List Node) where
         values_at position lines ≡ map (λ (one : OccurrenceValue). one.line) (new_in baseline logs (node_at nodes position))
     pub of_nodes : AllByRecursion IsLineOfNode lines
 
--- The sentence that has the numbers.
-abbrev pub news_shown : NewsValue → List Part
-news_shown news =
-    MarkupPart QuietParagraph
-    ∷ (parts_if (not (has_news news)) (TextPart NOTHING_NEW.now ∷ [])
-    ++ TextPart NEW_LINES.now ∷ NumberPart (length news.lines) ∷ TextPart GONE.now ∷ NumberPart news.gone
-    ∷ TextPart NEWLY_FAILING.now ∷ NumberPart (length news.failing) ∷ TextPart FIXED.now ∷ NumberPart (length news.fixed)
-    ∷ TextPart SENTENCE_END.now ∷ MarkupPart EndParagraph ∷ [])
+  -- The sentence that has the numbers.
+  abbrev pub news_shown : List Part
+  news_shown =
+      let lines = length (new_lines baseline logs 0 nodes) in
+      let failing = length (newly_failing baseline logs nodes) in
+      MarkupPart QuietParagraph
+      ∷ (parts_if (lines == 0 && failing == 0) (TextPart NOTHING_NEW.now ∷ [])
+      ++ TextPart NEW_LINES.now ∷ NumberPart lines ∷ TextPart GONE.now ∷ NumberPart (gone_count baseline logs nodes)
+      ∷ TextPart NEWLY_FAILING.now ∷ NumberPart failing ∷ TextPart FIXED.now ∷ NumberPart (length (fixed_since baseline logs nodes))
+      ∷ TextPart SENTENCE_END.now ∷ MarkupPart EndParagraph ∷ [])
+
+  -- The lists of what is new: the lines with new warnings and errors, the targets that newly fail, and the fixed ones.
+  pub record ListsNews (parts : List Part) : Type 0 where
+    pub lines : 0 < length (new_lines baseline logs 0 nodes) → IsPartOf (line_list logs nodes (take 200 (new_lines baseline logs 0 nodes))) parts
+    pub failing : IsListed logs nodes false parts (newly_failing baseline logs nodes)
+    pub fixed : IsListed logs nodes false parts (fixed_since baseline logs nodes)
 
 -- The item that leads to the section.
 abbrev pub news_link : List Part
@@ -436,7 +412,7 @@ pub record HasNewSection (page other : List Part) : Type 0 where
   pub after : List Part
   pub with_both : before ++ (news_link ++ (middle ++ (MarkupPart NewSection ∷ (inside ++ MarkupPart EndSection ∷ after)))) ≡ page
   pub without : before ++ (middle ++ after) ≡ other
-  pub one_section : section_ids inside ≡ []
+  pub one_section : flat_map section_id inside ≡ []
 
 -- ---- recipes
 
@@ -455,18 +431,12 @@ abbrev pub part_chart : Part → List Drawing
 part_chart (ChartPart drawing) = drawing ∷ []
 part_chart part = []
 
-abbrev pub charts : List Part → List Drawing
-charts parts = flat_map part_chart parts
-
 -- ---- text lines
 
 -- The text of logs in parts, in order.
 abbrev pub log_text : Part → List ℕ
 log_text (LogPart style text) = text
 log_text part = []
-
-abbrev pub log_bytes : List Part → List ℕ
-log_bytes parts = flat_map log_text parts
 
 -- The text line that an event shows, if it shows one.
 abbrev pub event_lines : Event → List (List ℕ)
@@ -501,11 +471,11 @@ positioned_bytes lines = flat_map with_line_feed (texts_of lines)
 
 -- No log has as many as 2^64 bytes of text lines.
 abbrev pub AreCountable : List Log → Type 0
-AreCountable logs = AllByRecursion (λ (log : Log). text_size (text_lines log.entries) < 2 ^ 64) logs
+AreCountable logs = AllByRecursion (λ (log : Log). text_size (facts.texts_of log.entries) < 2 ^ 64) logs
 
 -- The lines of the log at a position.
 abbrev pub lines_at : ℕ → List PositionedLine → List PositionedLine
-lines_at position lines = filter (λ (positioned : PositionedLine). is_same_position positioned.position (Some position)) lines
+lines_at position lines = filter (λ (positioned : PositionedLine). option_eq nat_eq positioned.position (Some position)) lines
 
 -- The lines of the logs whose output isn't in an article.
 abbrev pub unmoved_lines : Build → List PositionedLine → List PositionedLine
@@ -552,19 +522,23 @@ module _ (request : Request) (logs : List Log) (requested : List (List ℕ)) whe
   abbrev pub IsArticle : ℕ → List Part → Type 0
   IsArticle position inside = IsInside (Article position) EndArticle inside (page_parts request logs requested)
 
-  -- What is known of the recipe of the target at a position.
-  abbrev pub page_recipe : ℕ → RecipeFacts
-  page_recipe position = recipe_at request.recipes (node_at (page_outline request logs requested) position).number
+  -- The shown targets, with their times.
+  abbrev pub page_targets : List Target
+  page_targets = targets_of (page_outline request logs requested) request.times
+
+  -- The processor time of the recipes that ran no others, if it is known.
+  abbrev pub page_processor : Option ℕ
+  page_processor = processor_of (known_usages (page_outline request logs requested) request.recipes (recipes_of page_targets))
 
   -- Whether the page has a timeline, with this window.
   abbrev pub HasTimeline : Window → Type 0
-  HasTimeline window = ((page_facts request logs requested).window ≡ Some window) × (is_timed (page_facts request logs requested) ≡ true)
+  HasTimeline window = (window_over (known_times page_targets) ≡ Some window) × (are_timed page_targets ≡ true)
 
   -- Each chart of the page draws these spans as its bars of one kind.
   abbrev pub ChartsDraw : Window → GroupKind → List Span → Type 0
   ChartsDraw window kind spans =
       AllByRecursion (λ drawing. DrawsAll logs (page_outline request logs requested) window kind spans (shapes_of kind drawing))
-      (charts (page_parts request logs requested))
+      (flat_map part_chart (page_parts request logs requested))
 
 -- ---- tags
 
@@ -574,24 +548,17 @@ IsOwnTag tag =
     ((markup : Markup) × (tag ≡ markup_text markup))
     ⊎ (((is_highlight tag || is_one_of tag (codes "title" ∷ codes "/title" ∷ codes "style" ∷ codes "/style" ∷ [])) ≡ true) ⊎ IsChartTag tag)
 
+-- The tag of a part, without highlights.
 abbrev pub markup_of : Part → List Markup
 markup_of (MarkupPart markup) = markup ∷ []
 markup_of part = []
-
--- The tags of parts, without highlights.
-abbrev pub markups : List Part → List Markup
-markups parts = flat_map markup_of parts
-
--- A text line, with each byte blanked.
-abbrev pub blank_line : List ℕ → List ℕ
-blank_line line = map (λ byte. 32) line
 
 module _ (rename : List ℕ → List ℕ) where
   -- An event, with targets renamed, and with notes and text lines blanked.
   abbrev pub blank_event : Event → Event
   blank_event (Requested name opening) = Requested (rename name) opening
   blank_event (Mentioned depth pid how name opening) = Mentioned depth pid how (rename name) opening
-  blank_event (EntryShown depth (Text line)) = EntryShown depth (Text (blank_line line))
+  blank_event (EntryShown depth (Text line)) = EntryShown depth (Text (map (λ byte. 32) line))
   blank_event (EntryShown depth (Done pid status name)) = EntryShown depth (Done pid status (rename name))
   blank_event (EntryShown depth (Note pid kind text)) = EntryShown depth (Note pid [] [])
   blank_event event = event

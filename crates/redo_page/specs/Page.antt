@@ -28,7 +28,7 @@ use Rattle.redo_page.specs.Tree.{Build, articles, no_node, root_failures, tree_p
 use Rattle.redo_trim.specs.Trim.{trim}
 use Rattle.redo_summary.specs.Summary.{Facts, summary_of}
 use Rattle.redo_summary.specs.Targets.{time_between}
-use Rattle.redo_summary.specs.Usage.{UsageFacts, usage_of}
+use Rattle.redo_summary.specs.Usage.{usage_of}
 use Rattle.redo_times.specs.declared.times.Times.{Times}
 
 -- The parameters of a page: a title, or none if it is empty; the capture directory as it was given; whether unchanged targets are shown,
@@ -116,10 +116,6 @@ module _ (request : Request) (logs : List Log) (requested : List (List ℕ)) whe
   -- The facts about the times of the shown targets.
   abbrev pub page_facts : Facts
   page_facts = summary_of page_outline request.times
-
-  -- What the recipes used that ran no others.
-  abbrev pub page_usage : UsageFacts
-  page_usage = usage_of page_outline request.recipes page_facts.recipes
 
   -- What is new since the baseline.
   abbrev pub page_news : NewsValue

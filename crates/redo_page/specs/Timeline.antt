@@ -1,5 +1,5 @@
 -- The timeline of a build: the section with a bar for each target. Around the chart are the templates `START` and `END` in src/timeline.rt.
-use Rattle.std.specs.Prelude.{◌&&◌, Bool, is_some, List, [], ◌∷◌, ◌++◌, Option, None, Some}
+use Rattle.std.specs.Prelude.{List, [], ◌∷◌, ◌++◌, Option, None, Some}
 use Rattle.redo_logs.specs.Logs.{Log}
 use Rattle.redo_chart.specs.Timeline.{timeline_drawing}
 use Rattle.redo_html.specs.Chart.{Drawing}
@@ -12,10 +12,6 @@ use Rattle.redo_page.specs.Targets.{parts_if}
 use Rattle.redo_page.specs.Template.{template_parts}
 use Rattle.redo_summary.specs.Summary.{Facts, is_timed}
 use Rattle.redo_timeline.specs.declared.span.Window.{Window}
-
--- Whether there is a timeline: most times are known.
-abbrev pub has_timeline : Facts → Bool
-has_timeline facts = is_some facts.window && is_timed facts
 
 abbrev pub facts_drawing : List Log → List Node → Facts → Window → Drawing
 facts_drawing logs nodes facts window = timeline_drawing logs nodes window facts.callers facts.recipes facts.marks

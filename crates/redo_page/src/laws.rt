@@ -1,6 +1,6 @@
 //! Laws about the definitions alone: their contracts are theorems, and their bodies are empty or cite laws of other crates.
 ghost use Rattle.std.specs.Prelude.{is_some, ◌==◌, ◌≡◌, ℕ, true, [], ◌∷◌, ◌++◌, List, None, Some, length, map, nat_eq, ◌<◌, ◌≤◌, false, ◌^◌};
-ghost use Rattle.std.specs.List.{All, AllByRecursion, IsDistinct, flat_map, list_all};
+ghost use Rattle.std.specs.List.{All, AllByRecursion, AllPairs, IsDistinct, flat_map, list_all, list_any, range_with_len, slice_get};
 ghost use Rattle.std.specs.List.Sorted.{IsPermutation};
 ghost use Rattle.redo_compare.specs.Baseline.{BaselineValue};
 ghost use Rattle.redo_html.specs.Html.{nests_in, read, tags_of, text_of};
@@ -16,19 +16,21 @@ ghost use Rattle.redo_logs.specs.Logs.{Log};
 ghost use Rattle.redo_options.specs.declared.options.Options.{Options};
 ghost use Rattle.redo_view.specs.View.{find_unknown};
 ghost use Rattle.redo_outline.specs.declared.node.Node.{Node};
-ghost use Rattle.redo_page.specs.Laws.{AreBeginnings, AreNewLines, HasNewSection, ListsNews, news_shown, AreInOrderOfEnd, ContainRoots, ListsFailures, ShowsRecipe, HasSameShape, IsArticle, IsLog, IsOfTarget, IsOwnTag, IsPartOf, IsTree, IsRed, AreCountable, budget_of_tree, TellsItsTarget, article_ids, article_links, event_lines, is_among, kept_lines, kept_within, lines_at, log_bytes, markups, numbers_from, page_lines, page_recipe, positioned_bytes, section_ids, section_links, target_ids, target_links, texts_of, unmoved_lines, charts, ChartsDraw, HasTimeline, end_shown, first, heading_shown, heading_tag, requested_shown, summary_shown, took_shown, page_limit, says_failed, shows_failure, title_in};
+ghost use Rattle.redo_page.specs.Laws.{AreBeginnings, AreNewLines, HasNewSection, ListsNews, news_shown, IsListedBefore, ContainRoots, ListsFailures, ShowsRecipe, HasSameShape, IsArticle, IsLog, IsOfTarget, IsOwnTag, IsPartOf, IsTree, IsRed, AreCountable, budget_of_tree, TellsItsTarget, article_id, article_link, event_lines, is_among, kept_lines, kept_within, lines_at, log_text, markup_of, page_lines, positioned_bytes, section_id, section_link, target_id, target_link, texts_of, unmoved_lines, part_chart, ChartsDraw, HasTimeline, end_shown, heading_shown, heading_tag, requested_shown, summary_shown, took_shown, page_limit, page_processor, page_targets, says_failed, title_in};
 ghost use Rattle.redo_page.specs.Command.{command};
 ghost use Rattle.redo_page.specs.Failed.{is_dependent_failure, positions_where};
 ghost use Rattle.redo_page.specs.Limits.{bytes_shown, highest_cap};
-ghost use Rattle.redo_page.specs.NewSection.{news_since};
-ghost use Rattle.redo_page.specs.Page.{Request, page_build, page_events, page_facts, page_html, page_news, page_outline, page_parts, page_usage};
+ghost use Rattle.redo_page.specs.NewSection.{new_lines};
+ghost use Rattle.redo_page.specs.Page.{Request, page_build, page_events, page_html, page_outline, page_parts};
 ghost use Rattle.redo_page.specs.Article.{printed_by};
+ghost use Rattle.redo_page.specs.Recipe.{recipe_at};
 ghost use Rattle.redo_page.specs.Tree.{articles, root_failures, has_failed, is_moved, node_at};
 ghost use Rattle.redo_html.specs.declared.chart.GroupKind.TheVariants.{Callers, Recipes, Untimed};
 ghost use Rattle.redo_trim.specs.Laws.{head_and_tail};
-ghost use Rattle.redo_summary.specs.Laws.{AreSplit, IsOverTimes};
+ghost use Rattle.redo_summary.specs.Callers.{callers_of, marks_of, recipes_of, spans_of};
+ghost use Rattle.redo_summary.specs.Laws.{IsOverTimes};
+ghost use Rattle.redo_summary.specs.Window.{known_times, time_over};
 ghost use Rattle.redo_timeline.specs.declared.span.Window.{Window};
-ghost use Rattle.redo_page.specs.Timeline.{has_timeline};
 
 use redo_chart::{bars_lead_to_positions, bars_say_when_targets_ran};
 use redo_html::{
@@ -67,19 +69,22 @@ pub fn tags_nest()
 /// log of its target. There is one link to each section.
 pub fn links_lead_to_ids()
     ensures targets { (request : Request) (logs : List Log) (requested : List (List ℕ)) →
-        target_ids (page_parts request logs requested) ≡ numbers_from 0 (length (page_outline request logs requested)) }
+        flat_map target_id (page_parts request logs requested) ≡ range_with_len 0 (length (page_outline request logs requested)) }
     ensures articles { (request : Request) (logs : List Log) (requested : List (List ℕ)) →
-        article_ids (page_parts request logs requested) ≡ articles (page_outline request logs requested) }
+        flat_map article_id (page_parts request logs requested) ≡ articles (page_outline request logs requested) }
     ensures articles_once { (request : Request) (logs : List Log) (requested : List (List ℕ)) →
-        IsDistinct nat_eq (article_ids (page_parts request logs requested)) }
+        IsDistinct nat_eq (flat_map article_id (page_parts request logs requested)) }
     ensures target_links { (request : Request) (logs : List Log) (requested : List (List ℕ)) →
-        list_all (is_among (target_ids (page_parts request logs requested))) (target_links (page_parts request logs requested)) ≡ true }
+        list_all (is_among (flat_map target_id (page_parts request logs requested)))
+        (flat_map target_link (page_parts request logs requested)) ≡ true }
     ensures own_links { (request : Request) (logs : List Log) (requested : List (List ℕ)) (position : ℕ) (inside : List Part) →
-        IsArticle request logs requested position inside → list_all (λ number. number == position) (target_links inside) ≡ true }
+        IsArticle request logs requested position inside →
+        list_all (λ number. number == position) (flat_map target_link inside) ≡ true }
     ensures article_links { (request : Request) (logs : List Log) (requested : List (List ℕ)) →
-        list_all (is_among (article_ids (page_parts request logs requested))) (article_links (page_parts request logs requested)) ≡ true }
+        list_all (is_among (flat_map article_id (page_parts request logs requested)))
+        (flat_map article_link (page_parts request logs requested)) ≡ true }
     ensures section_links { (request : Request) (logs : List Log) (requested : List (List ℕ)) →
-        section_links (page_parts request logs requested) ≡ section_ids (page_parts request logs requested) }
+        flat_map section_link (page_parts request logs requested) ≡ flat_map section_id (page_parts request logs requested) }
 {
     positions_are_of_nodes();
     bars_lead_to_positions();
@@ -93,7 +98,8 @@ pub fn links_lead_to_ids()
 pub fn targets_have_their_names()
     ensures names { (request : Request) (logs : List Log) (requested : List (List ℕ)) →
         (before : List Part) (tag : Markup) (after : List Part) → before ++ (MarkupPart tag ∷ after) ≡ page_parts request logs requested →
-        TellsItsTarget logs (page_outline request logs requested) request.recipes (page_facts request logs requested).recipes tag after }
+        TellsItsTarget logs (page_outline request logs requested) request.recipes (recipes_of (page_targets request logs requested))
+        tag after }
     ensures targets { (request : Request) (logs : List Log) (requested : List (List ℕ)) →
         AllByRecursion (IsOfTarget logs (page_events request logs requested) request.times) (page_outline request logs requested) }
     ensures requested { (request : Request) (logs : List Log) (requested : List (List ℕ)) →
@@ -110,10 +116,10 @@ pub fn numbers_are_shown()
     ensures heading { (request : Request) (logs : List Log) (requested : List (List ℕ)) →
         IsPartOf (heading_shown (page_outline request logs requested)) (page_parts request logs requested) }
     ensures summary { (request : Request) (logs : List Log) (requested : List (List ℕ)) →
-        IsPartOf (summary_shown (page_outline request logs requested) (page_facts request logs requested)
-        (page_usage request logs requested)) (page_parts request logs requested) }
+        IsPartOf (summary_shown (page_outline request logs requested) (page_targets request logs requested)
+        (page_processor request logs requested)) (page_parts request logs requested) }
     ensures took { (request : Request) (logs : List Log) (requested : List (List ℕ)) →
-        IsPartOf (took_shown (page_facts request logs requested)) (page_parts request logs requested) }
+        IsPartOf (took_shown (known_times (page_targets request logs requested))) (page_parts request logs requested) }
     ensures command { (request : Request) (logs : List Log) (requested : List (List ℕ)) →
         IsPartOf (end_shown request requested (page_outline request logs requested)) (page_parts request logs requested) }
     ensures once { (request : Request) (logs : List Log) (requested : List (List ℕ)) →
@@ -127,11 +133,12 @@ pub fn numbers_are_shown()
 /// The body of a page has the colours of a failed build, and its title the sign of one, exactly if a target that the page shows failed.
 pub fn failed_builds_are_red()
     ensures red { (request : Request) (logs : List Log) (requested : List (List ℕ)) →
-        shows_failure request logs requested ≡ true → IsRed (page_parts request logs requested) }
+        list_any has_failed (page_outline request logs requested) ≡ true → IsRed (page_parts request logs requested) }
     ensures only { (request : Request) (logs : List Log) (requested : List (List ℕ)) →
-        shows_failure request logs requested ≡ false → IsRed (page_parts request logs requested) → ⊥ }
+        list_any has_failed (page_outline request logs requested) ≡ false → IsRed (page_parts request logs requested) → ⊥ }
     ensures title { (request : Request) (logs : List Log) (requested : List (List ℕ)) →
-        says_failed (first (flat_map title_in (page_parts request logs requested))) ≡ shows_failure request logs requested }
+        says_failed (slice_get (flat_map title_in (page_parts request logs requested)) 0)
+        ≡ list_any has_failed (page_outline request logs requested) }
 {
     nodes_sum_up_logs_below();
 }
@@ -143,7 +150,7 @@ pub fn failed_builds_are_red()
 pub fn failures_are_listed()
     ensures listed { (nodes : List Node) →
         IsPermutation (positions_where has_failed 0 nodes) (root_failures nodes ++ positions_where is_dependent_failure 0 nodes) }
-    ensures in_order { (nodes : List Node) → AreInOrderOfEnd nodes (root_failures nodes) }
+    ensures in_order { (nodes : List Node) → AllPairs (IsListedBefore nodes) (root_failures nodes) }
     ensures found { (request : Request) (logs : List Log) (requested : List (List ℕ)) →
         ContainRoots (page_outline request logs requested) }
     ensures named { (request : Request) (logs : List Log) (requested : List (List ℕ)) →
@@ -158,12 +165,14 @@ pub fn failures_are_listed()
 /// one of the log that its link leads to, is a warning or an error, and is new; and each new one of a shown target is among them, in
 /// order. The section, and the link to it, are all that a baseline changes.
 pub fn news_are_shown()
-    ensures numbers { (request : Request) (logs : List Log) (requested : List (List ℕ)) → is_some request.baseline ≡ true →
-        IsPartOf (news_shown (page_news request logs requested)) (page_parts request logs requested) }
-    ensures listed { (request : Request) (logs : List Log) (requested : List (List ℕ)) → is_some request.baseline ≡ true →
-        ListsNews logs (page_outline request logs requested) (page_news request logs requested) (page_parts request logs requested) }
+    ensures numbers { (request : Request) (logs : List Log) (requested : List (List ℕ)) (baseline : BaselineValue) →
+        request.baseline ≡ Some baseline →
+        IsPartOf (news_shown baseline logs (page_outline request logs requested)) (page_parts request logs requested) }
+    ensures listed { (request : Request) (logs : List Log) (requested : List (List ℕ)) (baseline : BaselineValue) →
+        request.baseline ≡ Some baseline →
+        ListsNews baseline logs (page_outline request logs requested) (page_parts request logs requested) }
     ensures lines { (baseline : BaselineValue) (logs : List Log) (nodes : List Node) →
-        AreNewLines baseline logs nodes (news_since baseline logs nodes).lines }
+        AreNewLines baseline logs nodes (new_lines baseline logs 0 nodes) }
     ensures otherwise { (request : Request) (logs : List Log) (requested : List (List ℕ)) → is_some request.baseline ≡ true →
         HasNewSection (page_parts request logs requested) (page_parts (record request { baseline = None }) logs requested) }
 {
@@ -182,7 +191,7 @@ pub fn lines_are_shown()
     ensures complete { (request : Request) (logs : List Log) (requested : List (List ℕ)) → find_unknown logs requested ≡ None →
         texts_of (page_lines request logs requested) ≡ flat_map event_lines (page_events request logs requested) }
     ensures tree { (request : Request) (logs : List Log) (requested : List (List ℕ)) (inside : List Part) →
-        IsTree request logs requested inside → log_bytes inside
+        IsTree request logs requested inside → flat_map log_text inside
         ≡ positioned_bytes (unmoved_lines (page_build request logs requested) (kept_lines request logs requested)) }
     ensures whole { (request : Request) (logs : List Log) (requested : List (List ℕ)) → request.max_bytes ≡ 0 →
         find_unknown logs requested ≡ None → kept_lines request logs requested ≡ page_lines request logs requested }
@@ -196,19 +205,20 @@ pub fn lines_are_shown()
     ensures bounded { (request : Request) (logs : List Log) (requested : List (List ℕ)) → 0 < request.max_bytes →
         request.max_bytes < 2 ^ 64 → AreCountable logs → find_unknown logs requested ≡ None →
         (inside : List Part) → IsTree request logs requested inside →
-        length (log_bytes inside) ≤ budget_of_tree request logs requested }
+        length (flat_map log_text inside) ≤ budget_of_tree request logs requested }
     ensures has_tree { (request : Request) (logs : List Log) (requested : List (List ℕ)) →
         (inside : List Part) × IsTree request logs requested inside }
     ensures inside { (request : Request) (logs : List Log) (requested : List (List ℕ)) (position : ℕ) (inside : List Part) →
-        IsLog request logs requested position inside → log_bytes inside
+        IsLog request logs requested position inside → flat_map log_text inside
         ≡ positioned_bytes (unmoved_lines (page_build request logs requested) (kept_within request logs requested position)) }
     ensures articles { (request : Request) (logs : List Log) (requested : List (List ℕ)) → find_unknown logs requested ≡ None →
         (position : ℕ) → is_moved (page_build request logs requested) position ≡ true →
         (inside : List Part) → IsArticle request logs requested position inside →
-        log_bytes inside ≡ positioned_bytes (lines_at position (page_lines request logs requested)) }
+        flat_map log_text inside ≡ positioned_bytes (lines_at position (page_lines request logs requested)) }
     ensures excerpts { (request : Request) (logs : List Log) (requested : List (List ℕ)) (position : ℕ) (inside : List Part) →
         IsArticle request logs requested position inside →
-        AreBeginnings (log_bytes inside) (map with_line_feed (printed_by logs (node_at (page_outline request logs requested) position))) }
+        AreBeginnings (flat_map log_text inside)
+        (map with_line_feed (printed_by logs (node_at (page_outline request logs requested) position))) }
     ensures has_articles { (request : Request) (logs : List Log) (requested : List (List ℕ)) →
         (position : ℕ) → is_moved (page_build request logs requested) position ≡ true →
         (inside : List Part) × IsArticle request logs requested position inside }
@@ -239,7 +249,8 @@ pub fn recipes_are_shown()
         is_among (articles (page_outline request logs requested)) position ≡ true →
         (inside : List Part) × IsArticle request logs requested position inside }
     ensures recipes { (request : Request) (logs : List Log) (requested : List (List ℕ)) (position : ℕ) (inside : List Part) →
-        IsArticle request logs requested position inside → ShowsRecipe (page_recipe request logs requested position) inside }
+        IsArticle request logs requested position inside →
+        ShowsRecipe (recipe_at request.recipes (node_at (page_outline request logs requested) position).number) inside }
 {
     positions_are_of_nodes();
     bars_lead_to_positions();
@@ -263,7 +274,7 @@ pub fn tags_are_its_own()
     ensures tree { (request other : Request) (logs others : List Log) (requested other_requested : List (List ℕ)) →
         (rename : List ℕ → List ℕ) → HasSameShape request logs requested rename other others other_requested →
         (inside other_inside : List Part) → IsTree request logs requested inside → IsTree other others other_requested other_inside →
-        markups other_inside ≡ markups inside }
+        flat_map markup_of other_inside ≡ flat_map markup_of inside }
 {
     positions_are_of_nodes();
     bars_lead_to_positions();
@@ -279,23 +290,26 @@ pub fn tags_are_its_own()
 /// least 0.1 % of the chart. The text of its tooltip is `title_of` of its spans. The chart shows marks in the same way.
 pub fn times_are_shown()
     ensures chart { (request : Request) (logs : List Log) (requested : List (List ℕ)) (window : Window) →
-        HasTimeline request logs requested window → length (charts (page_parts request logs requested)) ≡ 1 }
+        HasTimeline request logs requested window → length (flat_map part_chart (page_parts request logs requested)) ≡ 1 }
     ensures no_chart { (request : Request) (logs : List Log) (requested : List (List ℕ)) →
-        has_timeline (page_facts request logs requested) ≡ false → charts (page_parts request logs requested) ≡ [] }
+        ((window : Window) → HasTimeline request logs requested window → ⊥) →
+        flat_map part_chart (page_parts request logs requested) ≡ [] }
     ensures window { (request : Request) (logs : List Log) (requested : List (List ℕ)) (window : Window) →
         HasTimeline request logs requested window →
-        IsOverTimes (page_outline request logs requested) request.times (page_facts request logs requested).took window }
+        IsOverTimes (page_outline request logs requested) request.times
+        (time_over (known_times (page_targets request logs requested))) window }
     ensures spans { (request : Request) (logs : List Log) (requested : List (List ℕ)) →
-        AreSplit (page_outline request logs requested) request.times (page_facts request logs requested) }
+        IsPermutation (spans_of (page_targets request logs requested))
+        (callers_of (page_targets request logs requested) ++ recipes_of (page_targets request logs requested)) }
     ensures callers { (request : Request) (logs : List Log) (requested : List (List ℕ)) (window : Window) →
         HasTimeline request logs requested window →
-        ChartsDraw request logs requested window Callers (page_facts request logs requested).callers }
+        ChartsDraw request logs requested window Callers (callers_of (page_targets request logs requested)) }
     ensures recipes { (request : Request) (logs : List Log) (requested : List (List ℕ)) (window : Window) →
         HasTimeline request logs requested window →
-        ChartsDraw request logs requested window Recipes (page_facts request logs requested).recipes }
+        ChartsDraw request logs requested window Recipes (recipes_of (page_targets request logs requested)) }
     ensures marks { (request : Request) (logs : List Log) (requested : List (List ℕ)) (window : Window) →
         HasTimeline request logs requested window →
-        ChartsDraw request logs requested window Untimed (page_facts request logs requested).marks }
+        ChartsDraw request logs requested window Untimed (marks_of (page_targets request logs requested)) }
 {
     window_is_over_known_times();
     spans_are_callers_or_recipes();

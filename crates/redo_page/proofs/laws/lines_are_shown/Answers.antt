@@ -14,7 +14,8 @@ use Rattle.redo_outline.specs.Facts.{entries_at, target_status, texts_of}
 use Rattle.redo_view.specs.LogLines.{lines_left_after}
 use Rattle.redo_page.specs.Article.{printed_by}
 use Rattle.redo_page.specs.Laws as laws
-use Rattle.redo_page.specs.Laws.{AreBeginnings, budget_of_tree, event_lines, lines_at, log_bytes, log_text, page_lines, positioned_bytes, positioned_lines}
+use Rattle.redo_page.specs.Laws.{AreBeginnings, budget_of_tree, event_lines, lines_at, log_text, page_lines, positioned_bytes, positioned_lines}
+use Rattle.redo_page.proofs.PartNames.{log_bytes}
 use Rattle.redo_page.specs.Page.{Request, options_of, page_build, page_contents, page_events, page_outline, run_times}
 use Rattle.redo_page.specs.Tree as tree
 use Rattle.redo_page.specs.Tree.{articles, is_moved, is_short, node_at}

@@ -2,7 +2,8 @@ use Rattle.std.proofs.Common.{List, refl, sym, ◌∙◌, ap, subst}
 use Rattle.std.specs.Prelude.{◌==◌, nat_eq}
 use Rattle.std.specs.List.{IsDistinct, list_all}
 use Rattle.redo_html.specs.Parts.{Part}
-use Rattle.redo_page.specs.Laws.{target_link, target_links}
+use Rattle.redo_page.specs.Laws.{target_link}
+use Rattle.redo_page.proofs.PartNames.{target_links}
 use Rattle.redo_page.specs.Page.{page_outline}
 use Rattle.redo_page.proofs.FailedOrder.{articles_distinct}
 use Rattle.redo_page.proofs.ElementParts.{in_article}

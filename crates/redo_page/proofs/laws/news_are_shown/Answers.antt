@@ -1,13 +1,17 @@
+use Rattle.std.proofs.Common.{ap}
+use Rattle.std.specs.Prelude.{is_some}
 use Rattle.redo_page.proofs.NewsLemmas.{are_new_lines}
 use Rattle.redo_page.proofs.NewsParts.{compared, page_has_more, page_has_numbers, page_lists_news}
 use Rattle.redo_page.proofs.PageIds.{new_section}
 use Rattle.redo_page.proofs.laws.news_are_shown.Goals as goal
 
 pub returns-clause-numbers : goal.returns-clause-numbers
-returns-clause-numbers c = page_has_numbers
+returns-clause-numbers c = λ request logs requested baseline is.
+    page_has_numbers request logs requested (ap is_some is) baseline is
 
 pub returns-clause-listed : goal.returns-clause-listed
-returns-clause-listed c = page_lists_news
+returns-clause-listed c = λ request logs requested baseline is.
+    page_lists_news request logs requested (ap is_some is) baseline is
 
 pub returns-clause-lines : goal.returns-clause-lines
 returns-clause-lines c = are_new_lines

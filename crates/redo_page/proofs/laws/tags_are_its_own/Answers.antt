@@ -5,7 +5,8 @@ use Rattle.redo_logs.specs.Logs.{Log}
 use Rattle.redo_options.specs.declared.options.Options.{Options}
 use Rattle.redo_outline.specs.declared.node.Node.{Node}
 use Rattle.redo_outline.specs.Contents.{Contents}
-use Rattle.redo_page.specs.Laws.{IsOwnTag, markups}
+use Rattle.redo_page.specs.Laws.{IsOwnTag}
+use Rattle.redo_page.proofs.PartNames.{markups}
 use Rattle.redo_page.specs.Page.{Request, options_of, page_contents, page_outline, page_parts}
 use Rattle.redo_page.proofs.ElementParts.{tree_inside}
 use Rattle.redo_page.proofs.PageElements.{only_tree}
