@@ -1,5 +1,5 @@
 -- The statements of the laws.
-use Rattle.std.specs.Prelude.{◌≡◌, ℕ, ◌+◌, ◌==◌, ◌<◌, ◌≤◌, max, nat_lt, Bool, List, [], ◌∷◌, ◌++◌, drop, length, map, take, Some, IfSome, if◌then◌else◌}
+use Rattle.std.specs.Prelude.{◌≡◌, ℕ, ◌+◌, ◌==◌, ◌-◌, ◌<◌, ◌≤◌, max, nat_lt, Bool, List, [], ◌∷◌, ◌++◌, drop, length, map, take, Some, IfSome, if◌then◌else◌}
 use Rattle.std.specs.List.{AllByRecursion, AllZip, flat_map, list_all}
 use Rattle.std.specs.List.Sorted.{IsPermutation}
 use Rattle.redo_html.specs.declared.chart.GroupKind.{GroupKind}
@@ -10,12 +10,13 @@ use Rattle.redo_logs.specs.Logs.{Log}
 use Rattle.redo_outline.specs.declared.node.Node.{Node}
 use Rattle.redo_timeline.specs.declared.span.Span.{Span}
 use Rattle.redo_timeline.specs.declared.span.Window.{Window}
-use Rattle.redo_timeline.specs.Bars.{bar_of, began_of, has_failed, position_of, units, width_of}
+use Rattle.redo_timeline.specs.Bars.{began_of, has_failed, position_of, units, width_of}
+use Rattle.redo_timeline.specs.Lanes.{ended_of}
 use Rattle.redo_timeline.specs.Laws.{IsSlimIfJoined}
 use Rattle.redo_timeline.specs.Timeline.{bars_of}
 use Rattle.redo_chart.specs.Bands.{max_mark_lanes, max_caller_lanes, max_recipe_lanes}
 use Rattle.redo_chart.specs.Targets.{last_part, name_at}
-use Rattle.redo_chart.specs.Titles.{title_of}
+use Rattle.redo_chart.specs.Titles.{title_for}
 
 -- Whether the positions of all spans are below this number.
 abbrev pub are_below : ℕ → List Span → Bool
@@ -55,16 +56,15 @@ pub record SaysOf (logs : List Log) (nodes : List Node) (window : Window) (kind 
   pub begins : bar.x ≡ units window (began_of spans)
   pub lasts : bar.width ≡ max (width_of window spans) (if has_failed spans then 30 else 10)
   pub fails : bar.failed ≡ has_failed spans
-  pub title : bar.title ≡ title_of logs nodes kind (bar_of window 0 spans)
+  pub title : bar.title ≡ title_for logs nodes kind (position_of spans) (length spans) (ended_of spans - began_of spans)
   pub label : IfSome bar.label (λ label. last_part (name_at logs nodes (position_of spans)) ≡ Some label)
   pub labelled : 350 ≤ bar.width → 10 < bar.height → bar.label ≡ last_part (name_at logs nodes (position_of spans))
   pub times : AllByRecursion (Includes window bar) spans
 
 -- A shape is a bar, and says this of some spans.
 abbrev pub Draws : List Log → List Node → Window → GroupKind → List Span → Shape → Type 0
-Draws logs nodes window kind spans (LineShape x bottom) = ⊥
-Draws logs nodes window kind spans (TickShape x at text) = ⊥
 Draws logs nodes window kind spans (BarShape bar) = SaysOf logs nodes window kind spans bar
+Draws logs nodes window kind spans shape = ⊥
 
 -- The shapes of a group are bars. Each span of the group is in exactly one of them, and each bar has a span. A bar of several spans is
 -- narrower than 0.5 % by its times, and none of its spans failed.

@@ -1,5 +1,5 @@
 //! The tooltips of bars.
-ghost use Rattle.std.specs.Prelude.{◌≡◌, ◌++◌, IfOk, OnOk, map};
+ghost use Rattle.std.specs.Prelude.{◌≡◌, ◌++◌, ◌-◌, IfOk, OnOk, map};
 ghost use Rattle.redo_chart.specs.Private.Fitting.{texts_in};
 ghost use Rattle.redo_chart.specs.Titles as spec;
 
@@ -53,7 +53,8 @@ fn push_title_of_one(
     bar: &Bar,
     text: &mut Vec<u8>,
 ) -> Result<(), AllocError>
-    ensures { OnOk result (text.new.items ≡ text.old.items ++ spec.title_of_one table.now nodes.now kind bar.now) }
+    ensures { OnOk result (text.new.items ≡ text.old.items
+        ++ spec.title_of_one table.now nodes.now kind bar.now.position (bar.now.ended - bar.now.began)) }
 {
     text.extend_from_slice(name_at(table, nodes, bar.position))?;
     push_duration(b", ", kind, bar.ended.saturating_sub(bar.began), text)?;
@@ -67,7 +68,8 @@ fn push_title_of_many(
     bar: &Bar,
     text: &mut Vec<u8>,
 ) -> Result<(), AllocError>
-    ensures { OnOk result (text.new.items ≡ text.old.items ++ spec.title_of_many table.now nodes.now kind bar.now) }
+    ensures { OnOk result (text.new.items ≡ text.old.items
+        ++ spec.title_of_many table.now nodes.now kind bar.now.position bar.now.count (bar.now.ended - bar.now.began)) }
 {
     push_words(
         &[Word::Number(bar.count as u64), Word::Text(b" targets")],

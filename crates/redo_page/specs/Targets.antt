@@ -1,5 +1,5 @@
 -- How targets are shown: names, statuses and counts.
-use Rattle.std.specs.Prelude.{ℕ, suc, ◌==◌, Bool, not, ℤ, pos, negsuc, List, [], ◌∷◌, ◌++◌, Option, None, Some, codes, if◌then◌else◌}
+use Rattle.std.specs.Prelude.{ℕ, ◌==◌, Bool, not, ℤ, pos, negsuc, nat_abs, List, [], ◌∷◌, ◌++◌, Option, None, Some, codes, if◌then◌else◌}
 use Rattle.redo_line.specs.declared.entry.How.{How}
 use Rattle.redo_line.specs.declared.entry.How.TheVariants.{Made, Waiting, Locked, Unlocked, Unchanged}
 use Rattle.redo_html.specs.declared.markup.Markup.TheVariants.{Bdi, EndBdi, OutputLink, ExitBadge, OpenBadge, EndBadge, Small, EndSmall, Emphasis, EndEmphasis, TargetLink, EndLink}
@@ -17,18 +17,14 @@ parts_if condition parts = if condition then parts else []
 abbrev pub name_parts : List ℕ → List Part
 name_parts name = MarkupPart Bdi ∷ TextPart name ∷ MarkupPart EndBdi ∷ []
 
--- A status in decimal is its sign, if it is negative, and its magnitude.
+-- A status in decimal is its sign, if it is negative, and its absolute value.
 abbrev pub sign : ℤ → List ℕ
 sign (pos value) = []
 sign (negsuc value) = codes "-"
 
-abbrev pub magnitude : ℤ → ℕ
-magnitude (pos value) = value
-magnitude (negsuc value) = suc value
-
 -- The badge of a target that failed or is unfinished.
 abbrev pub exit_parts : ℤ → List Part
-exit_parts status = TextPart (codes " ") ∷ MarkupPart ExitBadge ∷ TextPart EXIT.now ∷ TextPart (sign status) ∷ NumberPart (magnitude status) ∷ MarkupPart EndBadge ∷ []
+exit_parts status = TextPart (codes " ") ∷ MarkupPart ExitBadge ∷ TextPart EXIT.now ∷ TextPart (sign status) ∷ NumberPart (nat_abs status) ∷ MarkupPart EndBadge ∷ []
 
 abbrev pub badge_parts : Option ℤ → List Part
 badge_parts None = TextPart (codes " ") ∷ MarkupPart OpenBadge ∷ TextPart NOT_CLOSED.now ∷ MarkupPart EndBadge ∷ []

@@ -287,7 +287,7 @@ pub fn tags_are_its_own()
 /// If a page has a timeline, it has one chart, and otherwise none. Its window runs from the first known time of a shown target to the last
 /// one. The chart shows when each target ran: the span of each shown target whose times are known is in exactly one bar. This bar begins
 /// when the first of its spans began, and leads to the target of that one. It is as wide as the time until the last of them ended, but at
-/// least 0.1 % of the chart. The text of its tooltip is `title_of` of its spans. The chart shows marks in the same way.
+/// least 0.1 % of the chart. The text of its tooltip is `title_for` of its spans. The chart shows marks in the same way.
 pub fn times_are_shown()
     ensures chart { (request : Request) (logs : List Log) (requested : List (List ℕ)) (window : Window) →
         HasTimeline request logs requested window → length (flat_map part_chart (page_parts request logs requested)) ≡ 1 }

@@ -1,7 +1,7 @@
 //! How targets are shown: names, statuses and counts.
-ghost use Rattle.std.specs.Prelude.{◌≡◌};
+ghost use Rattle.std.specs.Prelude.{◌≡◌, nat_abs};
 ghost use Rattle.redo_page.specs.Private.Writing.{WroteParts};
-ghost use Rattle.redo_page.specs.Targets.{article_link_parts, name_parts, sign, magnitude, exit_parts, badge_parts, plural, lines_parts, warnings_parts, below_parts, warnings_below_parts, facts_parts, how_word, how_parts, linked_parts, took_parts};
+ghost use Rattle.redo_page.specs.Targets.{article_link_parts, name_parts, sign, exit_parts, badge_parts, plural, lines_parts, warnings_parts, below_parts, warnings_below_parts, facts_parts, how_word, how_parts, linked_parts, took_parts};
 
 use crate::labels::{
     BELOW, EXIT, FACT_DOT, LINE, LINES, LOCKED, MADE, NOT_CLOSED, UNCHANGED, UNLOCKED, WAITING,
@@ -64,7 +64,7 @@ pub fn sign_of(status: i32) -> &'static [u8]
 
 /// Returns a status without its sign.
 pub fn magnitude_of(status: i32) -> u64
-    ensures { result ≡ magnitude status }
+    ensures { result ≡ nat_abs status }
 {
     u64::from(status.unsigned_abs())
 }
