@@ -21,10 +21,9 @@ use Rattle.redo_page.specs.Excerpt.{Stretch, cut_to, emphasized_if, error_positi
 use Rattle.redo_page.specs.Excerpt.Stretch.{Shown, LeftOut}
 use Rattle.redo_units.specs.Durations.{duration_words}
 use Rattle.redo_page.specs.Article.{article_of, article_parts, article_took, cause_of_node, cause_parts, line_of_node, max_path, nothing_parts, output_line_parts, output_parts, path_parts, printed_by, whole_parts}
-use Rattle.redo_page.specs.Failed.{positions_where}
 use Rattle.redo_page.specs.Recipe.{recipe_at}
 use Rattle.redo_page.specs.Laws.{is_among}
-use Rattle.redo_page.specs.Tree.{articles, is_root_failure, root_failures, root_failures_from, is_short, max_articles, node_at}
+use Rattle.redo_page.specs.Tree.{articles, is_root_failure, root_failures, is_short, max_articles, node_at, positions_where}
 use Rattle.redo_page.proofs.FailedOrder.{sort-passes}
 use Rattle.redo_page.proofs.RecipeLemmas.{recipe_bare}
 use Rattle.redo_page.proofs.Ids.{Bare, Refer, badge_bare, bare_refers, bare_then, link_refers, refer_each, same_refer, then_refer, words_bare}
@@ -49,16 +48,18 @@ all_drop passes (suc count) [] all = refl
 all_drop passes (suc count) (number ∷ numbers) all =
     all_drop passes count numbers (and_parts (passes number) (list_all passes numbers) all).1
 
-roots_below : (position : ℕ) (nodes : List Node) → AreBelow (position + length nodes) (root_failures_from position nodes)
+roots_below : (position : ℕ) (nodes : List Node) → AreBelow (position + length nodes) (positions_where is_root_failure position nodes)
 roots_below position [] = refl
 roots_below position (node ∷ nodes) =
-    by (is_root_failure node) (ap (λ count. list_all (λ number. nat_lt number count) (root_failures_from (suc position) nodes))
+    by (is_root_failure node) (ap (λ count. list_all (λ number. nat_lt number count) (positions_where is_root_failure (suc position) nodes))
     (omega arith) ∙ roots_below (suc position) nodes)
   where
-    by : (first : Bool) → AreBelow (position + length (node ∷ nodes)) (root_failures_from (suc position) nodes)
-        → AreBelow (position + length (node ∷ nodes)) ((if first then position ∷ [] else []) ++ root_failures_from (suc position) nodes)
+    by : (first : Bool) → AreBelow (position + length (node ∷ nodes)) (positions_where is_root_failure (suc position) nodes)
+        → AreBelow (position + length (node ∷ nodes))
+        (if first then position ∷ positions_where is_root_failure (suc position) nodes
+        else positions_where is_root_failure (suc position) nodes)
     by true others = and_from (nat_lt position (position + length (node ∷ nodes)))
-        (list_all (λ number. nat_lt number (position + length (node ∷ nodes))) (root_failures_from (suc position) nodes))
+        (list_all (λ number. nat_lt number (position + length (node ∷ nodes))) (positions_where is_root_failure (suc position) nodes))
         (lt-ltb position (position + length (node ∷ nodes)) (omega arith)) others
     by false others = others
 
@@ -91,8 +92,8 @@ among_after front (number ∷ numbers) =
 
 roots_are_below : (nodes : List Node) → AreBelow (length nodes) (root_failures nodes)
 roots_are_below nodes =
-    sort-passes nodes (λ number. nat_lt number (length nodes)) (root_failures_from 0 nodes)
-    (ap (λ count. list_all (λ number. nat_lt number count) (root_failures_from 0 nodes)) (omega arith) ∙ roots_below 0 nodes)
+    sort-passes nodes (λ number. nat_lt number (length nodes)) (positions_where is_root_failure 0 nodes)
+    (ap (λ count. list_all (λ number. nat_lt number count) (positions_where is_root_failure 0 nodes)) (omega arith) ∙ roots_below 0 nodes)
 
 pub articles_below : (nodes : List Node) → AreBelow (length nodes) (articles nodes)
 articles_below nodes = all_take (λ number. nat_lt number (length nodes)) max_articles (root_failures nodes) (roots_are_below nodes)

@@ -16,9 +16,9 @@ use Rattle.std.proofs.lemmas.List.Sorted.{IsPermutation-append_left, IsPermutati
 use Rattle.std.proofs.lemmas.Map.Keys.{IsDistinct-IsPermutation, IsDistinct-cons, IsDistinct-head, IsDistinct-tail}
 use Rattle.std.proofs.lemmas.Map.Lookups.{CmpEqualImpliesEq, exact_unsigned}
 use Rattle.redo_outline.specs.declared.node.Node.{Node}
-use Rattle.redo_page.specs.Failed.{is_dependent_failure, positions_where}
+use Rattle.redo_page.specs.Failed.{is_dependent_failure}
 use Rattle.redo_page.specs.Laws.{EndsBefore, IsListedBefore}
-use Rattle.redo_page.specs.Tree.{articles, end_cmp, is_root_failure, failure_cmp, root_failures, root_failures_from, has_failed, max_articles, node_at}
+use Rattle.redo_page.specs.Tree.{articles, end_cmp, is_root_failure, failure_cmp, root_failures, has_failed, max_articles, node_at, positions_where}
 use Rattle.redo_timeline.specs.Order.{insert_sorted, sort}
 use Rattle.redo_timeline.proofs.OrderLemmas.{IsRising, sort-permutation, sort-rising, sorted_same}
 
@@ -96,31 +96,33 @@ apart : (other position : ℕ) → other < position → nat_eq other position �
 apart other position less = grind (arith, nat_tests)
 
 positions_apart : (other position : ℕ) (nodes : List Node) → other < position
-    → AllByRecursion (λ number. nat_eq other number ≡ false) (root_failures_from position nodes)
+    → AllByRecursion (λ number. nat_eq other number ≡ false) (positions_where is_root_failure position nodes)
 positions_apart other position [] less = tt
 positions_apart other position (node ∷ nodes) less = by (is_root_failure node) (positions_apart other (suc position) nodes (omega arith))
   where
-    by : (first : Bool) → AllByRecursion (λ number. nat_eq other number ≡ false) (root_failures_from (suc position) nodes)
+    by : (first : Bool) → AllByRecursion (λ number. nat_eq other number ≡ false) (positions_where is_root_failure (suc position) nodes)
         → AllByRecursion (λ number. nat_eq other number ≡ false)
-        ((if first then position ∷ [] else []) ++ root_failures_from (suc position) nodes)
+        (if first then position ∷ positions_where is_root_failure (suc position) nodes
+        else positions_where is_root_failure (suc position) nodes)
     by true others = (apart other position less, others)
     by false others = others
 
-positions_distinct : (position : ℕ) (nodes : List Node) → IsDistinct nat_eq (root_failures_from position nodes)
+positions_distinct : (position : ℕ) (nodes : List Node) → IsDistinct nat_eq (positions_where is_root_failure position nodes)
 unfolding IsDistinct
 positions_distinct position [] = tt
 positions_distinct position (node ∷ nodes) = by (is_root_failure node) (positions_distinct (suc position) nodes)
   where
-    by : (first : Bool) → IsDistinct nat_eq (root_failures_from (suc position) nodes)
-        → IsDistinct nat_eq ((if first then position ∷ [] else []) ++ root_failures_from (suc position) nodes)
-    by true others = IsDistinct-cons nat_eq position (root_failures_from (suc position) nodes)
+    by : (first : Bool) → IsDistinct nat_eq (positions_where is_root_failure (suc position) nodes)
+        → IsDistinct nat_eq (if first then position ∷ positions_where is_root_failure (suc position) nodes
+        else positions_where is_root_failure (suc position) nodes)
+    by true others = IsDistinct-cons nat_eq position (positions_where is_root_failure (suc position) nodes)
         (positions_apart position (suc position) nodes (omega arith)) others
     by false others = others
 
 roots_distinct : (nodes : List Node) → IsDistinct nat_eq (root_failures nodes)
 roots_distinct nodes =
-    IsDistinct-IsPermutation nat_eq nat_eq_equiv.symm (root_failures_from 0 nodes) (root_failures nodes)
-    (sort-permutation (failure_cmp nodes) (root_failures_from 0 nodes)) (positions_distinct 0 nodes)
+    IsDistinct-IsPermutation nat_eq nat_eq_equiv.symm (positions_where is_root_failure 0 nodes) (root_failures nodes)
+    (sort-permutation (failure_cmp nodes) (positions_where is_root_failure 0 nodes)) (positions_distinct 0 nodes)
 
 take_apart : (other count : ℕ) (positions : List ℕ) → AllByRecursion (λ number. nat_eq other number ≡ false) positions
     → AllByRecursion (λ number. nat_eq other number ≡ false) (take count positions)
@@ -142,15 +144,16 @@ articles_distinct nodes = take_distinct max_articles (root_failures nodes) (root
 
 pub all_listed : (position : ℕ) (nodes : List Node)
     → IsPermutation (positions_where has_failed position nodes)
-    (root_failures_from position nodes ++ positions_where is_dependent_failure position nodes)
+    (positions_where is_root_failure position nodes ++ positions_where is_dependent_failure position nodes)
 all_listed position [] = IsPermutation-refl []
 all_listed position (node ∷ nodes) =
-    by (has_failed node) node.fails_below (positions_where has_failed (suc position) nodes) (root_failures_from (suc position) nodes)
+    by (has_failed node) node.fails_below (positions_where has_failed (suc position) nodes)
+    (positions_where is_root_failure (suc position) nodes)
     (positions_where is_dependent_failure (suc position) nodes) (all_listed (suc position) nodes)
   where
     by : (failed below : Bool) (all roots dependents : List ℕ) → IsPermutation all (roots ++ dependents)
         → IsPermutation (if failed then position ∷ all else all)
-        (((if failed && not below then position ∷ [] else []) ++ roots) ++ (if failed && below then position ∷ dependents else dependents))
+        ((if failed && not below then position ∷ roots else roots) ++ (if failed && below then position ∷ dependents else dependents))
     by false below all roots dependents moved = moved
     by true false all roots dependents moved = IsPermutation-cons position all (roots ++ dependents) moved
     by true true all roots dependents moved =
@@ -161,8 +164,9 @@ pub are_listed : (nodes : List Node)
     → IsPermutation (positions_where has_failed 0 nodes) (root_failures nodes ++ positions_where is_dependent_failure 0 nodes)
 are_listed nodes =
     IsPermutation-trans _ _ _ (all_listed 0 nodes)
-    (IsPermutation-append_left (positions_where is_dependent_failure 0 nodes) (root_failures_from 0 nodes) (root_failures nodes)
-    (sort-permutation (failure_cmp nodes) (root_failures_from 0 nodes)))
+    (IsPermutation-append_left (positions_where is_dependent_failure 0 nodes) (positions_where is_root_failure 0 nodes)
+    (root_failures nodes)
+    (sort-permutation (failure_cmp nodes) (positions_where is_root_failure 0 nodes)))
 
 -- ---- in which order
 
@@ -210,5 +214,6 @@ module _ (nodes : List Node) where
       (rising positions up.1 (IsDistinct-tail nat_eq position positions distinct))
 
   pub are_in_order : AllPairs (IsListedBefore nodes) (root_failures nodes)
-  are_in_order = rising (root_failures nodes) (sort-rising (failure_cmp nodes) (failure_cmp_total nodes) (root_failures_from 0 nodes))
+  are_in_order = rising (root_failures nodes)
+      (sort-rising (failure_cmp nodes) (failure_cmp_total nodes) (positions_where is_root_failure 0 nodes))
       (roots_distinct nodes)

@@ -24,7 +24,7 @@ use Rattle.redo_page.specs.declared.failed.Failures.{Failures}
 use Rattle.redo_page.specs.declared.labels.TheConstants.{MORE_ABOVE, PATH_SEPARATOR}
 use Rattle.redo_page.specs.Article.{article_of, article_parts, article_took, cause_of_node, cause_parts, nothing_parts, output_parts, path_parts, whole_parts}
 use Rattle.redo_page.specs.Private.PageTexts.{AreFailures}
-use Rattle.redo_page.specs.Failed.{is_dependent_failure, failed_parts, is_unclosed, positions_where}
+use Rattle.redo_page.specs.Failed.{is_dependent_failure, failed_parts, is_unclosed}
 use Rattle.redo_page.specs.declared.failed.TheConstants.{DEPENDENTS, OTHERS, UNCLOSED}
 use Rattle.redo_page.specs.NewSection.{no_news}
 use Rattle.redo_page.specs.Page.{build_view}
@@ -32,7 +32,7 @@ use Rattle.redo_page.specs.Recipe.{commands_parts, recipe_parts}
 use Rattle.redo_page.specs.Scope.{View}
 use Rattle.redo_page.specs.Template.{Block, block_parts, nothing}
 use Rattle.redo_units.specs.Durations.{duration_words}
-use Rattle.redo_page.specs.Tree.{no_node}
+use Rattle.redo_page.specs.Tree.{no_node, positions_where}
 
 abbrev log : List ℕ → List Entry → Log
 log target entries = record { target = target; entries = entries; state = Ended }

@@ -15,11 +15,10 @@ use Rattle.redo_logs.specs.Logs.{Log}
 use Rattle.redo_outline.specs.declared.node.Node.{Node}
 use Rattle.redo_outline.specs.Facts.{saturated}
 use Rattle.redo_page.specs.Article.{printed_by}
-use Rattle.redo_page.specs.Failed.{positions_where}
 use Rattle.redo_page.specs.Laws.{AreNewLines, IsDiagnosticAt, IsLineOfNode, values_at}
 use Rattle.redo_page.specs.NewSection.{line_rank, new_in, new_lines, news_of}
 use Rattle.redo_page.specs.Scope.{max_rows}
-use Rattle.redo_page.specs.Tree.{node_at}
+use Rattle.redo_page.specs.Tree.{node_at, positions_where}
 use Rattle.redo_page.proofs.FailedIds.{where_are_below}
 use Rattle.redo_summary.specs.declared.rank.Rank.{Rank}
 use Rattle.redo_summary.specs.Laws.{AreRanksBelow}

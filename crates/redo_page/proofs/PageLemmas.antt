@@ -16,13 +16,13 @@ use Rattle.redo_options.specs.declared.options.Options.{Options}
 use Rattle.redo_outline.specs.declared.node.Node.{Node}
 use Rattle.redo_page.specs.declared.page.Texts.{Texts}
 use Rattle.redo_page.specs.Command.{command}
-use Rattle.redo_page.specs.Failed.{is_dependent_failure, is_unclosed, positions_where}
+use Rattle.redo_page.specs.Failed.{is_dependent_failure, is_unclosed}
 use Rattle.redo_page.specs.NewSection.{news_of}
 use Rattle.redo_page.specs.News.{NewsValue}
 use Rattle.redo_page.specs.Page.{Request, build_view, options_of, page_outline, page_view}
 use Rattle.redo_page.specs.Private.PageTexts.{AreTexts}
 use Rattle.redo_page.specs.Scope.{View}
-use Rattle.redo_page.specs.Tree.{no_node, root_failures}
+use Rattle.redo_page.specs.Tree.{no_node, root_failures, positions_where}
 use Rattle.redo_summary.specs.Summary.{Facts, summary_of}
 use Rattle.redo_summary.specs.Usage.{UsageFacts, usage_of}
 

@@ -14,7 +14,7 @@ use Rattle.redo_page.specs.declared.labels.TheConstants.{AND_COUNT, AT_MOST, AT_
 use Rattle.redo_page.specs.declared.summary.TheConstants.{SECTION}
 use Rattle.redo_page.specs.declared.verdict.Verdict.{Verdict}
 use Rattle.redo_page.specs.declared.verdict.Verdict.TheVariants.{Failed, Unfinished, Made}
-use Rattle.redo_page.specs.Failed.{failed_parts, is_dependent_failure, positions_where}
+use Rattle.redo_page.specs.Failed.{failed_parts, is_dependent_failure}
 use Rattle.redo_page.specs.Frame.{footer_parts, head_parts, header_parts}
 use Rattle.redo_page.specs.Laws.{IsPartOf, end_shown, heading_shown, heading_with, number_of, requested_shown, root_count, summary_shown, tile, took_shown}
 use Rattle.redo_page.specs.Page.{Request, body_parts, heading_of, options_of, page_facts, page_outline, page_parts, page_view, top_parts}
@@ -25,7 +25,7 @@ use Rattle.redo_page.specs.Targets.{parts_if}
 use Rattle.redo_page.specs.Template.{block_parts, nothing, parts_of_items}
 use Rattle.redo_page.specs.Verdict.{is_unfinished, sign_text, unfinished_count, verdict_of, verdict_text}
 use Rattle.redo_page.specs.Words.{words_parts}
-use Rattle.redo_page.specs.Tree.{root_failures}
+use Rattle.redo_page.specs.Tree.{root_failures, positions_where}
 use Rattle.redo_page.proofs.PagePartLemmas.{part_earlier, part_later}
 use Rattle.redo_summary.specs.declared.target.Target.{Target}
 use Rattle.redo_summary.specs.Summary.{Facts, is_timed}

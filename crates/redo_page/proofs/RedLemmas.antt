@@ -19,7 +19,7 @@ use Rattle.redo_page.specs.Page.{Request, body_parts, options_of, page_view}
 use Rattle.redo_page.specs.Scope.{View}
 use Rattle.redo_page.specs.NewSection.{news_parts}
 use Rattle.redo_page.specs.Summary.{summary_parts}
-use Rattle.redo_page.specs.Tree.{failure_cmp, has_failed, root_failures, root_failures_from}
+use Rattle.redo_page.specs.Tree.{failure_cmp, has_failed, root_failures, is_root_failure, positions_where}
 use Rattle.redo_page.specs.Verdict.{is_unfinished, title_text, verdict_of}
 use Rattle.redo_timeline.proofs.OrderLemmas.{sort-permutation}
 
@@ -52,23 +52,24 @@ timed_tell times (node ∷ nodes) tells = (λ below. any_timed times nodes ∙ t
 
 -- There is a root failure exactly if a target failed.
 some_root : (position : ℕ) (nodes : List Node) → AllTell nodes
-    → nat_lt 0 (length (root_failures_from position nodes)) ≡ list_any has_failed nodes
+    → nat_lt 0 (length (positions_where is_root_failure position nodes)) ≡ list_any has_failed nodes
 some_root position [] tells = refl
 some_root position (node ∷ nodes) tells = by (has_failed node) node.fails_below tells.0 (some_root (suc position) nodes tells.1)
   where
     by : (failed below : Bool) → (below ≡ true → list_any has_failed nodes ≡ true)
-        → nat_lt 0 (length (root_failures_from (suc position) nodes)) ≡ list_any has_failed nodes
-        → nat_lt 0 (length ((if failed && not below then position ∷ [] else []) ++ root_failures_from (suc position) nodes))
+        → nat_lt 0 (length (positions_where is_root_failure (suc position) nodes)) ≡ list_any has_failed nodes
+        → nat_lt 0 (length (if failed && not below then position ∷ positions_where is_root_failure (suc position) nodes
+        else positions_where is_root_failure (suc position) nodes))
         ≡ (failed || list_any has_failed nodes)
     by true false tells more =
-        lt-ltb 0 (suc (length (root_failures_from (suc position) nodes))) (omega arith)
+        lt-ltb 0 (suc (length (positions_where is_root_failure (suc position) nodes))) (omega arith)
     by true true tells more = more ∙ tells refl
     by false below tells more = more
 
 failures_some : (nodes : List Node) → AllTell nodes → nat_lt 0 (length (root_failures nodes)) ≡ list_any has_failed nodes
 failures_some nodes tells =
-    ap (nat_lt 0) (length_permutation (root_failures_from 0 nodes) (root_failures nodes)
-    (sort-permutation (failure_cmp nodes) (root_failures_from 0 nodes))) ∙ some_root 0 nodes tells
+    ap (nat_lt 0) (length_permutation (positions_where is_root_failure 0 nodes) (root_failures nodes)
+    (sort-permutation (failure_cmp nodes) (positions_where is_root_failure 0 nodes))) ∙ some_root 0 nodes tells
 
 -- ---- the page
 

@@ -29,10 +29,8 @@ is_outside Outside = true
 is_outside state = false
 
 abbrev pub is_in_sequence : WordState → Bool
-is_in_sequence Outside = false
-is_in_sequence InWord = false
 is_in_sequence InSequence = true
-is_in_sequence InLink = false
+is_in_sequence state = false
 
 abbrev pub is_in_link : WordState → Bool
 is_in_link InLink = true

@@ -1,16 +1,11 @@
 -- What failed: the section at the top of a page is the template `FAILURES` in src/failed.rt.
-use Rattle.std.specs.Prelude.{ℕ, suc, ◌==◌, ◌&&◌, Bool, List, [], ◌∷◌, is_none, is_some, if◌then◌else◌}
+use Rattle.std.specs.Prelude.{◌==◌, ◌&&◌, Bool, List, is_none, is_some}
 use Rattle.redo_html.specs.Parts.{Part}
 use Rattle.redo_outline.specs.declared.node.Node.{Node}
 use Rattle.redo_page.specs.declared.failed.TheConstants.{FAILURES}
 use Rattle.redo_page.specs.Scope.{View}
 use Rattle.redo_page.specs.Template.{template_parts}
 use Rattle.redo_page.specs.Tree.{has_failed}
-
--- The positions of the nodes for which this holds. The first node has the position `position`.
-abbrev pub positions_where : (Node → Bool) → ℕ → List Node → List ℕ
-positions_where holds position [] = []
-positions_where holds position (node ∷ nodes) = if holds node then position ∷ positions_where holds (suc position) nodes else positions_where holds (suc position) nodes
 
 -- Whether a target failed, and one below it.
 abbrev pub is_dependent_failure : Node → Bool

@@ -33,7 +33,7 @@ use Rattle.redo_page.specs.declared.labels.TheConstants.{AND_COUNT, AS_ONE_TEXT,
 use Rattle.redo_page.specs.Command.{command}
 use Rattle.redo_page.specs.Errors.{cause_of}
 use Rattle.redo_page.specs.Article.{article_took, cause_parts, path_parts, printed_by}
-use Rattle.redo_page.specs.Failed.{is_dependent_failure, is_unclosed, positions_where}
+use Rattle.redo_page.specs.Failed.{is_dependent_failure, is_unclosed}
 use Rattle.redo_page.specs.NewSection.{fixed_since, gone_count, new_in, new_lines, newly_failing}
 use Rattle.redo_page.specs.Page.{Request, options_of, page_contents, page_events, page_outline, page_parts}
 use Rattle.redo_page.specs.Scope.{began_parts}
@@ -50,7 +50,7 @@ use Rattle.redo_timeline.specs.Parallelism.{most_of}
 use Rattle.redo_timeline.specs.declared.span.Span.{Span}
 use Rattle.redo_timeline.specs.declared.span.Window.{Window}
 use Rattle.redo_times.specs.declared.times.Times.{Times}
-use Rattle.redo_page.specs.Tree.{Build, articles, is_moved_if, is_root_failure, max_articles, node_at, root_failures}
+use Rattle.redo_page.specs.Tree.{Build, articles, is_moved_if, is_root_failure, max_articles, node_at, root_failures, positions_where}
 use Rattle.redo_page.specs.Verdict.{is_unfinished, unfinished_count}
 use Rattle.redo_page.specs.Limits.{tree_limits}
 use Rattle.redo_page.specs.Targets.{badge_parts, facts_parts, how_parts, name_parts, parts_if, plural}
@@ -327,7 +327,9 @@ module _ (nodes : List Node) where
 abbrev pub took_shown : List ℕ → List Part
 took_shown times =
     parts_if (is_some (window_over times))
-    (MarkupPart MetaParagraph ∷ (began_parts (window_over times) ++ TextPart BUILD_TOOK.now ∷ (words_parts (duration_words (time_over times)) ++ MarkupPart EndParagraph ∷ [])))
+    (MarkupPart MetaParagraph
+    ∷ (began_parts (window_over times)
+    ++ TextPart BUILD_TOOK.now ∷ (words_parts (duration_words (time_over times)) ++ MarkupPart EndParagraph ∷ [])))
 
 -- The name and the status of a target, if it was requested and its log is in no other one.
 abbrev pub requested_shown : List Log → Node → List Part
@@ -396,7 +398,8 @@ module _ (baseline : BaselineValue) (logs : List Log) (nodes : List Node) where
 
   -- The lists of what is new: the lines with new warnings and errors, the targets that newly fail, and the fixed ones.
   pub record ListsNews (parts : List Part) : Type 0 where
-    pub lines : 0 < length (new_lines baseline logs 0 nodes) → IsPartOf (line_list logs nodes (take 200 (new_lines baseline logs 0 nodes))) parts
+    pub lines : 0 < length (new_lines baseline logs 0 nodes) →
+        IsPartOf (line_list logs nodes (take 200 (new_lines baseline logs 0 nodes))) parts
     pub failing : IsListed logs nodes false parts (newly_failing baseline logs nodes)
     pub fixed : IsListed logs nodes false parts (fixed_since baseline logs nodes)
 

@@ -9,7 +9,7 @@ use Rattle.redo_html.specs.Parts.{Part}
 use Rattle.redo_logs.specs.Logs.{Log}
 use Rattle.redo_outline.specs.declared.node.Node.{Node}
 use Rattle.redo_page.specs.declared.news.TheConstants.{NEWS}
-use Rattle.redo_page.specs.Failed.{positions_where}
+use Rattle.redo_page.specs.Tree.{positions_where}
 use Rattle.redo_page.specs.News.{NewsValue}
 use Rattle.redo_page.specs.Scope.{View}
 use Rattle.redo_page.specs.Template.{template_parts}

@@ -13,7 +13,7 @@ use Rattle.redo_outline.specs.declared.node.Node.{Node}
 use Rattle.redo_outline.specs.declared.node.RunTimes.{RunTimes}
 use Rattle.redo_outline.specs.Contents.{Contents, contents_of}
 use Rattle.redo_outline.specs.Outline.{outline_of, with_times}
-use Rattle.redo_page.specs.Failed.{failed_parts, is_dependent_failure, is_unclosed, positions_where}
+use Rattle.redo_page.specs.Failed.{failed_parts, is_dependent_failure, is_unclosed}
 use Rattle.redo_page.specs.Command.{command}
 use Rattle.redo_page.specs.Frame.{head_parts, header_parts, footer_parts}
 use Rattle.redo_page.specs.Verdict.{title_text, verdict_of, verdict_text}
@@ -24,7 +24,7 @@ use Rattle.redo_page.specs.News.{NewsValue}
 use Rattle.redo_page.specs.Scope.{View}
 use Rattle.redo_page.specs.Summary.{summary_parts}
 use Rattle.redo_page.specs.Timeline.{timeline_parts}
-use Rattle.redo_page.specs.Tree.{Build, articles, no_node, root_failures, tree_parts}
+use Rattle.redo_page.specs.Tree.{Build, articles, no_node, root_failures, tree_parts, positions_where}
 use Rattle.redo_trim.specs.Trim.{trim}
 use Rattle.redo_summary.specs.Summary.{Facts, summary_of}
 use Rattle.redo_summary.specs.Targets.{time_between}

@@ -48,10 +48,10 @@ has_failed node = is_failure node.status
 abbrev pub is_root_failure : Node → Bool
 is_root_failure node = has_failed node && not node.fails_below
 
--- The positions of the targets that failed with none below them, in the order of the tree.
-abbrev pub root_failures_from : ℕ → List Node → List ℕ
-root_failures_from position [] = []
-root_failures_from position (node ∷ nodes) = (if is_root_failure node then position ∷ [] else []) ++ root_failures_from (suc position) nodes
+-- The positions of the nodes for which this holds. The first node has the position `position`.
+abbrev pub positions_where : (Node → Bool) → ℕ → List Node → List ℕ
+positions_where holds position [] = []
+positions_where holds position (node ∷ nodes) = if holds node then position ∷ positions_where holds (suc position) nodes else positions_where holds (suc position) nodes
 
 -- The target that ended first is first. Targets with an unknown end are last.
 abbrev pub end_cmp : Option ℕ → Option ℕ → Ordering
@@ -64,9 +64,9 @@ end_cmp None None = Equal
 abbrev pub failure_cmp : List Node → ℕ → ℕ → Ordering
 failure_cmp nodes position other = ordering_then (end_cmp (node_at nodes position).ended (node_at nodes other).ended) (nat_cmp position other)
 
--- The positions of these targets, in the order in which the targets ended.
+-- The positions of the targets that failed with none below them, in the order in which the targets ended.
 abbrev pub root_failures : List Node → List ℕ
-root_failures nodes = sort (failure_cmp nodes) (root_failures_from 0 nodes)
+root_failures nodes = sort (failure_cmp nodes) (positions_where is_root_failure 0 nodes)
 
 -- The targets that have an article at the top of the page.
 abbrev pub max_articles : ℕ

@@ -6,9 +6,9 @@ use Rattle.redo_page.specs.declared.failed.Failures.{Failures}
 use Rattle.redo_page.specs.declared.page.Texts.{Texts}
 use Rattle.redo_page.specs.Command.{command}
 use Rattle.redo_page.specs.Verdict.{title_text, verdict_of}
-use Rattle.redo_page.specs.Failed.{is_dependent_failure, is_unclosed, positions_where}
+use Rattle.redo_page.specs.Failed.{is_dependent_failure, is_unclosed}
 use Rattle.redo_page.specs.Page.{Request, heading_of}
-use Rattle.redo_page.specs.Tree.{root_failures}
+use Rattle.redo_page.specs.Tree.{root_failures, positions_where}
 
 pub record AreTexts (request : Request) (options : Options) (requested : List (List ℕ)) (nodes : List Node) (texts : Texts) : Type 0 where
   pub verdict : texts.verdict ≡ verdict_of nodes

@@ -2,7 +2,7 @@ use Rattle.std.proofs.Common.{◌≡◌, ◌++◌, drop, sum_by, take}
 use Rattle.redo_compare.specs.Baseline.{target_changes}
 use Rattle.redo_outline.specs.declared.node.Node.{Node}
 use Rattle.redo_outline.specs.Facts.{saturated}
-use Rattle.redo_page.specs.Failed.{positions_where}
+use Rattle.redo_page.specs.Tree.{positions_where}
 use Rattle.redo_page.specs.NewSection.{new_lines}
 use Rattle.redo_page.proofs.news.compare.Given as goal
 
