@@ -383,6 +383,32 @@ not_never_begins = (
   λ never. never.1 1700000001000 begun_once_at_1,
 )
 
+other_beginning : IsReported 1000 (begun_at_7 ∷ begun_at_5 ∷ []) BeganInOtherLog a 1700000007000
+unfolding split_lines ended record_fields fields_of status_of split_once after_prefix normal reduce_suffix number time_value entry_of record_entry report_of
+other_beginning = record {
+  log = begun_at_7;
+  is_log = (0, omega arith, refl);
+  line = begins (codes "1700000007");
+  is_line = (0, omega arith, refl);
+  says = refl;
+  at = refl;
+}
+
+-- The own log of `a` says that it began at 3 and at 1.
+abbrev begun_in_own : List TimedLog
+begun_in_own = log a (with_line_feed (begins (codes "1700000003")) ++ with_line_feed (begins (codes "1700000001"))) ∷ []
+
+begun_in_own_at_1 : IsReported 1000 begun_in_own BeganInOwnLog a 1700000001000
+unfolding split_lines ended record_fields fields_of status_of split_once after_prefix normal reduce_suffix number time_value entry_of record_entry report_of
+begun_in_own_at_1 = record {
+  log = log a (with_line_feed (begins (codes "1700000003")) ++ with_line_feed (begins (codes "1700000001")));
+  is_log = (0, omega arith, refl);
+  line = begins (codes "1700000001");
+  is_line = (1, omega arith, refl);
+  says = refl;
+  at = refl;
+}
+
 not_beginning : ¬ IsBeginning 1000 (begun_at_7 ∷ begun_at_5 ∷ []) a 1700000007000
 not_beginning = λ beginning. elim beginning [
   | inl own ↦ (let low = own.none_earlier 1700000005000 (own_beginning begun_at_7) in omega (arith, low))
