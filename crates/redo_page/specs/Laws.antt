@@ -17,9 +17,9 @@ use Rattle.redo_html.specs.declared.markup.Markup.{Markup}
 use Rattle.redo_html.specs.declared.markup.Markup.TheVariants.{BodyBad, BodyGood, BodyOpen, FailedSection, NewSection, EndSection, SummarySection, TimelineSection, TreeSection, FailedLink, NewLink, SummaryLink, TimelineLink, TreeLink, TargetLink, EndLink, OutputLink, Article, EndArticle, TargetItem, Details, OpenDetails, EndDetails, Summary, Title3, EndTitle3, MetaParagraph, Paragraph, QuietParagraph, EndParagraph, Ordered, OrderedFrom, EndOrdered, Item, EndItem, RowHeading, EndRowHeading, NumberCell, EndCell, Title1, EndTitle1, Sign, EndSign, DescriptionList, EndDescriptionList, Div, EndDiv, Term, EndTerm, Description, EndDescription, Code, EndCode, Pre, EndPre}
 use Rattle.redo_html.specs.declared.chart.GroupKind.{GroupKind}
 use Rattle.redo_html.specs.Chart.{Drawing, drawing_links}
-use Rattle.redo_html.specs.Html.{is_one_of, nests_in}
+use Rattle.redo_html.specs.Html.{is_one_of, nests_in, read}
 use Rattle.redo_html.specs.Laws.{IsChartTag, is_highlight, markup_tag}
-use Rattle.redo_html.specs.Parts.{Part}
+use Rattle.redo_html.specs.Parts.{Part, part_tokens}
 use Rattle.redo_html.specs.Parts.Part.{MarkupPart, LogPart, TextPart, NumberPart, TitlePart, ChartPart}
 use Rattle.redo_html.specs.Shown.{number_text}
 use Rattle.redo_html.specs.Tags.{markup_text}
@@ -35,7 +35,7 @@ use Rattle.redo_page.specs.Errors.{cause_of}
 use Rattle.redo_page.specs.Article.{article_took, cause_parts, path_parts, printed_by}
 use Rattle.redo_page.specs.Failed.{is_dependent_failure, is_unclosed}
 use Rattle.redo_page.specs.NewSection.{fixed_since, gone_count, new_in, new_lines, newly_failing}
-use Rattle.redo_page.specs.Page.{Request, options_of, page_contents, page_events, page_outline, page_parts}
+use Rattle.redo_page.specs.Page.{Request, options_of, page_contents, page_events, page_html, page_outline, page_parts}
 use Rattle.redo_page.specs.Scope.{began_parts}
 use Rattle.redo_chart.specs.Laws.{DrawsAll, shapes_of}
 use Rattle.redo_summary.specs.declared.rank.Rank.{Rank}
@@ -130,10 +130,10 @@ is_among numbers number = list_any (λ other. number == other) numbers
 
 -- ---- names, statuses and durations
 
--- Whether parts are in others, next to each other.
-pub record IsPartOf (inner whole : List Part) : Type 0 where
-  pub before : List Part
-  pub after : List Part
+-- Whether a list is in another one, in one piece.
+pub record IsPartOf {X : Type 0} (inner whole : List X) : Type 0 where
+  pub before : List X
+  pub after : List X
   pub splits : before ++ (inner ++ after) ≡ whole
 
 -- Whether parts are what an element of others contains: they are between its tags, and each element that begins in them ends in them.
@@ -342,6 +342,10 @@ abbrev pub end_shown : Request → List (List ℕ) → List Node → List Part
 end_shown request requested nodes =
     NumberPart (length nodes) ∷ TextPart (plural (length nodes) LOG_IN.now LOGS_IN.now) ∷ MarkupPart Code ∷ TextPart request.dir ∷ MarkupPart EndCode
     ∷ TextPart AS_ONE_TEXT.now ∷ MarkupPart Code ∷ TextPart (command request.dir (options_of request) requested) ∷ MarkupPart EndCode ∷ []
+
+-- A browser reads these parts in a page, next to each other.
+abbrev pub IsRead : List Part → Request → List Log → List (List ℕ) → Type 0
+IsRead inner request logs requested = IsPartOf (flat_map part_tokens inner) (read (page_html request logs requested))
 
 -- ---- what failed
 

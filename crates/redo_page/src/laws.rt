@@ -16,7 +16,7 @@ ghost use Rattle.redo_logs.specs.Logs.{Log};
 ghost use Rattle.redo_options.specs.declared.options.Options.{Options};
 ghost use Rattle.redo_view.specs.View.{find_unknown};
 ghost use Rattle.redo_outline.specs.declared.node.Node.{Node};
-ghost use Rattle.redo_page.specs.Laws.{AreBeginnings, AreNewLines, HasNewSection, ListsNews, news_shown, IsListedBefore, ContainRoots, ListsFailures, ShowsRecipe, HasSameShape, IsArticle, IsLog, IsOfTarget, IsOwnTag, IsPartOf, IsTree, IsRed, AreCountable, budget_of_tree, TellsItsTarget, article_id, article_link, event_lines, is_among, kept_lines, kept_within, lines_at, log_text, markup_of, page_lines, positioned_bytes, section_id, section_link, target_id, target_link, texts_of, unmoved_lines, part_chart, ChartsDraw, HasTimeline, end_shown, heading_shown, heading_tag, requested_shown, summary_shown, took_shown, page_limit, page_processor, page_targets, says_failed, title_in};
+ghost use Rattle.redo_page.specs.Laws.{AreBeginnings, AreNewLines, HasNewSection, ListsNews, news_shown, IsListedBefore, ContainRoots, ListsFailures, ShowsRecipe, HasSameShape, IsArticle, IsLog, IsOfTarget, IsOwnTag, IsRead, IsTree, IsRed, AreCountable, budget_of_tree, TellsItsTarget, article_id, article_link, event_lines, is_among, kept_lines, kept_within, lines_at, log_text, markup_of, page_lines, positioned_bytes, section_id, section_link, target_id, target_link, texts_of, unmoved_lines, part_chart, ChartsDraw, HasTimeline, end_shown, heading_shown, heading_tag, requested_shown, summary_shown, took_shown, page_limit, page_processor, page_targets, says_failed, title_in};
 ghost use Rattle.redo_page.specs.Command.{command};
 ghost use Rattle.redo_page.specs.Failed.{is_dependent_failure};
 ghost use Rattle.redo_page.specs.Limits.{bytes_shown, highest_cap};
@@ -103,8 +103,9 @@ pub fn targets_have_their_names()
     ensures targets { (request : Request) (logs : List Log) (requested : List (List ℕ)) →
         AllByRecursion (IsOfTarget logs (page_events request logs requested) request.times) (page_outline request logs requested) }
     ensures requested { (request : Request) (logs : List Log) (requested : List (List ℕ)) →
-        IsPartOf (flat_map (requested_shown logs) (page_outline request logs requested)) (page_parts request logs requested) }
+        IsRead (flat_map (requested_shown logs) (page_outline request logs requested)) request logs requested }
 {
+    page_is_read();
     ranks_have_values_of_targets();
 }
 
@@ -114,17 +115,18 @@ pub fn targets_have_their_names()
 /// known. Its last line has the number of logs, the capture directory, and the command that prints the same logs as text.
 pub fn numbers_are_shown()
     ensures heading { (request : Request) (logs : List Log) (requested : List (List ℕ)) →
-        IsPartOf (heading_shown (page_outline request logs requested)) (page_parts request logs requested) }
+        IsRead (heading_shown (page_outline request logs requested)) request logs requested }
     ensures summary { (request : Request) (logs : List Log) (requested : List (List ℕ)) →
-        IsPartOf (summary_shown (page_outline request logs requested) (page_targets request logs requested)
-        (page_processor request logs requested)) (page_parts request logs requested) }
+        IsRead (summary_shown (page_outline request logs requested) (page_targets request logs requested)
+        (page_processor request logs requested)) request logs requested }
     ensures took { (request : Request) (logs : List Log) (requested : List (List ℕ)) →
-        IsPartOf (took_shown (known_times (page_targets request logs requested))) (page_parts request logs requested) }
+        IsRead (took_shown (known_times (page_targets request logs requested))) request logs requested }
     ensures command { (request : Request) (logs : List Log) (requested : List (List ℕ)) →
-        IsPartOf (end_shown request requested (page_outline request logs requested)) (page_parts request logs requested) }
+        IsRead (end_shown request requested (page_outline request logs requested)) request logs requested }
     ensures once { (request : Request) (logs : List Log) (requested : List (List ℕ)) →
         flat_map heading_tag (page_parts request logs requested) ≡ Title1 ∷ DescriptionList ∷ [] }
 {
+    page_is_read();
     positions_are_of_nodes();
     bars_lead_to_positions();
     trimmed_events_are_in_tree();
@@ -167,7 +169,7 @@ pub fn failures_are_listed()
 pub fn news_are_shown()
     ensures numbers { (request : Request) (logs : List Log) (requested : List (List ℕ)) (baseline : BaselineValue) →
         request.baseline ≡ Some baseline →
-        IsPartOf (news_shown baseline logs (page_outline request logs requested)) (page_parts request logs requested) }
+        IsRead (news_shown baseline logs (page_outline request logs requested)) request logs requested }
     ensures listed { (request : Request) (logs : List Log) (requested : List (List ℕ)) (baseline : BaselineValue) →
         request.baseline ≡ Some baseline →
         ListsNews baseline logs (page_outline request logs requested) (page_parts request logs requested) }
@@ -176,6 +178,7 @@ pub fn news_are_shown()
     ensures otherwise { (request : Request) (logs : List Log) (requested : List (List ℕ)) → is_some request.baseline ≡ true →
         HasNewSection (page_parts request logs requested) (page_parts (record request { baseline = None }) logs requested) }
 {
+    page_is_read();
     positions_are_of_nodes();
     bars_lead_to_positions();
     trimmed_events_are_in_tree();

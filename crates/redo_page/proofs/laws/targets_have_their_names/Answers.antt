@@ -1,5 +1,5 @@
 use Rattle.redo_page.proofs.PageNames.{page_names, page_targets}
-use Rattle.redo_page.proofs.PageNumbers.{page_has_names}
+use Rattle.redo_page.proofs.PageNumbers.{page_has_names, part_read}
 use Rattle.redo_page.proofs.laws.targets_have_their_names.Goals as goal
 
 pub returns-clause-names : goal.returns-clause-names
@@ -11,4 +11,5 @@ pub returns-clause-targets : goal.returns-clause-targets
 returns-clause-targets c = page_targets
 
 pub returns-clause-requested : goal.returns-clause-requested
-returns-clause-requested c = page_has_names
+returns-clause-requested c = λ request logs requested.
+    part_read request logs requested (c.page_is_read.ensures.parts request logs requested) _ (page_has_names request logs requested)
