@@ -101,6 +101,10 @@ const char *base_name(const char *path);
 /* The directory in which the run began. Names inside it are relative to it; other names are absolute. */
 extern char *base_dir;
 void set_base_dir(void);
+/* Returns the path of a file whose name may be relative to the base directory. */
+char *absolute_path(const char *name);
+/* Whether two absolute paths name one directory, which need not exist yet. */
+int is_same_directory(const char *path, const char *other);
 /* Returns the normal form of a name relative to `directory`; follows no link. The result is valid until the next call. */
 const char *normalize_name(const char *directory, const char *name, size_t size);
 /* Like normalize_name, for a name in `names`: an absolute name stays absolute. */

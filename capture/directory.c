@@ -24,7 +24,7 @@ static int64_t checked_at; /* the time of the last check_removal */
 
 void set_directory(const char *name) {
   directory_name = name;
-  directory_path = name[0] == '/' ? xasprintf("%s", name) : xasprintf("%s/%s", strcmp(base_dir, "/") == 0 ? "" : base_dir, name);
+  directory_path = absolute_path(name);
 }
 
 int is_capturing(void) { return state == OPEN; }

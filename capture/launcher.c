@@ -70,7 +70,7 @@ static int connect_to_server(void) {
 }
 
 int is_within_run(void) {
-  if (find_run() < 0 || strcmp(run.directory, directory_path) != 0) return 0;
+  if (find_run() < 0 || !is_same_directory(run.directory, directory_path)) return 0;
   int file = connect_to_server();
   if (file >= 0) close(file);
   return file >= 0 || errno != ECONNREFUSED;

@@ -4,6 +4,7 @@
 #include <errno.h>
 #include <stdlib.h>
 #include <string.h>
+#include <sys/stat.h>
 #include <unistd.h>
 
 char *base_dir;
@@ -42,6 +43,38 @@ static const char *normalize_path(const char *directory, const char *name, size_
   if (end == path) *end++ = '/';
   *end = 0;
   return path;
+}
+
+char *absolute_path(const char *name) {
+  return name[0] == '/' ? xasprintf("%s", name) : xasprintf("%s/%s", strcmp(base_dir, "/") == 0 ? "" : base_dir, name);
+}
+
+/* Returns a path without symbolic links, in normal form. The part of it that doesn't exist has no links. */
+static char *resolve_path(const char *path) {
+  char *existing = NULL;
+  size_t size = strlen(path);
+  while (size > 0 && !existing) {
+    char *prefix = xasprintf("%.*s", (int)size, path);
+    existing = realpath(prefix, NULL);
+    free(prefix);
+    if (!existing)
+      while (--size > 0 && path[size] != '/') continue;
+  }
+  const char *rest = path + size + strspn(path + size, "/");
+  char *resolved = xasprintf("%s", normalize_path(existing ? existing : "", rest, strlen(rest)));
+  free(existing);
+  return resolved;
+}
+
+int is_same_directory(const char *path, const char *other) {
+  struct stat found, other_found;
+  if (stat(path, &found) == 0 && stat(other, &other_found) == 0)
+    return found.st_dev == other_found.st_dev && found.st_ino == other_found.st_ino;
+  char *resolved = resolve_path(path), *other_resolved = resolve_path(other);
+  int is_same = strcmp(resolved, other_resolved) == 0;
+  free(resolved);
+  free(other_resolved);
+  return is_same;
 }
 
 const char *normalize_listed_name(const char *name) {
