@@ -217,6 +217,8 @@ void add_index_line(struct text *text, unsigned number, const char *name);
 int add_to_index(struct target *target);
 /* Appends the lines of new targets to `names`. */
 void flush_index(void);
+/* Returns the number in the name of a log; 0 if it is no log. */
+unsigned parse_log_name(const char *name);
 /* Returns the target of a number; NULL if no line has it. */
 struct target *find_listed_target(unsigned long number);
 void close_index(void);

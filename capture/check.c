@@ -55,13 +55,32 @@ void check_files(void) {
   check_file(".capture/new", W_OK);
 }
 
-/* Whether a directory has files other than .gitignore, which a run leaves if it is killed while it creates the directory. */
-static int has_files(const char *path) {
+/* Whether a file is empty, can't be read, or begins like a line of an index. */
+static int may_be_index(const char *path) {
+  char start[sizeof "!999999999 "] = "";
+  int file = open(path, O_RDONLY | O_NONBLOCK | O_CLOEXEC);
+  if (file < 0) return 1;
+  ssize_t size = read(file, start, sizeof start - 1);
+  close(file);
+  const char *number = start + (*start == '!');
+  size_t digits = strspn(number, "0123456789");
+  return size <= 0 || (digits > 0 && number[digits] == ' ');
+}
+
+/* Whether a directory has a file that no capture writes. The files of a capture may be left without `.capture` if a recipe removes the
+   directory while logs are created. */
+static int has_foreign_files(const char *path) {
+  static const char *const own[] = {".", "..", ".gitignore", "facts", "names"};
+  char *index = xasprintf("%s/names", path);
   DIR *files = opendir(path);
-  int found = 0;
-  for (struct dirent *file; files && (file = readdir(files));)
-    found |= strcmp(file->d_name, ".") != 0 && strcmp(file->d_name, "..") != 0 && strcmp(file->d_name, ".gitignore") != 0;
+  int found = !may_be_index(index);
+  for (struct dirent *file; files && (file = readdir(files));) {
+    int is_own = parse_log_name(file->d_name) > 0;
+    for (size_t i = 0; i < sizeof own / sizeof *own; i++) is_own |= strcmp(file->d_name, own[i]) == 0;
+    found |= !is_own;
+  }
   if (files) closedir(files);
+  free(index);
   return found;
 }
 
@@ -72,7 +91,7 @@ void check_directory(void) {
   if (reason) die(1, "cannot write %s: %s", directory_name, reason);
   check_state_link();
   char *state_directory = xasprintf("%s/.capture", directory_path);
-  if (access(state_directory, F_OK) < 0 && has_files(directory_path))
+  if (access(state_directory, F_OK) < 0 && has_foreign_files(directory_path))
     die(1, "%s is not a capture directory, and not empty; name another one with --dir", directory_name);
   if (access(state_directory, F_OK) == 0 && (reason = why_not_writable(state_directory)))
     die(1, "cannot write %s/.capture: %s", directory_name, reason);

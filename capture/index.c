@@ -80,10 +80,9 @@ static void parse_lines(void) {
   if (bad_count > 1) warn("%s/names: line %zu: bad line, left out, and %zu more", directory_path, first_bad, bad_count - 1);
 }
 
-/* Returns the number in the name of a log; 0 if it is no log. */
-static unsigned parse_log_name(const char *name) {
+unsigned parse_log_name(const char *name) {
   char *end;
-  if (strncmp(name, "log.", 4) != 0 || name[4] < '0' || name[4] > '9') return 0;
+  if (strncmp(name, "log.", 4) != 0 || name[4] < '1' || name[4] > '9') return 0;
   unsigned long number = strtoul(name + 4, &end, 10);
   return *end || number > MAX_LOGS ? 0 : number;
 }

@@ -133,6 +133,9 @@ CHANGES = {
     "an empty list of closed logs": (emptying(".capture/closed"), [], LEFT, FIRST, False),
     "another list of closed logs": (writing(".capture/closed", "x\n-5 x\n3 x\n2 x\n2\n888888888 y\n"), [], LEFT, FIRST, True),
     "nothing kept": (removing_what_is_kept, [], LEFT, FIRST, False),
+    "nothing kept of it": (removing(".capture"), [], LEFT, FIRST, False),
+    "only logs are left": (removing(".capture", ".gitignore", "facts", "names"), [], NEW, "", None),
+    "only logs and an empty index are left": (both(removing(".capture", ".gitignore", "facts"), emptying("names")), [], NEW, "", None),
     "two of them": (both(names_are(without("y", "sub")), removing(".capture/lock")), [], without("y", "sub") + "8 y\n9 sub\n", FIRST, True),
 }
 
@@ -189,8 +192,13 @@ def between_builds(checks, at):
 
 def refused(checks, at):
     """A directory that can't be written is rejected before anything is started, and stays unchanged."""
+    foreign = f"{CAPTURES} is not a capture directory, and not empty; name another one with --dir"
     rows = {
-        "nothing kept of it": (removing(".capture"), f"{CAPTURES} is not a capture directory, and not empty; name another one with --dir"),
+        **{
+            f"a file {name}": (both(removing(".capture"), writing(name, "")), foreign)
+            for name in ("x", "log", "log.", "log.1x", "log.01", "log.1048576", "d/log.1")
+        },
+        "other names": (both(removing(".capture"), writing("names", "smith\njones\n")), foreign),
         "a file in its place": (both(removing(".capture"), writing(".capture", "")), f"cannot write {CAPTURES}/.capture: Not a directory"),
         "names a folder": (folder_for("names"), f"{CAPTURES}/names is not a regular file"),
         "names a pipe": (pipe_for("names"), f"{CAPTURES}/names is not a regular file"),
