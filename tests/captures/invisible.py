@@ -43,6 +43,7 @@ PERMITTED = {
     "process-namespaces": "unshare -fp --mount-proc true",
     "tracing": "strace -o /dev/null true",
     "other-users": "setpriv --reuid=65534 --clear-groups true",
+    "user-namespaces": "setpriv --reuid=64321 --clear-groups unshare -r true",
 }
 
 # Commands that the builds of the table run. They wait at most a minute; a file records a wait that failed.
@@ -509,6 +510,13 @@ ORPHANS = "all: ; @(await go; touch late) & (touch early) & await early; echo be
 LIMITS = {
     "a namespace of processes": Case("all: ; @echo hi\n", "$C unshare -fp --mount-proc make", needs="process-namespaces"),
     "a namespace of processes, in a recipe": Case("all: ; @unshare -fp --mount-proc $(MAKE) x\nx: ; @echo hi\n", needs="process-namespaces"),
+    "a namespace of users": Case(
+        "all: ; @echo hi >&2; id -u\n", f"{AS(64321)} $C unshare -r make", setup="chmod 777 .", needs="user-namespaces", is_uncaptured=True
+    ),
+    "a namespace of users, in a recipe": Case(
+        "all: ; @unshare -r $(MAKE) -s x\nx: ; @echo hi >&2; id -u\n", f"{AS(64321)} $C make", setup="chmod 777 .", needs="user-namespaces",
+        logs="redo  all\nhi\n",
+    ),  # fmt: skip
     "the first process, and orphans": Case(
         ORPHANS, "unshare -fp --mount-proc --kill-child $C make; touch go; ls late early", status=2, needs="process-namespaces"
     ),
