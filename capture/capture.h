@@ -61,6 +61,7 @@ void add_time(struct text *text, int64_t time);
 /* Writes a number of up to MAX_DIGITS bytes, and returns its end. */
 enum { MAX_DIGITS = 20 };
 char *write_number(char *to, int64_t number);
+int is_utf8(const char *string);
 
 /* buffer.c: buffers of writes */
 

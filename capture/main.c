@@ -191,6 +191,9 @@ static void check_exports(void) {
     if (exports[i].path && !*exports[i].path) die(2, "%s: no file given", exports[i].option);
     if (exports[i].path && only_finishes) die(2, "--finish: writes no %s", exports[i].kind);
     if (!exports[i].path) continue;
+    /* The programs reject other arguments, which would be too late once the build has ended. */
+    if (!is_utf8(exports[i].path)) die(2, "%s: not UTF-8: %s", exports[i].option, exports[i].path);
+    if (!is_utf8(directory)) die(2, "%s: --dir is not UTF-8: %s", exports[i].option, directory);
     check_is_other(&exports[i], "--summary", summary);
     for (int j = 0; j < i; j++) check_is_other(&exports[i], exports[j].option, exports[j].path);
   }

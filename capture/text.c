@@ -39,3 +39,19 @@ void add_time(struct text *text, int64_t time) {
   add_number(text, time / 1000);
   add_text(text, decimals, sizeof decimals);
 }
+
+int is_utf8(const char *string) {
+  static const unsigned least[] = {0, 0x80, 0x800, 0x10000};
+  for (const unsigned char *byte = (const unsigned char *)string; *byte;) {
+    unsigned code = *byte++;
+    int more = code < 0xc0 ? 0 : code < 0xe0 ? 1 : code < 0xf0 ? 2 : 3;
+    if ((code >= 0x80 && code < 0xc0) || code > 0xf7) return 0;
+    if (more > 0) code &= 0x3f >> more;
+    for (int left = more; left > 0; left--) {
+      if ((*byte & 0xc0) != 0x80) return 0;
+      code = code << 6 | (*byte++ & 0x3f);
+    }
+    if (code < least[more] || (code >= 0xd800 && code < 0xe000) || code > 0x10ffff) return 0;
+  }
+  return 1;
+}

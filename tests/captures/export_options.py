@@ -170,6 +170,36 @@ def refused(checks, at, export):
     checks.expect("nothing was made", sorted(os.listdir(folder)), ["Makefile", "sub"])
 
 
+# The first and the last codes of each length, and what isn't well-formed: a part of a sequence, overlong forms, surrogates, large codes.
+UTF8 = b"\x01\x7f\xc2\x80\xdf\xbf\xe0\xa0\x80\xed\x9f\xbf\xee\x80\x80\xef\xbf\xbf\xf0\x90\x80\x80\xf4\x8f\xbf\xbf"
+NOT_UTF8 = (b"\xfc", b"\x80", b"\xbf", b"\xc3", b"\xc3x", b"\xe2\x82", b"\xf0\x90\x80", b"\xc0\xaf", b"\xc1\xbf", b"\xe0\x9f\xbf")
+NOT_UTF8 += (b"\xed\xa0\x80", b"\xed\xbf\xbf", b"\xf0\x8f\xbf\xbf", b"\xf4\x90\x80\x80", b"\xf5\x80\x80\x80", b"\xf8\x88\x80\x80\x80")
+NOT_UTF8 += (b"\xfe", b"\xff")
+
+
+@of_each
+def other_encodings(checks, at, export):
+    """Nothing starts if an argument of the program wouldn't be UTF-8, which it would reject when the build has ended."""
+    option = export.option.encode()
+    folder = project(at("encodings"), "all: ; @echo x >&2\n")
+    more = {"PATH": path_with(programs(at("programs"))), "READ": "Makefile"}
+
+    def told(*words):
+        done = subprocess.run([TOOL, "--quiet", *words, "make"], cwd=folder, env=environment(more), capture_output=True)
+        return done.returncode, done.stdout, done.stderr
+
+    for name in NOT_UTF8:
+        name = b"a" + name
+        wanted = (2, b"", b"redo-log-capture: %s: not UTF-8: %s\n" % (option, name))
+        checks.expect(f"{option}: the file {name}", told(option, name), wanted)
+        wanted = (2, b"", b"redo-log-capture: %s: --dir is not UTF-8: %s\n" % (option, name))
+        checks.expect(f"{option}: the directory {name}", told(option, b"x", b"--dir", name), wanted)
+    checks.expect(f"{option}: nothing was made", os.listdir(folder), ["Makefile"])
+    checks.expect(f"{option}: UTF-8", told(option, UTF8, b"--dir", b"d" + UTF8), (0, f"{export.program}\n".encode(), b""))
+    files = {b"Makefile", b"d" + UTF8, UTF8, f"{export.program}.notes".encode()}
+    checks.expect(f"{option}: files", set(os.listdir(os.fsencode(folder))), files)
+
+
 @of_each
 def beside(checks, at, export):
     """The program beside redo-log-capture comes before those in PATH."""
@@ -291,6 +321,6 @@ def real_files(checks, at):
     checks.expect("the files of the build before", [contents(folder, export.file) for export in EXPORTS], files)
 
 
-PARTS = (arguments, together, nothing_captured, refused, beside, signals, given_up, real_files)
+PARTS = (arguments, together, nothing_captured, refused, other_encodings, beside, signals, given_up, real_files)
 # Memory is refused by a preloaded library.
 WITHOUT_SANITIZERS = (out_of_memory,)
