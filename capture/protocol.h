@@ -17,7 +17,7 @@
 #include <stdint.h>
 
 /* make exports this variable to each recipe, with the number of the recipe as its value. The hook removes it again. */
-#define RECIPE_VARIABLE "redo-log-capture"
+#define RECIPE_VARIABLE "redo-log-recipe-number"
 
 enum {
   TOKEN_SIZE = 32,

@@ -34,9 +34,10 @@ PRE_FILES = {"pre.mk": "X = pre\n", "other.mk": "X = other\n", "below.mk": "x: ;
 GUARD = "ifneq ($(MAKEFILES),)\n$(error MAKEFILES is set)\nendif\nall: ; @echo all; $(MAKE) -s x\nx: ; @echo x\n"
 EXPORTS = ".EXPORT_ALL_VARIABLES:\n" + TWO_MAKES["Makefile"]
 REMADE = f"-include made.mk\nall: ; @echo $(Y) {SEEN}; $(MAKE) -s -f below.mk; true\nmade.mk: ; @echo 'Y=1' >made.mk\n"
-OF_CAPTURE = "CAPTURE_RUN redo-log-def redo-log-so redo-log-loaded redo-log-capture"
+OF_CAPTURE = "CAPTURE_RUN redo-log-def redo-log-so redo-log-loaded redo-log-recipe-number"
 GONE = f"$(foreach v,{OF_CAPTURE},$(info $v $(origin $v)))$(info $(filter redo-log%,$(.VARIABLES)))\nall: ; @echo all; true\n"
 LISTED = "all: ; @env | cut -d = -f 1 | grep -v -x -e MAKEFILES -e CAPTURE_RUN | sort\n"
+NAMED = "redo-log-capture = /opt/redo-log-capture\nall: ; @echo $(redo-log-capture); env | grep ^redo-log; true\n"
 BEFORE = "all: ; @echo $(X) [$(strip $(MAKEFILE_LIST))] [$(strip $(MAKEFILES))]; true\n"
 WAYS = {"": "$C $M", ", with -e": "$C $M -e", ", with -e in MAKEFLAGS": "MAKEFLAGS=-e $C $M"}
 VARIABLES = {
@@ -53,9 +54,12 @@ VARIABLES = {
             ("a makefile that is remade", REMADE, ":", TWO_MAKES, "cat"),
             ("the variables of the capture", GONE, ":", {}, "cat"),
             ("the variables of recipes", LISTED, ":", {}, "cat"),
+            ("a variable named redo-log-capture", NAMED, ":", {}, "cat"),
+            ("a variable named redo-log-capture that is exported", "export redo-log-capture\n" + NAMED, ":", {}, "cat"),
             ("all variables", f"{DUMP}\nall: ; @echo built\n", "export MAKEFILE_LIST=none", {}, OTHER_ORIGINS),
         )
     },
+    "a variable of the command line named redo-log-capture": Case(NAMED, "$C $M redo-log-capture=x"),
     "a script that puts a makefile before": Case(BEFORE, "MAKEFILES=$PWD/pre.mk; $C sh -c 'MAKEFILES=\"$PWD/pre.mk $MAKEFILES\" '$M", files=PRE_FILES),
 }
 
