@@ -1,5 +1,5 @@
 # Makes compile_commands.json, for clangd, cppcheck and others, from the commands of a capture with `redo-log-capture --commands`.
-#     jq -s --arg base "$PWD" -f compile_commands.jq build.jsonl >compile_commands.json
+#     jq -s --arg base "$(pwd -P)" -f compile_commands.jq build.jsonl >compile_commands.json
 # `--arg base DIR` says where the build began. What only a shell knows is left out: sources that variables, patterns or loops name, what
 # follows the first line of a here-document, and what a shell runs after `pushd`, or after both `cd` and `|` or `&`.
 include "lib" {search: "./"};

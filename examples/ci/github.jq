@@ -1,5 +1,5 @@
 # Makes workflow commands of GitHub Actions: annotations of source lines, and of targets that failed without an error in one.
-#     jq -s -r --arg root "$GITHUB_WORKSPACE" -f github.jq build.jsonl
+#     jq -s -r --arg root "$(realpath "$GITHUB_WORKSPACE")" -f github.jq build.jsonl
 # GitHub shows ten errors and ten warnings of a step, and 4,096 characters of each. Errors come first.
 include "lib" {search: "./"};
 def replace($old; $new): split($old) | join($new);

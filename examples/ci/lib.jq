@@ -32,7 +32,7 @@ def normal_path:
   | (if $is_absolute then "/" else "" end) + join("/") | if . == "" then "." else . end;
 def in_directory($directory): if startswith("/") or $directory == null then . else "\($directory)/\(.)" end;
 def absolute_path($directory): in_directory($directory) | in_directory($ARGS.named.base // $ARGS.named.root) | normal_path;
-# A path, relative to the root if it is below the root. `--arg root DIR` names the root, `--arg base DIR` where the build began.
+# A path, relative to the root if below it. `--arg root DIR` names the root, `--arg base DIR` where the build began, both without links.
 def path_from_root($directory): ($ARGS.named.root // $ARGS.named.base) as $root
   | absolute_path($directory) | if $root then ltrimstr(($root | normal_path | rtrimstr("/")) + "/") else . end;
 

@@ -1,5 +1,5 @@
 # Prints the warnings and errors that NEW has and OLD hasn't, and the targets that fail only in NEW. The status is 1 if there are any.
-#     jq -n -r --arg root "$PWD" --slurpfile old OLD.jsonl --slurpfile new NEW.jsonl -f new.jq
+#     jq -n -r --arg root "$(pwd -P)" --slurpfile old OLD.jsonl --slurpfile new NEW.jsonl -f new.jq
 # All warnings of a target that OLD lacks are new. Keys decide how many are new, and the source lines that compilers print decide which.
 # So code that moved isn't new, unless the message itself has a row. What several targets print about one place is one line.
 include "lib" {search: "./"};

@@ -1,5 +1,5 @@
 # Makes a SARIF 2.1.0 report of diagnostics that have a place, for GitHub's code scanning, editors and others.
-#     jq -s --arg root "$PWD" -f sarif.jq build.jsonl >build.sarif
+#     jq -s --arg root "$(pwd -P)" -f sarif.jq build.jsonl >build.sarif
 include "lib" {search: "./"};
 def rule: .flag // .severity;
 def uri: (if startswith("/") then "file://" else "" end) + (split("/") | map(@uri) | join("/"));

@@ -1,8 +1,10 @@
-"""The scripts of examples/ci. Each is run by the command in its second line, so these command lines are tested, too."""
+"""The scripts of examples/ci. Each is run by the command in its second line, so these command lines are tested, too. The variables of
+shells and servers name the directory by a symbolic link."""
 import os
 import re
 import subprocess
 import sys
+import tempfile
 
 sys.path.insert(0, os.path.dirname(os.path.dirname(os.path.abspath(__file__))))
 from checks import TOP, contents, environment  # noqa: E402
@@ -19,9 +21,11 @@ def command_of(name):
 def run_script(name, folder):
     """Runs a script in a directory with build.jsonl, or OLD.jsonl and NEW.jsonl. Returns the status, the output and messages."""
     command = command_of(name).split(" >")[0].replace(f" -f {name}.jq", f" -f '{EXAMPLES}/{name}.jq'")
-    root = os.path.realpath(folder)
-    more = {"GITHUB_WORKSPACE": root, "CI_PROJECT_DIR": root, "PWD": root}
-    done = subprocess.run(["sh", "-c", command], cwd=root, env=environment(more), capture_output=True)
+    with tempfile.TemporaryDirectory() as place:
+        link = os.path.join(place, "link")
+        os.symlink(os.path.realpath(folder), link)
+        more = {"GITHUB_WORKSPACE": link, "CI_PROJECT_DIR": link, "PWD": link}
+        done = subprocess.run(["sh", "-c", command], cwd=link, env=environment(more), capture_output=True)
     return done.returncode, done.stdout, done.stderr.decode(errors="replace")
 
 
