@@ -106,6 +106,8 @@ void set_base_dir(void);
 char *absolute_path(const char *name);
 /* Whether two absolute paths name one directory, which need not exist yet. */
 int is_same_directory(const char *path, const char *other);
+/* Whether two files have the same name in the same directory. Follows links to directories only. */
+int is_same_path(const char *name, const char *other);
 /* Returns the normal form of a name relative to `directory`; follows no link. The result is valid until the next call. */
 const char *normalize_name(const char *directory, const char *name, size_t size);
 /* Like normalize_name, for a name in `names`: an absolute name stays absolute. */

@@ -183,7 +183,7 @@ static char **parse_options(char **arguments) {
 }
 
 static void check_is_other(const struct export *export, const char *option, const char *path) {
-  if (path && strcmp(path, export->path) == 0) die(2, "%s: %s writes this file, too: %s", export->option, option, path);
+  if (path && is_same_path(path, export->path)) die(2, "%s: %s writes this file, too: %s", export->option, option, export->path);
 }
 
 static void check_exports(void) {

@@ -77,6 +77,22 @@ int is_same_directory(const char *path, const char *other) {
   return is_same;
 }
 
+/* Returns the path of the directory that has a file. */
+static char *parent_path(const char *name) {
+  char *path = absolute_path(name);
+  path[base_name(path) - path] = 0;
+  return path;
+}
+
+int is_same_path(const char *name, const char *other) {
+  if (strcmp(base_name(name), base_name(other)) != 0) return 0;
+  char *parent = parent_path(name), *other_parent = parent_path(other);
+  int is_same = is_same_directory(parent, other_parent);
+  free(parent);
+  free(other_parent);
+  return is_same;
+}
+
 const char *normalize_listed_name(const char *name) {
   return name[0] == '/' ? normalize_path("", name, strlen(name)) : normalize_name(base_dir, name, strlen(name));
 }

@@ -117,6 +117,9 @@ def together(checks, at):
         notes = f"--dir={CAPTURES}\n--output={export.file}\n"
         checks.expect(f"both: the arguments of {export.program}", contents(folder, f"{export.program}.notes"), notes)
         checks.expect(f"both: {export.file}", contents(folder, export.file), contents(folder, "Makefile"))
+    os.mkdir(os.path.join(folder, "sub"))
+    words = [TOOL, "--quiet", "--html", "x", "--json", "sub/x", "--summary", "./y", "make"]
+    checks.expect("both: one name in two directories", ran(folder, words, more), (0, names, ""))
     both = "".join(unwritten(export, f"{export.program} exited with status 6") for export in EXPORTS)
     told = ran(folder, [TOOL, "--quiet", *BOTH, "make"], {**more, "STATUS": "6"})
     checks.expect("both fail", told, (1, names, both))
@@ -153,6 +156,7 @@ def refused(checks, at, export):
     folder = project(at("refused"), "all: ; @echo x >&2; touch made\n")
     more = {"PATH": path_with(programs(at("programs")))}
     os.mkdir(os.path.join(folder, "sub"))
+    os.symlink("sub", os.path.join(folder, "link"))
     for words, status, text in (
         ([option], 2, f"{option}: no file given"),
         ([f"{option}=", "make"], 2, f"{option}: no file given"),
@@ -162,12 +166,15 @@ def refused(checks, at, export):
         (["--summary", "sub", "make"], 1, "cannot write sub: Is a directory"),
         ([option, "x", "--summary", "x", "make"], 2, f"{option}: --summary writes this file, too: x"),
         (["--json", "x", "--html", "x", "make"], 2, "--json: --html writes this file, too: x"),
+        ([option, "./x", "--summary", "x", "make"], 2, f"{option}: --summary writes this file, too: ./x"),
+        ([option, "x", "--summary", f"{folder}/sub//../x", "make"], 2, f"{option}: --summary writes this file, too: x"),
+        (["--json", "link/x", "--html", "sub/x", "make"], 2, "--json: --html writes this file, too: link/x"),
     ):
         checks.expect(f"refused: {words}", ran(folder, [TOOL, *words], more), (status, "", f"redo-log-capture: {text}\n"))
     without = ":".join(place for place in os.environ["PATH"].split(":") if not os.path.exists(os.path.join(place, program)))
     told = ran(folder, [TOOL, option, "x", "make"], {"PATH": without})
     checks.expect(f"no {program}", told, (1, "", f"redo-log-capture: {option} needs {program}, which isn't found\n"))
-    checks.expect("nothing was made", sorted(os.listdir(folder)), ["Makefile", "sub"])
+    checks.expect("nothing was made", sorted(os.listdir(folder)), ["Makefile", "link", "sub"])
 
 
 # The first and the last codes of each length, and what isn't well-formed: a part of a sequence, overlong forms, surrogates, large codes.
