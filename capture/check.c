@@ -55,32 +55,44 @@ void check_files(void) {
   check_file(".capture/new", W_OK);
 }
 
-/* Whether a file is empty, can't be read, or begins like a line of an index. */
-static int may_be_index(const char *path) {
-  char start[sizeof "!999999999 "] = "";
+/* Reads the first bytes of a file in a directory: none if it is empty or can't be read. */
+static void read_start(const char *directory, const char *name, char *start, size_t size) {
+  char *path = xasprintf("%s/%s", directory, name);
   int file = open(path, O_RDONLY | O_NONBLOCK | O_CLOEXEC);
-  if (file < 0) return 1;
-  ssize_t size = read(file, start, sizeof start - 1);
-  close(file);
+  ssize_t length = file < 0 ? 0 : read(file, start, size - 1);
+  start[length > 0 ? length : 0] = 0;
+  if (file >= 0) close(file);
+  free(path);
+}
+
+/* Whether a file is empty, can't be read, or begins like a line of an index. */
+static int may_be_index(const char *directory, const char *name) {
+  char start[sizeof "!999999999 "];
+  read_start(directory, name, start, sizeof start);
   const char *number = start + (*start == '!');
   size_t digits = strspn(number, "0123456789");
-  return size <= 0 || (digits > 0 && number[digits] == ' ');
+  return !*start || (digits > 0 && number[digits] == ' ');
+}
+
+/* Whether a file is empty, can't be read, or begins with a record, as the logs of recipes do. Other programs write log.1, too. */
+static int may_be_log(const char *directory, const char *name) {
+  char start[sizeof "@@REDO:"];
+  read_start(directory, name, start, sizeof start);
+  return !*start || strcmp(start, "@@REDO:") == 0;
 }
 
 /* Whether a directory has a file that no capture writes. The files of a capture may be left without `.capture` if a recipe removes the
    directory while logs are created. */
 static int has_foreign_files(const char *path) {
   static const char *const own[] = {".", "..", ".gitignore", "facts", "names"};
-  char *index = xasprintf("%s/names", path);
   DIR *files = opendir(path);
-  int found = !may_be_index(index);
+  int found = !may_be_index(path, "names");
   for (struct dirent *file; files && (file = readdir(files));) {
-    int is_own = parse_log_name(file->d_name) > 0;
+    int is_own = parse_log_name(file->d_name) > 0 && may_be_log(path, file->d_name);
     for (size_t i = 0; i < sizeof own / sizeof *own; i++) is_own |= strcmp(file->d_name, own[i]) == 0;
     found |= !is_own;
   }
   if (files) closedir(files);
-  free(index);
   return found;
 }
 

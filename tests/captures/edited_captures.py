@@ -199,6 +199,7 @@ def refused(checks, at):
             for name in ("x", "log", "log.", "log.1x", "log.01", "log.1048576", "d/log.1")
         },
         "other names": (both(removing(".capture"), writing("names", "smith\njones\n")), foreign),
+        "another program's log": (both(removing(".capture", ".gitignore", "facts", "names"), writing("log.1", "started\n")), foreign),
         "a file in its place": (both(removing(".capture"), writing(".capture", "")), f"cannot write {CAPTURES}/.capture: Not a directory"),
         "names a folder": (folder_for("names"), f"{CAPTURES}/names is not a regular file"),
         "names a pipe": (pipe_for("names"), f"{CAPTURES}/names is not a regular file"),
