@@ -11,7 +11,7 @@
 //! - `json` writes into memory. Here parts are written to a `Sink`. The text lines of a log are read from the table three times: for the
 //!   texts, for the exact bytes, and for the diagnostics. So no object is held in memory. Of one log, the commands, the needs and a map of
 //!   its diagnostics' keys are.
-//! - Lines that are stored together are tested together. First, this tells of which `Kind` a log is. If all lines are UTF-8, none is read for
+//! - Lines that are stored together are tested together. First, this shows of which `Kind` a log is. If all lines are UTF-8, none is read for
 //!   exact bytes, and up to 64 KiB of them are joined in a buffer with their escapes, and are one write.
 //! - A line is simple if it is UTF-8 without escapes, and without names of temporary files. Then no string of its diagnostic is tested for
 //!   UTF-8, escapes or colours, and its key is no copy. The objects of such diagnostics are joined, and some 32 KiB of them are one write.
