@@ -136,7 +136,7 @@ struct target_run {
   int has_begun;
   int is_mentioned;      /* as a prerequisite, in the log of another target */
   struct target *parent; /* the target whose recipe runs the make that makes this one; may be NULL */
-  const char *directory; /* of first_make */
+  const char *directory; /* of first_make, or of the last other make that makes the target */
   struct usage usage;    /* of its lines that have ended */
 
   /* The make that began its log. Lines that other makes run don't change its start and its end. */
@@ -387,6 +387,7 @@ struct line {
   struct pipe *pipe;
   struct command command;
   int64_t start_time;
+  int is_nested; /* its make is run by a recipe of the same target, whose usage has that of this line */
   struct line *next;
 };
 extern struct line *lines; /* the lines that run now */
@@ -420,6 +421,8 @@ extern int records_all_commands;
 void open_facts(void);
 /* Begins the facts of a target again. */
 void begin_facts(const struct target *target);
+/* Records the directory of a target that another make makes, too. */
+void record_directory(const struct target *target);
 void record_command(const struct target *target, const struct command *command);
 /* Records what the lines of the target that have ended took. */
 void record_usage(const struct target *target);
@@ -439,6 +442,9 @@ void close_facts(void);
 struct make *accept_make(int descriptor);
 /* Whether standard error of this make is redirected, so that its recipes have no text. */
 int is_redirected(const struct make *make);
+const char *make_directory(const struct make *make);
+/* Returns the target whose recipe runs this make, or NULL. */
+struct target *parent_target(struct make *make);
 struct make *make_from_notes(struct source *notes);
 void disconnect_make(struct make *make);
 /* Handles the notes of makes that are still connected when the command has ended. A child has the sockets of its make until it has

@@ -132,8 +132,8 @@ static void add_command(const struct command *command) {
 }
 
 /* Relative paths in the output can't be followed without the directory of the make, if that isn't the base directory. */
-static void add_target_line(const struct target *target, int status) {
-  const char *directory = target->run.directory ? relative_to_base(target->run.directory) : "";
+static void add_target_line(const struct target *target, const char *directory, int status) {
+  directory = relative_to_base(directory);
   char words[32] = "";
   if (status != 0) snprintf(words, sizeof words, " (exit %d)", status);
   add_text_to_block("redo-log-capture: ");
@@ -147,7 +147,7 @@ static void add_target_line(const struct target *target, int status) {
 static void add_head(const struct line *line, int status, const struct content *content) {
   struct target *target = line->target;
   if (status != 0 && target->run.has_failed_child && content->has_text && !content->has_other) return;
-  if (status != 0 || target != last_shown) add_target_line(target, status);
+  if (status != 0 || target != last_shown) add_target_line(target, make_directory(line->make), status);
   if (status != 0) add_command(&line->command);
 }
 

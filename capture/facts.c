@@ -83,6 +83,10 @@ static void append_fact(struct facts *facts, const struct target *target, const 
 
 void begin_facts(const struct target *target) {
   append_fact(&begun, target, "log", target->name, strlen(target->name));
+  record_directory(target);
+}
+
+void record_directory(const struct target *target) {
   const char *path = target->run.directory ? normalize_name(target->run.directory, "", 0) : "\n";
   if (strcmp(path, ".") == 0) path = base_dir;
   if (!strchr(path, '\n')) append_fact(&begun, target, "directory", path, strlen(path));

@@ -37,6 +37,8 @@ static void close_make(struct make *make) {
 
 int is_redirected(const struct make *make) { return make->is_redirected; }
 
+const char *make_directory(const struct make *make) { return make->directory; }
+
 struct recipe_entry *find_recipe(struct make *make, uint32_t number) {
   return number > 0 && number < make->recipe_count ? &make->recipes[number] : NULL;
 }
@@ -79,8 +81,7 @@ void receive_from_parent(struct make *make) {
   }
 }
 
-/* Returns the target whose recipe runs this make, or NULL. */
-static struct target *parent_target(struct make *make) {
+struct target *parent_target(struct make *make) {
   struct make *parent = parent_make(make);
   struct recipe_entry *recipe = parent ? find_recipe(parent, make->parent_recipe) : NULL;
   return recipe && recipe->target && recipe->target->run.has_begun ? recipe->target : NULL;

@@ -100,13 +100,28 @@ static void begin_recipe_of(struct target *target, const struct make *make, uint
   run->last_make = make, run->last_recipe = recipe;
 }
 
+/* Whether a recipe of the target runs this make, or a make that does. */
+static int is_within(struct make *make, const struct target *target) {
+  struct target *parent = parent_target(make);
+  while (parent && parent != target) parent = parent->run.parent;
+  return parent != NULL;
+}
+
+/* A recipe such as `sub/x: ; $(MAKE) -C sub x` only runs the make in whose directory the compiler runs. */
+static void change_directory(struct target *target, const struct make *make) {
+  if (make == target->run.first_make || strcmp(target->run.directory, make->directory) == 0) return;
+  target->run.directory = make->directory;
+  record_directory(target);
+}
+
 void begin_line(struct make *make, uint32_t recipe, struct target *target, struct command command, int64_t time, pid_t process,
                 struct pipe *pipe) {
   struct line *line = xrealloc(NULL, sizeof *line);
-  *line = (struct line){make, recipe, process, target, pipe, command, time, lines};
-  lines = line;
   struct target_run *run = &target->run;
+  *line = (struct line){make, recipe, process, target, pipe, command, time, run->has_begun && is_within(make, target), lines};
+  lines = line;
   target->running_lines++;
+  if (run->has_begun) change_directory(target, make);
   begin_recipe_of(target, make, recipe);
   run->line_count++, run->has_failed_child = 0;
   if (run->has_begun && run->process != process && run->status >= 0) write_journal("line", 2, (int64_t[]){target->number, process});
@@ -163,12 +178,13 @@ void end_line(struct line *line, struct line_end end, int is_shown) {
   int status = shell_status(end.wait_status);
   was_stopped |= end.is_stopping;
   end_output(line, status != 0, is_shown);
-  add_usage(&target->run.usage, end.usage);
+  if (!line->is_nested) add_usage(&target->run.usage, end.usage);
   record_usage(target);
   if (status != 0 && !records_all_commands) record_command(target, &line->command);
   target->run.is_interrupted = status != 0 && end.is_stopping;
   end_target_line(target, line->make, line->process, status, end.time);
   if (is_shown && !target->run.is_interrupted) show_output(line, status);
+  if (line->is_nested && status != 0 && !target->run.is_interrupted) target->run.has_failed_child = 1;
   target->running_lines--;
   detect_lost_log(target);
   if (target->running_lines == 0) close_log_soon(target);

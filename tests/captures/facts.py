@@ -3,6 +3,7 @@ somebody changed. It is read as docs/format.md specifies."""
 import os
 import random
 import re
+import resource
 import shutil
 import signal
 import subprocess
@@ -262,6 +263,34 @@ recipe: ; @true
     is_between = 60 * min(alone) / 3 <= took[0] + took[1] <= 3 * sum(alone) + 100
     checks.expect(f"facts: many short lines: {took}, {min(alone)} to {max(alone)} each", is_between, True)
     checks.expect("facts: of all targets but the run", sorted(wanted), ["a b", "both", "launched", "memory", "recipe", "sub", "time"])
+
+
+def of_two_makes(checks, at):
+    """A recipe only runs the make that makes its target. The directory is that of the other make, and no time counts twice."""
+    burn = f"{sys.executable} burn.py .3 30000000"
+    for name, makefile, below, wanted in (
+        ("below", "all: sub/x\nsub/x: ; @$(MAKE) -s -C sub x\n", f"x: ; @{burn}; echo x.c:1: error >&2; exit 3\n", "sub"),
+        ("two below", "all: sub/x\nsub/x: ; @$(MAKE) -s -C sub all\n", f"all: ; @$(MAKE) -s x\nx: ; @{burn}; echo x.c:1: error >&2; exit 3\n", "sub"),
+        ("beside", "all: ; @$(MAKE) -s -C other\n", f"x: ; @{burn}; echo x.c:1: error >&2; exit 3\n", "sub"),
+        ("above", "all: sub/x\nsub/x: ; @$(MAKE) -s -f inner.mk sub/x\n", "", None),
+    ):
+        folder = project(at(f"makes {name}"), makefile)
+        for place in ("sub", "other"):
+            os.mkdir(os.path.join(folder, place))
+            write(os.path.join(folder, place, "burn.py"), BURN)
+        write(os.path.join(folder, "burn.py"), BURN)
+        write(os.path.join(folder, "sub/Makefile"), below)
+        write(os.path.join(folder, "other/Makefile"), "all: ../sub/x\n../sub/x: ; @$(MAKE) -s -C ../sub x\n")
+        write(os.path.join(folder, "inner.mk"), f"sub/x: ; @{burn}; echo x.c:1: error >&2; exit 3\n")
+        before = resource.getrusage(resource.RUSAGE_CHILDREN)
+        status, _, printed = captured(folder, "-s")
+        after = resource.getrusage(resource.RUSAGE_CHILDREN)
+        all_ms = 1000 * (after.ru_utime + after.ru_stime - before.ru_utime - before.ru_stime)
+        found = all_facts(folder)[b"sub/x"]
+        checks.expect(f"facts: makes {name}: directory", (status, found["directory"]), (2, wanted.encode() if wanted else os.path.realpath(folder).encode()))
+        checks.expect(f"facts: makes {name}: {found['usage']} of {all_ms} ms", 290 <= sum(found["usage"][:2]) <= all_ms, True)
+        heads = re.findall(r"^redo-log-capture: sub/x .*", printed, re.M)
+        checks.expect(f"facts: makes {name}: printed once", heads, ["redo-log-capture: sub/x (exit 3)" + (f", in {wanted}" if wanted else "")])
 
 
 TEXTS = (b"exit %d", b"true; exit %d", b": \xff\x01'\t'; exit %d", b": x; \\\n  exit %d", b"  : ' y'; exit %d", b": 7 log a; exit %d")
@@ -574,4 +603,4 @@ def at_any_time(checks, at):
             shutil.rmtree(folder)
 
 
-PARTS = (examples, recorded, usages, random_builds, damaged, changed, reassigned, killed, at_any_time)
+PARTS = (examples, recorded, usages, of_two_makes, random_builds, damaged, changed, reassigned, killed, at_any_time)
