@@ -107,7 +107,7 @@ static int is_within(struct make *make, const struct target *target) {
   return parent != NULL;
 }
 
-/* A recipe such as `sub/x: ; $(MAKE) -C sub x` only runs the make in whose directory the compiler runs. */
+/* A recipe such as `sub/x: ; $(MAKE) -C sub x` only runs a sub-make, in whose directory the compiler then runs. */
 static void change_directory(struct target *target, const struct make *make) {
   if (make == target->run.first_make || strcmp(target->run.directory, make->directory) == 0) return;
   target->run.directory = make->directory;
