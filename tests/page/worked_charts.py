@@ -28,14 +28,14 @@ def ten_seconds(bottom):
 
 # ---- a small build ---------------------------------------------------------------------------------------------------
 
-# A unit is a millisecond. `t1` and `t2` are narrow, and in one bar. A log that nobody mentions says when `all` ended. More targets without
+# A unit is a millisecond. `t1` and `t2` are narrow, and in one bar. A log that nobody mentions says when `all` ran. More targets without
 # length may follow `t2`.
 def small(more=()):
-    log = record(b"do", time(0), b"all") + ran(b"out/a.o", 0, 4000) + ran(b"out/b.o", 2000, 9500, -1) + ran(b"t1", 5000, 5010)
+    log = ran(b"out/a.o", 0, 4000) + ran(b"out/b.o", 2000, 9500, -1) + ran(b"t1", 5000, 5010)
     log += ran(b"t2", 5012, 5020) + b"".join(ran(name, 5020, 5020) for name in more)
     log += record(b"do", UNTIMED, b"m") + record(b"done", time(10_000), b"2 m")
     names = (b"out/a.o", b"out/b.o", b"t1", b"t2", *more, b"m")
-    return {b"all": log, **{name: b"" for name in names}, b"x": record(b"done", time(10_000), b"0 all")}
+    return {b"all": log, **{name: b"" for name in names}, b"x": record(b"do", time(0), b"all") + record(b"done", time(10_000), b"0 all")}
 
 
 def small_html(narrow, last):
