@@ -100,7 +100,7 @@ static void begin_recipe_of(struct target *target, const struct make *make, uint
   run->last_make = make, run->last_recipe = recipe;
 }
 
-/* Whether a recipe of the target runs this make, or a make that does. */
+/* Whether a recipe of the target runs this make, directly or through others. */
 static int is_within(struct make *make, const struct target *target) {
   struct target *parent = parent_target(make);
   while (parent && parent != target) parent = parent->run.parent;
