@@ -20,8 +20,8 @@ pub fn beginning_is_first_report()
 
 /// The end of a target is the time of its closing record, and no closing record has a later time that counts. If its own log has neither
 /// such a record nor a `do` record of the target, the end is the time of a `done` record of the target in another log, and none there has
-/// a later one. It is unknown only if there is no such record either. So a log that says when its target began is of the last build, and
-/// older logs don't say when that build ended.
+/// a later one. It is unknown only if there is no such record either. So no other log says when a target ended if its own log says when it
+/// began.
 pub fn end_is_last_report()
     ensures last { (max_bytes : ℕ) (logs : List TimedLog) (target : List ℕ) →
         IfSome (times_of max_bytes logs target).ended (IsEnd max_bytes logs target) }
