@@ -217,15 +217,15 @@ def expect_junit(checks, project):
     checks.expect("a build: junit: kinds", kinds, {**{target: {} for target in STATUSES}, **failures, **above})
     checks.expect("a build: junit: texts", texts, {target: project.text(target) for target in STATUSES})
     checks.expect("a build: junit: counts", [suite.get(name) for name in ("tests", "failures", "skipped", "errors")], ["10", "4", "2", "0"])
-    times = {case.get("name"): round(1000 * float(case.get("time"))) for case in suite if case.get("name") != "all"}
-    own = {target: project.times(target) for target in STATUSES if target != "all"}
+    times = {case.get("name"): round(1000 * float(case.get("time"))) for case in suite}
+    own = {target: project.times(target) for target in STATUSES}
     checks.expect("a build: junit: times", times, {target: time["done"] - time["do"] for target, time in own.items()})
 
 
 def expect_trace(checks, project):
     trace = json.loads(made(checks, "a build", "trace", project.folder))
     checks.expect("a build: trace", trace_faults(trace), [])
-    times = {target: project.times(target) for target in STATUSES if target != "all"}
+    times = {target: project.times(target) for target in STATUSES}
     first = min(time["do"] for time in times.values())
     rows = {one["name"]: (one["ts"], one["dur"], one["args"]["status"], one["cat"]) for one in trace["traceEvents"]}
     checks.expect("a build: trace: events", rows, {

@@ -22,7 +22,7 @@ class Shown:
     def __init__(self, target, parent, place):
         self.target, self.parent, self.place = target, parent, place
         self.items, self.status, self.lines = [], None, []
-        self.how, self.began, self.ended = None, None, None
+        self.how, self.began, self.ended, self.ran_others = None, None, None, False
 
     @property
     def children(self):
@@ -54,17 +54,15 @@ class Shown:
 
     @property
     def mark(self):
-        """A span without length, if only one of the times is known. The log of a run by make says only when the run ended."""
+        """A span without length, if only one of the times is known. The log of a run by make may say only when the run ended."""
         if (self.began is None) == (self.ended is None) or self.parent.target is None and self.began is None:
             return None
         time = self.ended if self.began is None else self.began
         return Span(time, self.place, time, self.failed)
 
-    @property
-    def ran_others(self):
-        """Whether a log that is opened directly in this one is of a target that ran meanwhile."""
-        return self.has_times and any(
-            child.has_times and self.began <= child.began and self.began < child.ended <= self.ended for child in self.children)
+    def ran(self, began, ended):
+        """Whether a target with these times ran while this one did."""
+        return self.has_times and None not in (began, ended) and self.began <= began and self.began < ended <= self.ended
 
     def under(self):
         for child in self.children:
@@ -90,6 +88,10 @@ class Build:
             closed = [entry.status for entry in self.logs[shown.target].entries if isinstance(entry, Closed)]
             shown.status = closed[0] if closed else self.done.get(shown.target)
             shown.began, shown.ended = times.get(shown.target, (None, None))
+            others = [
+                entry.target for entry in self.logs[shown.target].entries
+                if isinstance(entry, Mention) and entry.kind != b"unchanged" and entry.target != shown.target]
+            shown.ran_others = any(shown.ran(*times.get(other, (None, None))) for other in others)
         without_cause = [shown for shown in self.order if shown.failed and not any(under.failed for under in shown.under())]
         ended = sorted((shown for shown in without_cause if shown.ended is not None), key=lambda shown: (shown.ended, shown.place))
         self.first = ended + [shown for shown in without_cause if shown.ended is None]

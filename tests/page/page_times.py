@@ -119,7 +119,7 @@ def differences(page, times, parents, jobs):
             if re.match(r"\d+ targets in ", title):
                 expect("a bar in a short build", False, title, "a bar of one target")
                 continue
-            near(f"the bar of {name}", text, times[name].took)
+            near(f"the bar of {name}", text, times[name].took, 3 * SLACK if name in parents else SLACK)
             began, ended = times[name].began - first, times[name].ended - first
             expect(f"the begin of the bar of {name}", abs(x * width - began) < 2 * SLACK + .01 * width, x * width, began)
             expect(f"the end of the bar of {name}", abs((x + span) * width - ended) < 3 * SLACK + .01 * width, (x + span) * width, ended)

@@ -106,6 +106,28 @@ def expect_timed_small(checks, program):
     checks.expect("a small build with times: marks", bars_on(page, b"e"), [(3, 9444, 10, False)])
 
 
+# ---- a target that another one needs ---------------------------------------------------------------------------------
+
+# `q` ran `x`. `p` needs it, and is mentioned first, so the log of `p` contains the log of `x`. `r` found that it was unchanged.
+NEEDED = {
+    b"all": record(b"do", time(1000), b"all") + ran(b"p", 1040, 1060) + ran(b"q", 1010, 1030) + ran(b"r", 1005, 1035)
+    + record(b"done", time(1100), b"0 all"),
+    b"p": record(b"do", time(1040), b"p") + ran(b"x", 1012, 1028) + record(b"done", time(1060), b"0 p"),
+    b"q": record(b"do", time(1010), b"q") + ran(b"x", 1012, 1028) + record(b"done", time(1030), b"0 q"),
+    b"r": record(b"do", time(1005), b"r") + record(b"unchanged", time(1030), b"x") + record(b"done", time(1035), b"0 r"),
+    b"x": ran(b"x", 1012, 1028),
+}
+
+
+def expect_needed(checks, program):
+    page = page_of_logs(program, NEEDED)
+    times = [tiles_on(page).get(term) for term in (b"Took", b"Sum of times", b"At once")]
+    checks.expect("a target that another one needs: tiles", times, [b"0.10 s", b"0.06 s", b"0.6, at most 2"])
+    checks.expect("a target that another one needs: longest", table_on(page, b"Longest"), rows_of([(30, 4), (20, 1), (16, 2)], duration))
+    checks.expect("a target that another one needs: callers", bars_on(page, b"w"), [(0, 0, 10_000, False), (3, 1000, 2000, False)])
+    checks.expect("a target that another one needs: the model", page, made_page(NEEDED))
+
+
 # ---- a larger build --------------------------------------------------------------------------------------------------
 
 # `all` has an end, and no beginning. It made 30 others one after another: the one at place i took 100 + i hundredths of a second.
@@ -190,6 +212,7 @@ def expect_durations(checks, program):
 def expect_summaries(checks, program):
     expect_small(checks, program)
     expect_timed_small(checks, program)
+    expect_needed(checks, program)
     expect_larger(checks, program)
     expect_larger_alone(checks, program)
     expect_usage(checks, program)

@@ -1,9 +1,8 @@
 -- The diagnostics of a log, entry by entry.
-use Rattle.std.proofs.Common.{◌≡◌, ℕ, zero, suc, ◌+◌, ◌-◌, ◌<◌, ◌≤◌, List, [], ◌∷◌, ◌++◌, Option, None, Some, length, take, drop, slice_get, refl, sym, ap, ◌∙◌, subst, arith}
+use Rattle.std.proofs.Common.{◌≡◌, ℕ, suc, ◌+◌, ◌-◌, ◌<◌, ◌≤◌, List, [], ◌∷◌, ◌++◌, Option, None, Some, length, take, drop, refl, sym, ap, ◌∙◌, subst, arith}
 use Rattle.std.specs.Prelude.{false, is_some}
 use Rattle.std.specs.List.{AllByRecursion, cons_option, flat_map}
 use Rattle.std.proofs.lemmas.List.{append-nil, append_assoc, length-append, length-drop, take-append-drop, take_all}
-use Rattle.std.proofs.lemmas.Option.{none-some, same_Some, slice_get_within}
 use Rattle.memchr.specs.Find.{NoneBefore, Nowhere, Passes, is_byte}
 use Rattle.redo_diagnostics.specs.Diagnostic.{DiagnosticValue, diagnostic_of}
 use Rattle.redo_line.proofs.CutLemmas.{free_before, holds_none, upto_feed}
@@ -13,6 +12,7 @@ use Rattle.redo_line.specs.declared.entry.Entry.{Entry}
 use Rattle.redo_line.specs.declared.entry.Entry.TheVariants.{Text, Mention, Done, Closing, Note}
 use Rattle.redo_logs.specs.Logs.{Log, entry_at}
 use Rattle.redo_logs.specs.Numbering.{AreLinesAt, AreTexts, HasText}
+use Rattle.redo_outline.proofs.LogEntries.{drop_here, drop_none, entry_is, within}
 use Rattle.redo_outline.specs.Facts.{entries_at, text_of, texts_of}
 use Rattle.redo_compare.specs.Occurrences.{FoundValue, IsFoundIn, occurrence_if, occurrences_of}
 use Rattle.redo_compare.specs.Private.Finding.{IsFirstLine, with_source_if}
@@ -122,25 +122,6 @@ module _ (stretch left : List ℕ) (position at : ℕ) (old found : FoundValue) 
 
 -- ---- the entries of a log
 
-entry-is : (logs : List Log) (i k : ℕ) → entry_at i k logs ≡ slice_get (entries_at i logs) k
-entry-is [] i k = refl
-entry-is (log ∷ logs) zero k = refl
-entry-is (log ∷ logs) (suc i) k = entry-is logs i k
-
-drop-here : (entries : List Entry) (k : ℕ) (entry : Entry) → slice_get entries k ≡ Some entry
-    → drop k entries ≡ entry ∷ drop (k + 1) entries
-drop-here [] k entry is = absurd (none-some entry is)
-drop-here (first ∷ entries) zero entry is = ap (λ (e : Entry). e ∷ entries) (same_Some first entry is)
-drop-here (first ∷ entries) (suc k) entry is =
-    let same : suc (k + 1) ≡ suc k + 1 = omega arith in
-    drop-here entries k entry is ∙ ap (λ (n : ℕ). entry ∷ drop n (first ∷ entries)) same
-
-drop-none : (entries : List Entry) (k : ℕ) → slice_get entries k ≡ None → drop k entries ≡ []
-drop-none [] zero is = refl
-drop-none [] (suc k) is = refl
-drop-none (first ∷ entries) zero is = absurd (none-some first (sym is))
-drop-none (first ∷ entries) (suc k) is = drop-none entries k is
-
 -- What was found in the text lines before entry `at`, of which there are `done`.
 pub record FoundBefore (entries : List Entry) (at done : ℕ) (found : FoundValue) : Type 0 where
   pub lines : List (List ℕ)
@@ -160,7 +141,7 @@ module _ (logs : List Log) (number : ℕ) where
   texts-are k [] are = let same : k ≡ k + 0 = omega arith in ap texts-from same
   texts-are k (text ∷ texts) are =
       let same : k + 1 + length texts ≡ k + suc (length texts) = omega arith in
-      ap texts_of (drop-here (entries_at number logs) k (Text text) (sym (entry-is logs number k) ∙ are.0))
+      ap texts_of (drop_here (entries_at number logs) k (Text text) (sym (entry_is logs number k) ∙ are.0))
       ∙ ap (λ (left : List (List ℕ)). text ∷ left) (texts-are (k + 1) texts are.1 ∙ ap (λ (n : ℕ). texts ++ texts-from n) same)
 
   -- An entry that is no text line.
@@ -209,7 +190,7 @@ module _ (logs : List Log) (number : ℕ) where
       let other = no-text entry k is (λ text. let more = some text in omega (arith, more, none)) in record {
         lines = so_far.lines;
         whole = so_far.whole ∙ ap (λ (l : List (List ℕ)). so_far.lines ++ l)
-            (ap texts_of (drop-here (entries_at number logs) k entry (sym (entry-is logs number k) ∙ is))
+            (ap texts_of (drop_here (entries_at number logs) k entry (sym (entry_is logs number k) ∙ is))
             ∙ ap (λ (text : Option (List ℕ)). cons_option text (texts-from (k + 1))) other);
         count = so_far.count;
         low = let before = so_far.low in omega (arith, before);
@@ -219,18 +200,15 @@ module _ (logs : List Log) (number : ℕ) where
   pub found-all : (k done : ℕ) (found : FoundValue) → entry_at number k logs ≡ None → FoundBefore (entries_at number logs) k done found
       → IsFoundIn (texts_of (entries_at number logs)) found
   found-all k done found none so_far =
-      let last : texts-from k ≡ [] = ap texts_of (drop-none (entries_at number logs) k (sym (entry-is logs number k) ∙ none)) in
+      let last : texts-from k ≡ [] = ap texts_of (drop_none (entries_at number logs) k (sym (entry_is logs number k) ∙ none)) in
       let whole : texts_of (entries_at number logs) ≡ so_far.lines =
       so_far.whole ∙ ap (λ (l : List (List ℕ)). so_far.lines ++ l) last ∙ append-nil so_far.lines in
       subst (λ (l : List (List ℕ)). IsFoundIn l found) (sym whole) so_far.is
 
-  within : (entry : Entry) (k : ℕ) → entry_at number k logs ≡ Some entry → k < length (entries_at number logs)
-  within entry k is = slice_get_within (entries_at number logs) k entry (sym (entry-is logs number k) ∙ is)
-
   pub entry-smaller : (entry : Entry) (k : ℕ) → entry_at number k logs ≡ Some entry
       → length (drop (k + 1) (entries_at number logs)) < length (drop k (entries_at number logs))
   entry-smaller entry k is =
-      let size = ap length (drop-here (entries_at number logs) k entry (sym (entry-is logs number k) ∙ is)) in
+      let size = ap length (drop_here (entries_at number logs) k entry (sym (entry_is logs number k) ∙ is)) in
       omega (arith, size)
 
   pub stretch-smaller : (k : ℕ) (bytes : List ℕ) (count : ℕ) → AreLinesAt logs number k bytes count → 0 < count
@@ -241,5 +219,5 @@ module _ (logs : List Log) (number : ℕ) where
           → length (drop (k + count) (entries_at number logs)) < length (drop k (entries_at number logs))
       by [] size are = absurd (omega (arith, size, some))
       by (text ∷ texts) size are =
-          let inside = within (Text text) k are.0 in
+          let inside = within logs number (Text text) k are.0 in
           omega (arith, size, inside, length-drop (k + count) (entries_at number logs), length-drop k (entries_at number logs))

@@ -1,10 +1,9 @@
 -- The text lines of a log, entry by entry.
-use Rattle.std.proofs.Common.{◌≡◌, ℕ, zero, suc, ◌+◌, ◌-◌, ◌<◌, ◌≤◌, List, [], ◌∷◌, ◌++◌, Option, None, Some, length, take, drop, slice_get, refl, sym, ap, ◌∙◌, arith}
+use Rattle.std.proofs.Common.{◌≡◌, ℕ, suc, ◌+◌, ◌-◌, ◌<◌, ◌≤◌, List, [], ◌∷◌, ◌++◌, Option, None, Some, length, take, drop, refl, sym, ap, ◌∙◌, arith}
 use Rattle.std.specs.Prelude.{◌==◌, false, true}
 use Rattle.std.specs.List.{cons_option, flat_map}
 use Rattle.std.proofs.lemmas.Bool.{eqb-false, eqb-true}
 use Rattle.std.proofs.lemmas.List.{append-nil, append_assoc, length-drop, take-append-drop, take_all}
-use Rattle.std.proofs.lemmas.Option.{none-some, same_Some, slice_get_within}
 use Rattle.memchr.specs.Find.{NoneBefore, Nowhere, Passes, is_byte}
 use Rattle.redo_line.proofs.CutLemmas.{free_before, holds_none, upto_feed}
 use Rattle.redo_line.proofs.LineLemmas.{are_lines, ended-free, ended-line, only_lines, rest-free, rest-line}
@@ -13,27 +12,9 @@ use Rattle.redo_line.specs.declared.entry.Entry.{Entry}
 use Rattle.redo_line.specs.declared.entry.Entry.TheVariants.{Text, Mention, Done, Closing, Note}
 use Rattle.redo_logs.specs.Logs.{Log, entry_at}
 use Rattle.redo_logs.specs.Numbering.{AreLinesAt, AreTexts, HasText}
+use Rattle.redo_outline.proofs.LogEntries.{drop_here, drop_none, entry_is}
 use Rattle.redo_outline.specs.Facts.{entries_at, text_of, texts_of}
 use Rattle.redo_json.specs.Private.LogLines.{AreNextLines, IsRefilled, texts_from}
-
-pub entry_is : (logs : List Log) (i k : ℕ) → entry_at i k logs ≡ slice_get (entries_at i logs) k
-entry_is [] i k = refl
-entry_is (log ∷ logs) zero k = refl
-entry_is (log ∷ logs) (suc i) k = entry_is logs i k
-
-pub drop_here : (entries : List Entry) (k : ℕ) (entry : Entry) → slice_get entries k ≡ Some entry
-    → drop k entries ≡ entry ∷ drop (k + 1) entries
-drop_here [] k entry is = absurd (none-some entry is)
-drop_here (first ∷ entries) zero entry is = ap (λ (e : Entry). e ∷ entries) (same_Some first entry is)
-drop_here (first ∷ entries) (suc k) entry is =
-    let same : suc (k + 1) ≡ suc k + 1 = omega arith in
-    drop_here entries k entry is ∙ ap (λ (n : ℕ). entry ∷ drop n (first ∷ entries)) same
-
-pub drop_none : (entries : List Entry) (k : ℕ) → slice_get entries k ≡ None → drop k entries ≡ []
-drop_none [] zero is = refl
-drop_none [] (suc k) is = refl
-drop_none (first ∷ entries) zero is = absurd (none-some first (sym is))
-drop_none (first ∷ entries) (suc k) is = drop_none entries k is
 
 module _ (logs : List Log) (number : ℕ) where
   -- No text line is left after the last entry.
@@ -53,9 +34,6 @@ module _ (logs : List Log) (number : ℕ) where
   no_text entry k is none =
       ap texts_of (drop_here (entries_at number logs) k entry (sym (entry_is logs number k) ∙ is))
       ∙ ap (λ (text : Option (List ℕ)). cons_option text (texts_from logs number (k + 1))) (skipped entry k is none)
-
-  pub within : (entry : Entry) (k : ℕ) → entry_at number k logs ≡ Some entry → k < length (entries_at number logs)
-  within entry k is = slice_get_within (entries_at number logs) k entry (sym (entry_is logs number k) ∙ is)
 
   texts_are : (k : ℕ) (texts : List (List ℕ)) → AreTexts logs number k texts
       → texts_from logs number k ≡ texts ++ texts_from logs number (k + length texts)

@@ -13,7 +13,7 @@ use Rattle.redo_logs.specs.Numbering.{AreLinesAt, AreTexts}
 use Rattle.redo_outline.specs.Facts.{entries_at, target_at}
 use Rattle.redo_json.specs.Build.{mentioned_name, mentions_in, name_if_new, needs_of, new_names}
 use Rattle.redo_json.specs.Private.Needing.{AreKnownNames, FoundNeeds, names_if_new}
-use Rattle.redo_json.proofs.LogLineLemmas.{drop_here, drop_none, entry_is, within}
+use Rattle.redo_outline.proofs.LogEntries.{drop_here, drop_none, entry_is, within}
 
 -- At first, only the log's own target is counted.
 pub begin_needs : (target : List ℕ) (entries : List Entry) (set names : List (List ℕ)) (own : List ℕ)

@@ -1,35 +1,17 @@
 -- The lines of a log whose diagnostics are new, entry by entry.
 use Rattle.std.proofs.Common.{◌≡◌, ◌∙◌, ◌<◌, ◌+◌, ℕ, zero, suc, Bool, true, false, List, [], ◌∷◌, ◌++◌, Option, None, Some, drop, filter, is_some, length, refl, sym, ap, arith, append_assoc}
-use Rattle.std.specs.Prelude.{if◌then◌else◌, option_and_then, slice_get}
+use Rattle.std.specs.Prelude.{if◌then◌else◌, option_and_then}
 use Rattle.std.specs.List.{list_any}
 use Rattle.redo_diagnostics.specs.Diagnostic.{diagnostic_of}
 use Rattle.redo_line.specs.Lines.{with_line_feed}
 use Rattle.redo_line.specs.declared.entry.Entry.{Entry}
 use Rattle.redo_logs.specs.Logs.{Log, entry_at}
+use Rattle.redo_outline.proofs.LogEntries.{drop_here, drop_none, entry_is}
 use Rattle.redo_outline.specs.Facts.{entries_at, text_of, texts_of}
 use Rattle.redo_compare.specs.Rounds.{picked}
 use Rattle.redo_new.specs.News.{new_line}
 use Rattle.redo_new.specs.Private.Sections.{diagnostic_in, flagged, line_if_diagnostic, new_among, new_text, texts_after}
 use Rattle.redo_new.proofs.LawLemmas as laws
-
-entry_is : (logs : List Log) (i k : ℕ) → entry_at i k logs ≡ slice_get (entries_at i logs) k
-entry_is [] i k = refl
-entry_is (log ∷ logs) zero k = refl
-entry_is (log ∷ logs) (suc i) k = entry_is logs i k
-
-drop_here : (entries : List Entry) (k : ℕ) (entry : Entry) → slice_get entries k ≡ Some entry
-    → drop k entries ≡ entry ∷ drop (k + 1) entries
-drop_here [] k entry is = absurd (cc)
-drop_here (first ∷ entries) zero entry is = let same : first ≡ entry = cc in ap (λ (e : Entry). e ∷ entries) same
-drop_here (first ∷ entries) (suc k) entry is =
-    let same : suc (k + 1) ≡ suc k + 1 = omega arith in
-    drop_here entries k entry is ∙ ap (λ (n : ℕ). entry ∷ drop n (first ∷ entries)) same
-
-drop_none : (entries : List Entry) (k : ℕ) → slice_get entries k ≡ None → drop k entries ≡ []
-drop_none [] zero is = refl
-drop_none [] (suc k) is = refl
-drop_none (first ∷ entries) zero is = absurd (cc)
-drop_none (first ∷ entries) (suc k) is = drop_none entries k is
 
 abbrev added : Option (List ℕ) → List (List ℕ) → List (List ℕ)
 added None lines = lines

@@ -1,55 +1,20 @@
 -- Facts of a log, from the facts of its first entries and of the rest.
-use Rattle.std.proofs.Common.{◌≡◌, ℕ, zero, suc, ◌+◌, ◌<◌, ◌≤◌, Bool, true, false, List, [], ◌∷◌, ◌++◌, Option, None, Some, length, drop, map, refl, sym, ap, ◌∙◌, arith, length-append, inl, inr}
-use Rattle.std.specs.Prelude.{if◌then◌else◌, slice_get}
+use Rattle.std.proofs.Common.{◌≡◌, ℕ, ◌+◌, ◌<◌, ◌≤◌, Bool, true, false, List, [], ◌∷◌, ◌++◌, Option, None, Some, length, drop, map, refl, sym, ap, ◌∙◌, arith, length-append}
+use Rattle.std.specs.Prelude.{if◌then◌else◌}
 use Rattle.std.specs.List.{cons_option, flat_map}
 use Rattle.std.specs.Option.{option_or}
-use Rattle.std.proofs.lemmas.List.{append-nil, drop_all, drop_more, length-map}
+use Rattle.std.proofs.lemmas.List.{append-nil, length-map}
 use Rattle.std.proofs.lemmas.List.Sums.{sum_by-append, sum_by-cons}
-use Rattle.std.proofs.lemmas.Option.{get_or_from_slice_get, none-some, slice_get_cases, slice_get_within}
 use Rattle.redo_line.specs.declared.entry.Entry.{Entry}
 use Rattle.redo_line.specs.declared.entry.Entry.TheVariants as entry
 use Rattle.redo_line.specs.Lines.{ended, rest, with_line_feed}
 use Rattle.redo_line.proofs.LineLemmas.{only_lines}
 use Rattle.redo_logs.specs.Logs.{Log, entry_at}
-use Rattle.redo_logs.specs.Numbering.{AreLinesAt, AreTexts, HasText}
+use Rattle.redo_logs.specs.Numbering.{AreLinesAt, HasText}
+use Rattle.redo_outline.proofs.LogEntries.{no_entry, one_entry, text_entries}
 use Rattle.redo_outline.specs.declared.facts.LogFacts.{LogFacts}
 use Rattle.redo_outline.specs.Facts.{closing_status, entries_at, is_warning, saturated, status_in_log, text_of, text_size, texts_of}
 use Rattle.redo_outline.specs.Private.LogFacts.{facts_of, warnings_if}
-
--- ---- the entries of a log
-
-entry_in : (number k : ℕ) (logs : List Log) → entry_at number k logs ≡ slice_get (entries_at number logs) k
-entry_in number k [] = refl
-entry_in zero k (log ∷ logs) = refl
-entry_in (suc number) k (log ∷ logs) = entry_in number k logs
-
--- An entry, and the entries after it.
-drop_one : (k : ℕ) (entries : List Entry) (entry : Entry) → slice_get entries k ≡ Some entry → drop k entries ≡ entry ∷ drop (k + 1) entries
-drop_one k entries entry at =
-    drop_more entries k entry (slice_get_within entries k entry at)
-    ∙ ap (λ e. e ∷ drop (k + 1) entries) (get_or_from_slice_get entries k entry entry at)
-
-drop_none : (k : ℕ) (entries : List Entry) → slice_get entries k ≡ None → drop k entries ≡ []
-drop_none k entries none = elim ((slice_get_cases entries k).1)
-    [ inl there ↦ absurd (none-some there.0 (sym none ∙ there.2)) | inr past ↦ drop_all k entries past.0 ]
-
-module _ (logs : List Log) (number : ℕ) where
-  abbrev pub entries : List Entry
-  entries = entries_at number logs
-
-  one_entry : (k : ℕ) (entry : Entry) → entry_at number k logs ≡ Some entry → drop k entries ≡ entry ∷ drop (k + 1) entries
-  one_entry k entry at = drop_one k entries entry (sym (entry_in number k logs) ∙ at)
-
-  no_entry : (k : ℕ) → entry_at number k logs ≡ None → drop k entries ≡ []
-  no_entry k none = drop_none k entries (sym (entry_in number k logs) ∙ none)
-
-  text_entries : (k : ℕ) (texts : List (List ℕ)) → AreTexts logs number k texts
-      → drop k entries ≡ map entry.Text texts ++ drop (k + length texts) entries
-  text_entries k [] are = ap (λ (n : ℕ). drop n entries) (omega arith)
-  text_entries k (text ∷ texts) are =
-      one_entry k (entry.Text text) are.0
-      ∙ ap (λ es. entry.Text text ∷ es) (text_entries (k + 1) texts are.1
-      ∙ ap (λ (n : ℕ). map entry.Text texts ++ drop n entries) (omega arith))
 
 -- ---- facts of texts and of other entries
 
@@ -107,6 +72,9 @@ is_no_text (entry.Closing pid status) other = refl
 is_no_text (entry.Note pid kind text) other = refl
 
 -- ---- a loop over the entries
+
+abbrev entries : List Log → ℕ → List Entry
+entries logs number = entries_at number logs
 
 abbrev max_count : ℕ
 max_count = 0xFFFFFFFFFFFFFFFF

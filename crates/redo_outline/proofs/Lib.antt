@@ -12,5 +12,6 @@ mod SummaryLemmas
 mod SweepLemmas
 mod TreeLemmas
 mod WarningLemmas
+pub mod LogEntries
 pub mod Nodes
 pub mod OnlyTree

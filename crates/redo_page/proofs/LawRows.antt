@@ -213,13 +213,18 @@ blank_entries_are = refl
 
 -- The target at position 0 contains the one at position 1.
 abbrev target_at_times : Option ℕ → ℕ → Option ℕ → Option ℕ → Target
-target_at_times parent position began ended =
-    record { position = position; parent = parent; failed = false; times = record { began = began; ended = ended } }
+target_at_times parent position began ended = record {
+  position = position;
+  parent = parent;
+  failed = false;
+  times = record { began = began; ended = ended };
+  ran_others = false;
+}
 
 -- Callers, and targets that ran no others, of which the last one has a mark.
 abbrev timed_targets : ℕ → ℕ → List Target
 timed_targets callers recipes =
-    replicate callers (target_at_times None 0 (Some 1) (Some 9))
+    replicate callers (record (target_at_times None 0 (Some 1) (Some 9)) { ran_others = true })
     ++ (replicate recipes (target_at_times (Some 0) 1 (Some 2) (Some 3)) ++ target_at_times (Some 0) 2 (Some 4) None ∷ [])
 
 -- One of ten may have a mark.

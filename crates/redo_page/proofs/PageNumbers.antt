@@ -31,7 +31,7 @@ use Rattle.redo_page.specs.Tree.{root_failures, positions_where}
 use Rattle.redo_page.proofs.PagePartLemmas.{part_earlier, part_later}
 use Rattle.redo_summary.specs.declared.target.Target.{Target}
 use Rattle.redo_summary.specs.Summary.{Facts, is_timed}
-use Rattle.redo_summary.specs.Targets.{targets_of}
+use Rattle.redo_summary.specs.Spans.{targets_of}
 use Rattle.redo_summary.specs.Usage.{UsageFacts, usage_of}
 use Rattle.redo_summary.specs.Window.{known_times}
 use Rattle.redo_units.specs.Durations.{duration_words}
@@ -129,7 +129,7 @@ module _ (request : Request) (logs : List Log) (requested : List (List ℕ)) whe
   nodes = page_outline request logs requested
 
   abbrev targets : List Target
-  targets = targets_of nodes request.times
+  targets = targets_of logs nodes request.times
 
   abbrev facts : Facts
   facts = page_facts request logs requested

@@ -439,8 +439,13 @@ abbrev counted : List Node
 counted = record (node_at nodes 0) { warnings = 7; bytes = 1 } ∷ drop 1 nodes
 
 abbrev target : ℕ → ℕ → ℕ → Target
-target position began ended =
-    record { position = position; parent = Some 0; failed = false; times = record { began = Some began; ended = Some ended } }
+target position began ended = record {
+  position = position;
+  parent = Some 0;
+  failed = false;
+  times = record { began = Some began; ended = Some ended };
+  ran_others = false;
+}
 
 -- Two recipes, which ran for 60 s and for 65 s.
 abbrev targets : List Target

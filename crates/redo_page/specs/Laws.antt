@@ -40,9 +40,9 @@ use Rattle.redo_page.specs.Scope.{began_parts}
 use Rattle.redo_chart.specs.Laws.{DrawsAll, shapes_of}
 use Rattle.redo_summary.specs.declared.rank.Rank.{Rank}
 use Rattle.redo_summary.specs.declared.target.Target.{Target}
-use Rattle.redo_summary.specs.Callers.{callers_of, marks_of, recipes_of}
+use Rattle.redo_summary.specs.Spans.{callers_of, marks_of, recipes_of, targets_of}
 use Rattle.redo_summary.specs.Summary.{bytes_of, sum_of, warnings_of}
-use Rattle.redo_summary.specs.Targets.{duration_of, targets_of, times_of}
+use Rattle.redo_summary.specs.Targets.{duration_of, times_of}
 use Rattle.redo_summary.specs.Usage.{known_usages, processor_of, usage_at}
 use Rattle.redo_summary.specs.Window.{cut, known_times, time_over, window_over}
 use Rattle.redo_timeline.specs.Alone.{alone}
@@ -531,7 +531,7 @@ module _ (request : Request) (logs : List Log) (requested : List (List ℕ)) whe
 
   -- The shown targets, with their times.
   abbrev pub page_targets : List Target
-  page_targets = targets_of (page_outline request logs requested) request.times
+  page_targets = targets_of logs (page_outline request logs requested) request.times
 
   -- The processor time of the recipes that ran no others, if it is known.
   abbrev pub page_processor : Option ℕ

@@ -27,7 +27,7 @@ ghost use Rattle.redo_page.specs.Recipe.{recipe_at};
 ghost use Rattle.redo_page.specs.Tree.{articles, root_failures, has_failed, is_moved, node_at, positions_where};
 ghost use Rattle.redo_html.specs.declared.chart.GroupKind.TheVariants.{Callers, Recipes, Untimed};
 ghost use Rattle.redo_trim.specs.Laws.{head_and_tail};
-ghost use Rattle.redo_summary.specs.Callers.{callers_of, marks_of, recipes_of, spans_of};
+ghost use Rattle.redo_summary.specs.Spans.{callers_of, marks_of, recipes_of, spans_of};
 ghost use Rattle.redo_summary.specs.Laws.{IsOverTimes};
 ghost use Rattle.redo_summary.specs.Window.{known_times, time_over};
 ghost use Rattle.redo_timeline.specs.declared.span.Window.{Window};

@@ -1,90 +1,55 @@
--- Which targets ran others.
-use Rattle.std.proofs.Common.{◌≡◌, ℕ, ◌+◌, ◌<◌, Bool, true, false, cond, List, [], ◌∷◌, ◌++◌, Option, None, Some, get_or, length, take, refl, sym, ap, ◌∙◌}
-use Rattle.std.specs.Prelude.{not, filter}
-use Rattle.std.specs.List.{cons_option}
-use Rattle.std.proofs.lemmas.List.{take_more}
-use Rattle.std.proofs.lemmas.List.Elements.{filter-append, filter_map-append}
-use Rattle.redo_timeline.specs.declared.span.Span.{Span}
-use Rattle.redo_summary.specs.declared.target.Target.{Target}
-use Rattle.redo_summary.specs.Callers.{ran_others, spans_of}
-use Rattle.redo_summary.specs.Private.Marking.{AreMarked, ran_any}
-use Rattle.redo_summary.specs.Targets.{span_of}
+-- Which targets ran others, entry by entry.
+use Rattle.std.proofs.Common.{◌≡◌, ℕ, ◌+◌, ◌<◌, Bool, true, false, List, [], ◌∷◌, ◌++◌, None, Some, drop, length, map, refl, sym, ap, ◌∙◌, arith, length-append, length-drop}
+use Rattle.std.specs.Prelude.{◌||◌}
+use Rattle.std.specs.List.{list_any}
+use Rattle.std.proofs.lemmas.Bool.{or_left}
+use Rattle.std.proofs.lemmas.List.{length-map}
+use Rattle.redo_line.specs.declared.entry.Entry.{Entry}
+use Rattle.redo_line.specs.declared.entry.Entry.TheVariants.{Text}
+use Rattle.redo_logs.specs.Logs.{Log, entry_at}
+use Rattle.redo_logs.specs.Numbering.{AreLinesAt}
+use Rattle.redo_times.specs.declared.times.Times.{Times}
+use Rattle.redo_outline.proofs.LogEntries.{no_entry, one_entry, text_entries}
+use Rattle.redo_outline.specs.Facts.{entries_at}
+use Rattle.redo_summary.specs.Callers.{mentioned_log, ran_mentioned}
 
--- ---- callers and recipes
+module _ (logs : List Log) (times : List Times) (number : ℕ) where
+  abbrev pub shows_run : Entry → Bool
+  shows_run entry = ran_mentioned times number (mentioned_log logs entry)
 
--- These are the spans of the first targets that ran others, and all other spans of these targets.
-pub record AreSplitUpTo (targets : List Target) (count : ℕ) (ran ran_none : List Span) : Type 0 where
-  pub callers : ran ≡ filter (ran_others targets) (spans_of (take count targets))
-  pub recipes : ran_none ≡ filter (λ (span : Span). not (ran_others targets span)) (spans_of (take count targets))
+  -- Whether the target ran others, by the entries from entry `k` on.
+  abbrev pub ran_from : ℕ → Bool
+  ran_from k = list_any shows_run (drop k (entries_at number logs))
 
-pub split_as : (targets : List Target) (count : ℕ) (callers recipes new_callers new_recipes : List Span) → new_callers ≡ callers
-    → new_recipes ≡ recipes → AreSplitUpTo targets count callers recipes → AreSplitUpTo targets count new_callers new_recipes
-split_as targets count callers recipes new_callers new_recipes same others split =
-    record { callers = same ∙ split.callers; recipes = others ∙ split.recipes }
+  skip_texts : (texts : List (List ℕ)) (entries : List Entry) → list_any shows_run (map Text texts ++ entries) ≡ list_any shows_run entries
+  skip_texts [] entries = refl
+  skip_texts (text ∷ texts) entries = skip_texts texts entries
 
--- The spans that pass a test, with the span of one more target.
-passed_more : (test : Span → Bool) (targets : List Target) (i : ℕ) (d : Target) (span : Option Span) → i < length targets
-    → span ≡ span_of (get_or targets i d)
-    → filter test (spans_of (take (i + 1) targets)) ≡ filter test (spans_of (take i targets)) ++ filter test (cons_option span [])
-passed_more test targets i d span below is =
-    ap (λ ts. filter test (spans_of ts)) (take_more targets i d below)
-    ∙ ap (filter test) (filter_map-append span_of (take i targets) (get_or targets i d ∷ []))
-    ∙ filter-append test (spans_of (take i targets)) (cons_option (span_of (get_or targets i d)) [])
-    ∙ ap (λ s. filter test (spans_of (take i targets)) ++ filter test (cons_option s [])) (sym is)
+  -- Text lines mention nothing.
+  pub after_texts : (k : ℕ) (bytes : List ℕ) (count : ℕ) → AreLinesAt logs number k bytes count → ran_from (k + count) ≡ ran_from k
+  after_texts k bytes count lines =
+      ap (λ (n : ℕ). ran_from (k + n)) (sym lines.count_is)
+      ∙ sym (ap (list_any shows_run) (text_entries logs number k lines.texts lines.are) ∙ skip_texts lines.texts _)
 
-passed_one : (test : Span → Bool) (span : Span) → test span ≡ true → filter test (span ∷ []) ≡ span ∷ []
-passed_one test span is = ap (λ (b : Bool). cond b (span ∷ []) []) is
+  pub lines_within : (k : ℕ) (bytes : List ℕ) (count : ℕ) → AreLinesAt logs number k bytes count → 0 < count
+      → k < length (entries_at number logs)
+  lines_within k bytes count lines some =
+      let entries = entries_at number logs in
+      let texts = map Text lines.texts in
+      let after = drop (k + length lines.texts) entries in
+      let left = ap length (text_entries logs number k lines.texts lines.are) in
+      let first = length-append texts after in
+      let texts_count = length-map lines.texts Text in
+      let count_is = lines.count_is in
+      omega (arith, left, first, texts_count, count_is, some, length-drop k entries)
 
-failed_one : (test : Span → Bool) (span : Span) → test span ≡ false → filter test (span ∷ []) ≡ []
-failed_one test span is = ap (λ (b : Bool). cond b (span ∷ []) []) is
+  pub after_entry : (k : ℕ) (entry : Entry) → entry_at number k logs ≡ Some entry → shows_run entry ≡ false → ran_from (k + 1) ≡ ran_from k
+  after_entry k entry at not_run =
+      sym (ap (list_any shows_run) (one_entry logs number k entry at) ∙ ap (λ (b : Bool). b || ran_from (k + 1)) not_run)
 
-append-nil : (spans : List Span) → spans ++ [] ≡ spans
-append-nil [] = refl
-append-nil (span ∷ spans) = ap (λ rest. span ∷ rest) (append-nil spans)
+  pub shown_by : (k : ℕ) (entry : Entry) → entry_at number k logs ≡ Some entry → shows_run entry ≡ true → ran_from k ≡ true
+  shown_by k entry at run =
+      ap (list_any shows_run) (one_entry logs number k entry at) ∙ or_left (shows_run entry) (ran_from (k + 1)) run
 
-module _ (targets : List Target) (i : ℕ) (d : Target) (callers recipes : List Span) (below : i < length targets)
-    (so_far : AreSplitUpTo targets i callers recipes) where
-  pub split_nothing : None ≡ span_of (get_or targets i d) → AreSplitUpTo targets (i + 1) callers recipes
-  split_nothing none = record {
-    callers = so_far.callers ∙ sym (passed_more (ran_others targets) targets i d None below none ∙ append-nil _);
-    recipes = so_far.recipes ∙ sym (passed_more (λ (span : Span). not (ran_others targets span)) targets i d None below none
-        ∙ append-nil _);
-  }
-
-  module _ (marked : List Bool) (are_marked : AreMarked targets targets marked) (span : Span)
-      (is : Some span ≡ span_of (get_or targets i d)) where
-    mark_is : (b : Bool) → b ≡ get_or marked i false → ran_others targets span ≡ b
-    mark_is b read = sym (read ∙ are_marked i d below ∙ ap (ran_any targets) (sym is))
-
-    pub split_caller : true ≡ get_or marked i false → AreSplitUpTo targets (i + 1) (callers ++ span ∷ []) recipes
-    split_caller read =
-        let ran = mark_is true read in
-        record {
-          callers =
-              ap (λ spans. spans ++ span ∷ []) so_far.callers
-              ∙ sym (passed_more (ran_others targets) targets i d (Some span) below is
-              ∙ ap (λ spans. filter (ran_others targets) (spans_of (take i targets)) ++ spans) (passed_one (ran_others targets) span ran));
-          recipes =
-              so_far.recipes
-              ∙ sym
-              (passed_more (λ (span : Span). not (ran_others targets span)) targets i d (Some span) below is
-              ∙ ap (λ spans. filter (λ (span : Span). not (ran_others targets span)) (spans_of (take i targets)) ++ spans)
-              (failed_one (λ (span : Span). not (ran_others targets span)) span (ap not ran)) ∙ append-nil _);
-        }
-
-    pub split_recipe : false ≡ get_or marked i false → AreSplitUpTo targets (i + 1) callers (recipes ++ span ∷ [])
-    split_recipe read =
-        let ran = mark_is false read in
-        record {
-          callers =
-              so_far.callers
-              ∙ sym (passed_more (ran_others targets) targets i d (Some span) below is
-              ∙ ap (λ spans. filter (ran_others targets) (spans_of (take i targets)) ++ spans) (failed_one (ran_others targets) span ran)
-              ∙ append-nil _);
-          recipes =
-              ap (λ spans. spans ++ span ∷ []) so_far.recipes
-              ∙ sym
-              (passed_more (λ (span : Span). not (ran_others targets span)) targets i d (Some span) below is
-              ∙ ap (λ spans. filter (λ (span : Span). not (ran_others targets span)) (spans_of (take i targets)) ++ spans)
-              (passed_one (λ (span : Span). not (ran_others targets span)) span (ap not ran)));
-        }
+  pub shown_by_none : (k : ℕ) → entry_at number k logs ≡ None → ran_from k ≡ false
+  shown_by_none k none = ap (list_any shows_run) (no_entry logs number k none)

@@ -3,13 +3,13 @@ use Rattle.std.proofs.Common.{◌≡◌, ℕ, true, false, List, [], ◌∷◌, 
 use Rattle.redo_facts.specs.Facts.{RecipeFacts, nothing}
 use Rattle.redo_timeline.specs.declared.span.Span.{Span}
 use Rattle.redo_timeline.specs.declared.span.Window.{Window}
-use Rattle.redo_summary.specs.Callers.{callers_of}
+use Rattle.redo_summary.specs.Spans.{callers_of, only_time, targets_of}
 use Rattle.redo_outline.proofs.Nodes.{no_node}
 use Rattle.redo_outline.specs.declared.node.Node.{Node}
 use Rattle.redo_times.specs.declared.times.Times.{Times}
 use Rattle.redo_summary.specs.Ranks.{duration, first_ranks, longest_of, most_warned}
 use Rattle.redo_summary.specs.Summary.{bytes_of, facts_of, is_timed, total, warnings_of}
-use Rattle.redo_summary.specs.Targets.{no_times, only_time, targets_of, times_of}
+use Rattle.redo_summary.specs.Targets.{no_times, times_of}
 use Rattle.redo_summary.specs.Usage.{known_usages, most_memory, processor_of, usage_at}
 use Rattle.redo_summary.specs.Window.{known_times, time_over, window_over}
 use Rattle.redo_summary.specs.declared.rank.Rank.{Rank}
@@ -42,14 +42,19 @@ sums = refl
 -- ---- single targets
 
 abbrev target : ℕ → Option ℕ → Option ℕ → Option ℕ → Target
-target position parent began ended =
-    record { position = position; parent = parent; failed = false; times = record { began = began; ended = ended } }
+target position parent began ended = record {
+  position = position;
+  parent = parent;
+  failed = false;
+  times = record { began = began; ended = ended };
+  ran_others = false;
+}
 
 abbrev all : Target
-all = target 0 None (Some 100) (Some 900)
+all = record (target 0 None (Some 100) (Some 900)) { ran_others = true }
 
 abbrev lib : Target
-lib = target 1 (Some 0) (Some 200) (Some 800)
+lib = record (target 1 (Some 0) (Some 200) (Some 800)) { ran_others = true }
 
 abbrev object : Target
 object = target 2 (Some 1) (Some 300) (Some 400)
@@ -119,9 +124,10 @@ late_log = refl
 
 -- A requested target may have failed, and a signal may have killed one.
 abbrev failed_in : Option ℕ → Target
-failed_in parent = record { position = 0; parent = parent; failed = true; times = no_times }
+failed_in parent = record { position = 0; parent = parent; failed = true; times = no_times; ran_others = false }
 
-failures : map (λ node. targets_of (node ∷ []) []) (record no_node { status = Some (pos 1) } ∷ record no_node { status = Some (negsuc 8) }
+failures : map (λ node. targets_of [] (node ∷ []) [])
+    (record no_node { status = Some (pos 1) } ∷ record no_node { status = Some (negsuc 8) }
     ∷ record no_node { parent = Some 7; status = Some (pos 130) } ∷ [])
     ≡ (failed_in None ∷ []) ∷ (failed_in None ∷ []) ∷ (failed_in (Some 7) ∷ []) ∷ []
 failures = refl

@@ -1,23 +1,26 @@
 -- The statements of the laws.
-use Rattle.std.proofs.Common.{◌≡◌, ℕ, zero, suc, ◌+◌, ◌<◌, ◌≤◌, Bool, true, false, cond, ltb, List, [], ◌∷◌, ◌++◌, Option, None, Some, inl, inr, filter, filter_map, length, map, not, option_map, take, refl, ◌∙◌, ap, subst, arith}
-use Rattle.std.specs.Prelude.{◌-◌, IfSome, slice_get}
+use Rattle.std.proofs.Common.{◌≡◌, ℕ, zero, suc, ◌+◌, ◌<◌, ◌≤◌, Bool, true, false, cond, ltb, List, [], ◌∷◌, ◌++◌, Option, None, Some, inl, inr, filter, filter_map, length, map, option_map, take, refl, ◌∙◌, ap, subst, arith}
+use Rattle.std.specs.Prelude.{◌-◌, IfSome, if◌then◌else◌, slice_get}
 use Rattle.std.specs.declared.cmp.Ordering.{Ordering}
 use Rattle.std.specs.List.{AllByRecursion, Contains, cons_option}
+use Rattle.std.specs.List.Sorted.{IsPermutation}
 use Rattle.std.specs.Ordering.{is_gt}
 use Rattle.std.proofs.lemmas.List.{append_assoc, length-append}
-use Rattle.std.proofs.lemmas.List.Sorted.{IsPermutation-filter_both}
+use Rattle.std.proofs.lemmas.List.Sorted.{IsPermutation-cons, IsPermutation-middle, IsPermutation-refl, IsPermutation-sym, IsPermutation-trans}
 use Rattle.redo_timeline.specs.declared.span.Span.{Span}
 use Rattle.redo_timeline.specs.Order.{insert_sorted, sort}
+use Rattle.redo_logs.specs.Logs.{Log}
 use Rattle.redo_times.specs.declared.times.Times.{Times}
 use Rattle.redo_outline.specs.declared.node.Node.{Node}
 use Rattle.redo_outline.specs.Facts.{is_failure}
 use Rattle.redo_summary.specs.declared.rank.Rank.{Rank}
 use Rattle.redo_summary.specs.declared.target.Target.{Target}
 use Rattle.redo_summary.specs.Laws.{AreInOrderOfPosition, AreOfNodes, AreRisingFrom, AreSplit, HasDuration, HasTimeAlone, HasWarnings, IsMarkOf, IsOfTarget, IsSpanOf}
-use Rattle.redo_summary.specs.Callers.{ran_others, recipes_of, spans_of}
+use Rattle.redo_summary.specs.Callers.{ran_others}
+use Rattle.redo_summary.specs.Spans.{caller_span, callers_of, mark_of, only_time, recipe_span, recipes_of, span_between, span_if, span_of, spans_of, target_of, targets_from, targets_of}
 use Rattle.redo_summary.specs.Ranks.{alone_rank, alone_ranks, first_ranks, rank_cmp, rank_of, warnings_from}
 use Rattle.redo_summary.specs.Summary.{summary_of}
-use Rattle.redo_summary.specs.Targets.{duration_of, mark_of, only_time, span_between, span_if, span_of, target_of, targets_from, targets_of, time_between, times_of}
+use Rattle.redo_summary.specs.Targets.{duration_of, time_between, times_of}
 
 -- ---- properties of each item still hold
 
@@ -58,14 +61,30 @@ all_chosen {X = X} {Y = Y} P Q choose kept (x ∷ xs) all = by (choose x) (kept 
     by None here more = more
     by (Some y) here more = (here, more)
 
+-- The span of a target, if it ran others, and if it ran none.
+module _ (P : Span → Type 0) (target : Target) (holds : IfSome (span_of target) P) where
+  pub if_caller : IfSome (caller_span target) P
+  if_caller = by target.ran_others
+    where
+      by : (b : Bool) → IfSome (if b then span_of target else None) P
+      by true = holds
+      by false = tt
+
+  pub if_recipe : IfSome (recipe_span target) P
+  if_recipe = by target.ran_others
+    where
+      by : (b : Bool) → IfSome (if b then None else span_of target) P
+      by true = tt
+      by false = holds
+
 -- ---- positions
 
 module _ (count : ℕ) where
-  targets_below : (times : List Times) (position : ℕ) (nodes : List Node) → position + length nodes ≤ count
-      → AllByRecursion (λ (target : Target). target.position < count) (targets_from times position nodes)
-  targets_below times position [] within = tt
-  targets_below times position (node ∷ nodes) within =
-      (omega (arith, within), targets_below times (position + 1) nodes (omega (arith, within)))
+  targets_below : (logs : List Log) (times : List Times) (position : ℕ) (nodes : List Node) → position + length nodes ≤ count
+      → AllByRecursion (λ (target : Target). target.position < count) (targets_from logs times position nodes)
+  targets_below logs times position [] within = tt
+  targets_below logs times position (node ∷ nodes) within =
+      (omega (arith, within), targets_below logs times (position + 1) nodes (omega (arith, within)))
 
   warnings_below : (position : ℕ) (nodes : List Node) → position + length nodes ≤ count
       → AllByRecursion (λ (rank : Rank). rank.position < count) (warnings_from position nodes)
@@ -105,17 +124,16 @@ module _ (count : ℕ) where
       all_taken (λ (rank : Rank). rank.position < count) 10 (sort rank_cmp ranks)
       (all_sorted (λ (rank : Rank). rank.position < count) rank_cmp ranks all)
 
-pub are_of_nodes : (nodes : List Node) (times : List Times) → AreOfNodes nodes (summary_of nodes times)
-are_of_nodes nodes times =
+pub are_of_nodes : (logs : List Log) (nodes : List Node) (times : List Times) → AreOfNodes nodes (summary_of logs nodes times)
+are_of_nodes logs nodes times =
     let count = length nodes in
-    let targets = targets_of nodes times in
-    let below = targets_below count times 0 nodes (omega arith) in
-    let spans = all_chosen (λ (target : Target). target.position < count) (λ (span : Span). span.position < count) span_of
-    (span_below count) targets below in
-    let recipes = all_passed (λ (span : Span). span.position < count) (λ (span : Span). not (ran_others targets span))
-    (spans_of targets) spans in
+    let targets = targets_of logs nodes times in
+    let below = targets_below count logs times 0 nodes (omega arith) in
+    let recipes = all_chosen (λ (target : Target). target.position < count) (λ (span : Span). span.position < count) recipe_span
+    (λ target within. if_recipe (λ (span : Span). span.position < count) target (span_below count target within)) targets below in
     record {
-      callers = all_passed (λ (span : Span). span.position < count) (ran_others targets) (spans_of targets) spans;
+      callers = all_chosen (λ (target : Target). target.position < count) (λ (span : Span). span.position < count) caller_span
+          (λ target within. if_caller (λ (span : Span). span.position < count) target (span_below count target within)) targets below;
       recipes = recipes;
       marks = all_chosen (λ (target : Target). target.position < count) (λ (span : Span). span.position < count) mark_of
           (mark_below count) targets below;
@@ -132,32 +150,24 @@ rising_less : (least other : ℕ) (spans : List Span) → other ≤ least → Ar
 rising_less least other [] less rising = tt
 rising_less least other (span ∷ spans) less rising = (let le = rising.0 in omega (arith, less, le), rising.1)
 
-rising_passed : (test : Span → Bool) (least : ℕ) (spans : List Span) → AreRisingFrom least spans → AreRisingFrom least (filter test spans)
-rising_passed test least [] rising = tt
-rising_passed test least (span ∷ spans) rising = by (test span) (rising_passed test (span.position + 1) spans rising.1)
-  where
-    by : (b : Bool) → AreRisingFrom (span.position + 1) (filter test spans)
-        → AreRisingFrom least (cond b (span ∷ filter test spans) (filter test spans))
-    by true more = (rising.0, more)
-    by false more = rising_less (span.position + 1) least (filter test spans) (let le = rising.0 in omega (arith, le)) more
-
 rising_chosen : (choose : Target → Option Span)
     → ((target : Target) → IfSome (choose target) (λ (span : Span). span.position ≡ target.position))
-    → (times : List Times) (position : ℕ) (nodes : List Node)
-    → AreRisingFrom position (filter_map choose (targets_from times position nodes))
-rising_chosen choose kept times position [] = tt
-rising_chosen choose kept times position (node ∷ nodes) =
-    by (choose (target_of times position node)) (kept (target_of times position node))
-    (rising_chosen choose kept times (position + 1) nodes)
+    → (logs : List Log) (times : List Times) (position : ℕ) (nodes : List Node)
+    → AreRisingFrom position (filter_map choose (targets_from logs times position nodes))
+rising_chosen choose kept logs times position [] = tt
+rising_chosen choose kept logs times position (node ∷ nodes) =
+    by (choose (target_of logs times position node)) (kept (target_of logs times position node))
+    (rising_chosen choose kept logs times (position + 1) nodes)
   where
     by : (chosen : Option Span) → IfSome chosen (λ (span : Span). span.position ≡ position)
-        → AreRisingFrom (position + 1) (filter_map choose (targets_from times (position + 1) nodes))
-        → AreRisingFrom position (cons_option chosen (filter_map choose (targets_from times (position + 1) nodes)))
-    by None here more = rising_less (position + 1) position (filter_map choose (targets_from times (position + 1) nodes)) (omega arith) more
+        → AreRisingFrom (position + 1) (filter_map choose (targets_from logs times (position + 1) nodes))
+        → AreRisingFrom position (cons_option chosen (filter_map choose (targets_from logs times (position + 1) nodes)))
+    by None here more = rising_less (position + 1) position (filter_map choose (targets_from logs times (position + 1) nodes))
+        (omega arith) more
     by (Some span) here more = (
       omega (arith, here),
       rising_less (position + 1) (span.position + 1)
-          (filter_map choose (targets_from times (position + 1) nodes)) (omega (arith, here)) more,
+          (filter_map choose (targets_from logs times (position + 1) nodes)) (omega (arith, here)) more,
     )
 
 span_position : (target : Target) → IfSome (span_of target) (λ (span : Span). span.position ≡ target.position)
@@ -177,20 +187,39 @@ mark_position target = by (only_time target.parent target.times.began target.tim
     by None = tt
     by (Some time) = refl
 
-pub are_in_order_of_position : (nodes : List Node) (times : List Times) → AreInOrderOfPosition (summary_of nodes times)
-are_in_order_of_position nodes times =
-    let targets = targets_of nodes times in
-    let spans = rising_chosen span_of span_position times 0 nodes in
+pub are_in_order_of_position : (logs : List Log) (nodes : List Node) (times : List Times)
+    → AreInOrderOfPosition (summary_of logs nodes times)
+are_in_order_of_position logs nodes times =
     record {
-      callers = rising_passed (ran_others targets) 0 (spans_of targets) spans;
-      recipes = rising_passed (λ (span : Span). not (ran_others targets span)) 0 (spans_of targets) spans;
-      marks = rising_chosen mark_of mark_position times 0 nodes;
+      callers = rising_chosen caller_span
+          (λ target. if_caller (λ (span : Span). span.position ≡ target.position) target (span_position target)) logs times 0 nodes;
+      recipes = rising_chosen recipe_span
+          (λ target. if_recipe (λ (span : Span). span.position ≡ target.position) target (span_position target)) logs times 0 nodes;
+      marks = rising_chosen mark_of mark_position logs times 0 nodes;
     }
 
-pub are_split : (nodes : List Node) (times : List Times) → AreSplit nodes times (summary_of nodes times)
-are_split nodes times =
-    let targets = targets_of nodes times in
-    IsPermutation-filter_both (ran_others targets) (λ (span : Span). not (ran_others targets span)) (λ span. refl) (spans_of targets)
+split : (targets : List Target) → IsPermutation (spans_of targets) (callers_of targets ++ recipes_of targets)
+split [] = IsPermutation-refl []
+split (target ∷ targets) = by target.ran_others (span_of target) (split targets)
+  where
+    callers : List Span
+    callers = callers_of targets
+
+    recipes : List Span
+    recipes = recipes_of targets
+
+    by : (b : Bool) (span : Option Span) → IsPermutation (spans_of targets) (callers ++ recipes)
+        → IsPermutation (cons_option span (spans_of targets))
+        (cons_option (if b then span else None) callers ++ cons_option (if b then None else span) recipes)
+    by true None later = later
+    by false None later = later
+    by true (Some span) later = IsPermutation-cons span _ _ later
+    by false (Some span) later =
+        IsPermutation-trans _ _ _ (IsPermutation-cons span _ _ later)
+        (IsPermutation-sym _ _ (IsPermutation-middle callers span recipes))
+
+pub are_split : (logs : List Log) (nodes : List Node) (times : List Times) → AreSplit logs nodes times (summary_of logs nodes times)
+are_split logs nodes times = split (targets_of logs nodes times)
 
 -- ---- values
 
@@ -218,47 +247,66 @@ module _ (nodes : List Node) where
         (next_place before node position place),
   )
 
-  module _ (times : List Times) where
-    abbrev IsTarget : Target → Type 0
-    IsTarget target = (node : Node) × (slice_get nodes target.position ≡ Some node) × (times_of times node.number ≡ target.times)
+-- The target of a node at its position.
+pub record IsShown (logs : List Log) (nodes : List Node) (times : List Times) (target : Target) : Type 0 where
+  pub node : Node
+  pub is_at : slice_get nodes target.position ≡ Some node
+  pub same_times : times_of times node.number ≡ target.times
+  pub status : target.failed ≡ is_failure node.status
+  pub ran : target.ran_others ≡ ran_others logs times node.number
 
-    abbrev IsSpan : Span → Type 0
-    IsSpan span =
-        (node : Node) × (slice_get nodes span.position ≡ Some node) × (duration_of times node.number ≡ Some (span.ended - span.began))
+module _ (logs : List Log) (nodes : List Node) (times : List Times) where
+  shown_from : (before rest : List Node) (position : ℕ) → before ++ rest ≡ nodes → length before ≡ position
+      → AllByRecursion (IsShown logs nodes times) (targets_from logs times position rest)
+  shown_from before [] position split place = tt
+  shown_from before (node ∷ rest) position split place = (
+    record { node = node; is_at = found_in nodes before node rest position split place; same_times = refl; status = refl; ran = refl },
+    shown_from (before ++ (node ∷ [])) rest (position + 1) (append_assoc before (node ∷ []) rest ∙ split)
+        (next_place nodes before node position place),
+  )
 
-    targets_are : (before rest : List Node) (position : ℕ) → before ++ rest ≡ nodes → length before ≡ position
-        → AllByRecursion IsTarget (targets_from times position rest)
-    targets_are before [] position split place = tt
-    targets_are before (node ∷ rest) position split place = (
-      (node, found_in before node rest position split place, refl),
-      targets_are (before ++ (node ∷ [])) rest (position + 1) (append_assoc before (node ∷ []) rest ∙ split)
-          (next_place before node position place),
-    )
+  targets_are_shown : AllByRecursion (IsShown logs nodes times) (targets_of logs nodes times)
+  targets_are_shown = shown_from [] nodes 0 refl refl
 
-    span_is : (target : Target) → IsTarget target → IfSome (span_of target) IsSpan
-    span_is target (node, at, same) =
-        by target.times.began target.times.ended (ap (λ (known : Times). time_between known.began known.ended) same)
-      where
-        by : (began ended : Option ℕ) → duration_of times node.number ≡ time_between began ended
-            → IfSome (span_if target began ended) IsSpan
-        by None None took = tt
-        by None (Some ended) took = tt
-        by (Some began) None took = tt
-        by (Some began) (Some ended) took = (node, at, took)
+  -- The spans of targets that ran others, and of those that ran none.
+  pub all_callers : (P : Span → Type 0) → ((target : Target) → IsShown logs nodes times target → IfSome (caller_span target) P)
+      → AllByRecursion P (summary_of logs nodes times).callers
+  all_callers P holds =
+      all_chosen (IsShown logs nodes times) P caller_span holds (targets_of logs nodes times) targets_are_shown
 
-    ranks_are : (spans : List Span) → AllByRecursion IsSpan spans → AllByRecursion (HasDuration nodes times) (map rank_of spans)
-    ranks_are [] all = tt
-    ranks_are (span ∷ spans) all = ((all.0.0, all.0.1, span.ended - span.began, all.0.2, refl), ranks_are spans all.1)
+  pub all_recipes : (P : Span → Type 0) → ((target : Target) → IsShown logs nodes times target → IfSome (recipe_span target) P)
+      → AllByRecursion P (summary_of logs nodes times).recipes
+  all_recipes P holds =
+      all_chosen (IsShown logs nodes times) P recipe_span holds (targets_of logs nodes times) targets_are_shown
 
-pub longest_are : (nodes : List Node) (times : List Times) → AllByRecursion (HasDuration nodes times) (summary_of nodes times).longest
-longest_are nodes times =
-    let targets = targets_of nodes times in
-    let spans = all_chosen (IsTarget nodes times) (IsSpan nodes times) span_of (span_is nodes times) targets
-    (targets_are nodes times [] nodes 0 refl refl) in
-    let recipes = all_passed (IsSpan nodes times) (λ (span : Span). not (ran_others targets span)) (spans_of targets) spans in
-    let ranks = map rank_of (recipes_of targets) in
-    all_taken (HasDuration nodes times) 10 (sort rank_cmp ranks)
-    (all_sorted (HasDuration nodes times) rank_cmp ranks (ranks_are nodes times (recipes_of targets) recipes))
+  -- ---- how long recipes took
+
+  abbrev IsSpan : Span → Type 0
+  IsSpan span =
+      (node : Node) × (slice_get nodes span.position ≡ Some node) × (duration_of times node.number ≡ Some (span.ended - span.began))
+
+  span_is : (target : Target) → IsShown logs nodes times target → IfSome (span_of target) IsSpan
+  span_is target shown =
+      by target.times.began target.times.ended (ap (λ (known : Times). time_between known.began known.ended) shown.same_times)
+    where
+      by : (began ended : Option ℕ) → duration_of times shown.node.number ≡ time_between began ended
+          → IfSome (span_if target began ended) IsSpan
+      by None None took = tt
+      by None (Some ended) took = tt
+      by (Some began) None took = tt
+      by (Some began) (Some ended) took = (shown.node, shown.is_at, took)
+
+  ranks_are : (spans : List Span) → AllByRecursion IsSpan spans → AllByRecursion (HasDuration nodes times) (map rank_of spans)
+  ranks_are [] all = tt
+  ranks_are (span ∷ spans) all = ((all.0.0, all.0.1, span.ended - span.began, all.0.2, refl), ranks_are spans all.1)
+
+  pub longest_are : AllByRecursion (HasDuration nodes times) (summary_of logs nodes times).longest
+  longest_are =
+      let recipes = recipes_of (targets_of logs nodes times) in
+      let ranks = map rank_of recipes in
+      all_taken (HasDuration nodes times) 10 (sort rank_cmp ranks)
+      (all_sorted (HasDuration nodes times) rank_cmp ranks
+      (ranks_are recipes (all_recipes IsSpan (λ target shown. if_recipe IsSpan target (span_is target shown)))))
 
 -- ---- how long recipes ran alone
 
@@ -279,17 +327,18 @@ alone_have : (all spans : List Span) → AllByRecursion (Contains all) spans
 alone_have all [] contains = tt
 alone_have all (span ∷ spans) contains = ((span, contains.0, refl, refl), alone_have all spans contains.1)
 
-pub alone_are : (nodes : List Node) (times : List Times)
-    → AllByRecursion (HasTimeAlone (summary_of nodes times).recipes) (summary_of nodes times).alone
-alone_are nodes times =
-    let recipes = recipes_of (targets_of nodes times) in
+pub alone_are : (logs : List Log) (nodes : List Node) (times : List Times)
+    → AllByRecursion (HasTimeAlone (summary_of logs nodes times).recipes) (summary_of logs nodes times).alone
+alone_are logs nodes times =
+    let recipes = recipes_of (targets_of logs nodes times) in
     all_taken (HasTimeAlone recipes) 10 (sort rank_cmp (alone_ranks recipes))
     (all_sorted (HasTimeAlone recipes) rank_cmp (alone_ranks recipes)
     (all_passed (HasTimeAlone recipes) (λ (rank : Rank). ltb 0 rank.value) (map (alone_rank recipes) recipes)
     (alone_have recipes recipes (contained recipes))))
 
-pub warned_are : (nodes : List Node) (times : List Times) → AllByRecursion (HasWarnings nodes) (summary_of nodes times).warned
-warned_are nodes times =
+pub warned_are : (logs : List Log) (nodes : List Node) (times : List Times)
+    → AllByRecursion (HasWarnings nodes) (summary_of logs nodes times).warned
+warned_are logs nodes times =
     let ranks = filter (λ (rank : Rank). ltb 0 rank.value) (warnings_from 0 nodes) in
     all_taken (HasWarnings nodes) 10 (sort rank_cmp ranks)
     (all_sorted (HasWarnings nodes) rank_cmp ranks
@@ -297,62 +346,49 @@ warned_are nodes times =
 
 -- ---- the targets of spans
 
-module _ (nodes : List Node) (times : List Times) where
-  -- A target at a position, with its times and its status.
-  abbrev IsShown : Target → Type 0
-  IsShown target =
-      (node : Node) × (slice_get nodes target.position ≡ Some node) × (times_of times node.number ≡ target.times)
-      × (target.failed ≡ is_failure node.status)
-
-  shown_from : (before rest : List Node) (position : ℕ) → before ++ rest ≡ nodes → length before ≡ position
-      → AllByRecursion IsShown (targets_from times position rest)
-  shown_from before [] position split place = tt
-  shown_from before (node ∷ rest) position split place = (
-    (node, found_in nodes before node rest position split place, refl, refl),
-    shown_from (before ++ (node ∷ [])) rest (position + 1) (append_assoc before (node ∷ []) rest ∙ split)
-        (next_place nodes before node position place),
-  )
-
-  shown_span : (target : Target) → IsShown target → IfSome (span_of target) (IsOfTarget IsSpanOf nodes times)
-  shown_span target (node, at, same, status) =
-      by target.times.began target.times.ended (ap (λ (known : Times). known.began) same) (ap (λ (known : Times). known.ended) same)
+module _ (logs : List Log) (nodes : List Node) (times : List Times) where
+  shown_span : (target : Target) → IsShown logs nodes times target → IfSome (span_of target) (IsOfTarget IsSpanOf nodes times)
+  shown_span target shown =
+      by target.times.began target.times.ended (ap (λ (known : Times). known.began) shown.same_times)
+      (ap (λ (known : Times). known.ended) shown.same_times)
     where
-      by : (began ended : Option ℕ) → (times_of times node.number).began ≡ began → (times_of times node.number).ended ≡ ended
+      by : (began ended : Option ℕ) → (times_of times shown.node.number).began ≡ began → (times_of times shown.node.number).ended ≡ ended
           → IfSome (span_if target began ended) (IsOfTarget IsSpanOf nodes times)
       by None None first last = tt
       by None (Some ended) first last = tt
       by (Some began) None first last = tt
-      by (Some began) (Some ended) first last = (node, at, record { began = first; ended = last; failed = status })
+      by (Some began) (Some ended) first last = (shown.node, shown.is_at, record { began = first; ended = last; failed = shown.status })
 
-  shown_mark : (target : Target) → IsShown target → IfSome (mark_of target) (IsOfTarget IsMarkOf nodes times)
-  shown_mark target (node, at, same, status) =
-      by target.parent target.times.began target.times.ended (ap (λ (known : Times). known.began) same)
-      (ap (λ (known : Times). known.ended) same)
+  shown_mark : (target : Target) → IsShown logs nodes times target → IfSome (mark_of target) (IsOfTarget IsMarkOf nodes times)
+  shown_mark target shown =
+      by target.parent target.times.began target.times.ended (ap (λ (known : Times). known.began) shown.same_times)
+      (ap (λ (known : Times). known.ended) shown.same_times)
     where
-      by : (parent began ended : Option ℕ) → (times_of times node.number).began ≡ began → (times_of times node.number).ended ≡ ended
+      by : (parent began ended : Option ℕ) → (times_of times shown.node.number).began ≡ began
+          → (times_of times shown.node.number).ended ≡ ended
           → IfSome (option_map (λ time. span_between target time time) (only_time parent began ended)) (IsOfTarget IsMarkOf nodes times)
       by None None None first last = tt
       by (Some parent) None None first last = tt
-      by None (Some began) None first last = (node, at, record { time = inl first; moment = refl; failed = status })
-      by (Some parent) (Some began) None first last = (node, at, record { time = inl first; moment = refl; failed = status })
+      by None (Some began) None first last = (shown.node, shown.is_at, record { time = inl first; moment = refl; failed = shown.status })
+      by (Some parent) (Some began) None first last =
+          (shown.node, shown.is_at, record { time = inl first; moment = refl; failed = shown.status })
       by None None (Some ended) first last = tt
-      by (Some parent) None (Some ended) first last = (node, at, record { time = inr last; moment = refl; failed = status })
+      by (Some parent) None (Some ended) first last =
+          (shown.node, shown.is_at, record { time = inr last; moment = refl; failed = shown.status })
       by None (Some began) (Some ended) first last = tt
       by (Some parent) (Some began) (Some ended) first last = tt
 
-  spans_are_shown : AllByRecursion (IsOfTarget IsSpanOf nodes times) (spans_of (targets_of nodes times))
-  spans_are_shown =
-      all_chosen IsShown (IsOfTarget IsSpanOf nodes times) span_of shown_span (targets_of nodes times) (shown_from [] nodes 0 refl refl)
-
-  pub callers_are_shown : AllByRecursion (IsOfTarget IsSpanOf nodes times) (summary_of nodes times).callers
+  pub callers_are_shown : AllByRecursion (IsOfTarget IsSpanOf nodes times) (summary_of logs nodes times).callers
   callers_are_shown =
-      all_passed (IsOfTarget IsSpanOf nodes times) (ran_others (targets_of nodes times)) (spans_of (targets_of nodes times)) spans_are_shown
+      all_callers logs nodes times (IsOfTarget IsSpanOf nodes times)
+      (λ target shown. if_caller (IsOfTarget IsSpanOf nodes times) target (shown_span target shown))
 
-  pub recipes_are_shown : AllByRecursion (IsOfTarget IsSpanOf nodes times) (summary_of nodes times).recipes
+  pub recipes_are_shown : AllByRecursion (IsOfTarget IsSpanOf nodes times) (summary_of logs nodes times).recipes
   recipes_are_shown =
-      all_passed (IsOfTarget IsSpanOf nodes times) (λ (span : Span). not (ran_others (targets_of nodes times) span))
-      (spans_of (targets_of nodes times)) spans_are_shown
+      all_recipes logs nodes times (IsOfTarget IsSpanOf nodes times)
+      (λ target shown. if_recipe (IsOfTarget IsSpanOf nodes times) target (shown_span target shown))
 
-  pub marks_are_shown : AllByRecursion (IsOfTarget IsMarkOf nodes times) (summary_of nodes times).marks
+  pub marks_are_shown : AllByRecursion (IsOfTarget IsMarkOf nodes times) (summary_of logs nodes times).marks
   marks_are_shown =
-      all_chosen IsShown (IsOfTarget IsMarkOf nodes times) mark_of shown_mark (targets_of nodes times) (shown_from [] nodes 0 refl refl)
+      all_chosen (IsShown logs nodes times) (IsOfTarget IsMarkOf nodes times) mark_of shown_mark (targets_of logs nodes times)
+      (targets_are_shown logs nodes times)

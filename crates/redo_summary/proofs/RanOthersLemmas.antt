@@ -1,115 +1,186 @@
 -- Callers ran others, and recipes ran none.
-use Rattle.std.proofs.Common.{◌≡◌, ℕ, zero, suc, ◌+◌, ◌<◌, ◌⊎◌, Bool, true, false, cond, not, leb, ltb, List, [], ◌∷◌, Option, None, Some, filter, get_or, length, inl, inr, refl, sym, ap, ◌∙◌, subst, arith}
-use Rattle.std.specs.Prelude.{◌&&◌}
-use Rattle.std.specs.List.{AllByRecursion, list_any}
-use Rattle.std.proofs.lemmas.Bool.{and_from, and_parts, eq-eqb, eqb-true, le-leb, leb-true, lt-ltb, ltb-true, or_cases, or_left, or_right}
+use Rattle.std.proofs.Common.{◌≡◌, ℕ, Bool, true, false, not, leb, ltb, List, Option, None, Some, refl, sym, ap, ◌∙◌, subst}
+use Rattle.std.specs.Prelude.{◌==◌, ◌&&◌, IfSome, if◌then◌else◌}
+use Rattle.std.specs.List.{Contains}
+use Rattle.std.proofs.lemmas.Bool.{and_from, and_parts, eq-eqb, le-leb, leb-true, lt-ltb, ltb-true, ne_eqb}
+use Rattle.std.proofs.lemmas.List.Folds.{Any-from_list_any, list_any_at}
+use Rattle.std.proofs.lemmas.Option.{same_Some}
+use Rattle.redo_line.specs.declared.entry.Entry.{Entry}
+use Rattle.redo_line.specs.declared.entry.Entry.TheVariants.{Text, Mention, Done, Closing, Note}
+use Rattle.redo_line.specs.declared.entry.How.{How}
+use Rattle.redo_line.specs.declared.entry.How.TheVariants.{Made, Waiting, Locked, Unlocked, Unchanged}
+use Rattle.redo_logs.specs.Logs.{Log, log_number}
+use Rattle.redo_outline.specs.Facts.{entries_at}
 use Rattle.redo_timeline.specs.declared.span.Span.{Span}
 use Rattle.redo_times.specs.declared.times.Times.{Times}
 use Rattle.redo_outline.specs.declared.node.Node.{Node}
 use Rattle.redo_summary.specs.declared.target.Target.{Target}
-use Rattle.redo_summary.specs.Laws.{AllRanOthers, AreDuring, NoneRanOthers, Ran, RanOthers}
-use Rattle.redo_summary.specs.Callers.{is_in_if_known, is_position, is_run_by, ran_others, spans_of}
+use Rattle.redo_summary.specs.Laws.{AllRanOthers, AreDuring, Mentions, NoneRanOthers, RanOthers}
+use Rattle.redo_summary.specs.Callers.{is_within, mentioned_log, ran_during, ran_mentioned, ran_others}
+use Rattle.redo_summary.specs.Spans.{caller_span, recipe_span, span_between, span_if}
 use Rattle.redo_summary.specs.Summary.{summary_of}
-use Rattle.redo_summary.specs.Targets.{span_if, span_of, target_of, targets_from, targets_of, times_of}
+use Rattle.redo_summary.specs.Targets.{times_of}
+use Rattle.redo_summary.proofs.CallerLemmas.{shows_run}
+use Rattle.redo_summary.proofs.LawLemmas.{IsShown, all_callers, all_recipes}
 
--- ---- one target
+-- ---- the times of two targets
 
-position_is : (position : ℕ) (parent : Option ℕ) → is_position position parent ≡ true → parent ≡ Some position
-position_is position None is = absurd (cc)
-position_is position (Some other) is = ap Some (sym (eqb-true position other is))
-
-is_that_position : (position : ℕ) (parent : Option ℕ) → parent ≡ Some position → is_position position parent ≡ true
-is_that_position position parent is = ap (is_position position) is ∙ eq-eqb position position refl
-
-during : (span : Span) (target : Target) (began ended : Option ℕ) → is_in_if_known span (span_if target began ended) ≡ true
+is_during : (span : Span) (began ended : Option ℕ) → is_within (Some span.began) (Some span.ended) began ended ≡ true
     → AreDuring span began ended
-during span target None None is = absurd (cc)
-during span target None (Some ended) is = absurd (cc)
-during span target (Some began) None is = absurd (cc)
-during span target (Some began) (Some ended) is =
+is_during span None None is = absurd (cc)
+is_during span None (Some ended) is = absurd (cc)
+is_during span (Some began) None is = absurd (cc)
+is_during span (Some began) (Some ended) is =
     let both = and_parts (leb span.began began && leb ended span.ended) (ltb span.began ended) is in
     let inside = and_parts (leb span.began began) (leb ended span.ended) both.0 in
     (leb-true span.began began inside.0, leb-true ended span.ended inside.1, ltb-true span.began ended both.1)
 
-is_during : (span : Span) (target : Target) (began ended : Option ℕ) → AreDuring span began ended
-    → is_in_if_known span (span_if target began ended) ≡ true
-is_during span target None None are = absurd are
-is_during span target None (Some ended) are = absurd are
-is_during span target (Some began) None are = absurd are
-is_during span target (Some began) (Some ended) are =
+during : (span : Span) (began ended : Option ℕ) → AreDuring span began ended
+    → is_within (Some span.began) (Some span.ended) began ended ≡ true
+during span None None are = absurd are
+during span None (Some ended) are = absurd are
+during span (Some began) None are = absurd are
+during span (Some began) (Some ended) are =
     and_from (leb span.began began && leb ended span.ended) (ltb span.began ended)
     (and_from (leb span.began began) (leb ended span.ended) (le-leb span.began began are.0) (le-leb ended span.ended are.1))
     (lt-ltb span.began ended are.2)
 
-module _ (times : List Times) (span : Span) where
-  ran : (position : ℕ) (node : Node) → is_run_by span (target_of times position node) ≡ true → Ran times span node
-  ran position node is =
-      let known = times_of times node.number in
-      let target = target_of times position node in
-      let both = and_parts (is_position span.position node.parent) (is_in_if_known span (span_of target)) is in
-      record { contains = position_is span.position node.parent both.0; during = during span target known.began known.ended both.1 }
+-- ---- one entry
 
-  is_ran : (position : ℕ) (node : Node) → Ran times span node → is_run_by span (target_of times position node) ≡ true
-  is_ran position node run =
-      let known = times_of times node.number in
-      let target = target_of times position node in
-      and_from (is_position span.position node.parent) (is_in_if_known span (span_of target))
-      (is_that_position span.position node.parent run.contains) (is_during span target known.began known.ended run.during)
+module _ (logs : List Log) (times : List Times) (number : ℕ) where
+  abbrev IsRun : ℕ → Type 0
+  IsRun other = ran_during (times_of times number) (times_of times other) ≡ true
 
-  -- ---- all targets
+  abbrev RanSome : Type 0
+  RanSome = (other : ℕ) × Mentions logs number other × IsRun other
 
-  ran_others_of : (position : ℕ) (nodes : List Node) → list_any (is_run_by span) (targets_from times position nodes) ≡ true
-      → RanOthers nodes times span
-  ran_others_of position [] is = absurd (cc)
-  ran_others_of position (node ∷ nodes) is =
-      by (or_cases (is_run_by span (target_of times position node))
-      (list_any (is_run_by span) (targets_from times (position + 1) nodes)) is)
-      (ran_others_of (position + 1) nodes)
-    where
-      by : (is_run_by span (target_of times position node) ≡ true) ⊎
-          (list_any (is_run_by span) (targets_from times (position + 1) nodes) ≡ true)
-          → (list_any (is_run_by span) (targets_from times (position + 1) nodes) ≡ true → RanOthers nodes times span)
-          → RanOthers (node ∷ nodes) times span
-      by (inl here) rest = (node, (0, omega arith, refl), ran position node here)
-      by (inr later) rest =
-          let more = rest later in
-          let k = more.1.0 in
-          let below : k < length nodes = more.1.1 in
-          (more.0, (suc k, omega (arith, below), more.1.2), more.2)
+  module _ (pid : ℕ) (how : How) (name : List ℕ) (is_entry : Contains (entries_at number logs) (Mention pid how name))
+      (changed : ¬ (how ≡ Unchanged)) where
+    found_run : (mentioned : Option ℕ) → log_number name logs ≡ mentioned → ran_mentioned times number mentioned ≡ true → RanSome
+    found_run None is run = absurd (cc)
+    found_run (Some other) is run =
+        let both = and_parts (not (other == number)) (ran_during (times_of times number) (times_of times other)) run in (
+          other,
+          record {
+            pid = pid;
+            how = how;
+            name = name;
+            is_entry = is_entry;
+            is_other = is;
+            differs = λ same. no_both (other == number) (eq-eqb other number same) both.0;
+            changed = changed;
+          },
+          both.1,
+        )
+      where
+        no_both : (b : Bool) → b ≡ true → not b ≡ true → ⊥
+        no_both true is not_is = cc
+        no_both false is not_is = cc
 
-  is_ran_others : (position : ℕ) (nodes : List Node) (other : Node) (k : ℕ) → k < length nodes → get_or nodes k other ≡ other
-      → Ran times span other → list_any (is_run_by span) (targets_from times position nodes) ≡ true
-  is_ran_others position [] other k below is run = absurd (omega (arith, below))
-  is_ran_others position (node ∷ nodes) other zero below is run =
-      or_left (is_run_by span (target_of times position node)) (list_any (is_run_by span) (targets_from times (position + 1) nodes))
-      (is_ran position node (subst (Ran times span) (sym is) run))
-  is_ran_others position (node ∷ nodes) other (suc k) below is run =
-      or_right (is_run_by span (target_of times position node)) (list_any (is_run_by span) (targets_from times (position + 1) nodes))
-      (is_ran_others (position + 1) nodes other k (omega (arith, below)) is run)
+  entry_ran : (entry : Entry) → Contains (entries_at number logs) entry → shows_run logs times number entry ≡ true → RanSome
+  entry_ran (Mention pid Made name) there run = found_run pid Made name there (λ same. cc) _ refl run
+  entry_ran (Mention pid Waiting name) there run = found_run pid Waiting name there (λ same. cc) _ refl run
+  entry_ran (Mention pid Locked name) there run = found_run pid Locked name there (λ same. cc) _ refl run
+  entry_ran (Mention pid Unlocked name) there run = found_run pid Unlocked name there (λ same. cc) _ refl run
+  entry_ran (Mention pid Unchanged name) there run = absurd (cc)
+  entry_ran (Text line) there run = absurd (cc)
+  entry_ran (Done pid status name) there run = absurd (cc)
+  entry_ran (Closing pid status) there run = absurd (cc)
+  entry_ran (Note pid kind text) there run = absurd (cc)
 
-all_that_passed : (test : Span → Bool) (P : Span → Type 0) → ((span : Span) → test span ≡ true → P span) → (spans : List Span)
-    → AllByRecursion P (filter test spans)
-all_that_passed test P holds [] = tt
-all_that_passed test P holds (span ∷ spans) = by (test span) refl (all_that_passed test P holds spans)
-  where
-    by : (b : Bool) → test span ≡ b → AllByRecursion P (filter test spans)
-        → AllByRecursion P (cond b (span ∷ filter test spans) (filter test spans))
-    by true is more = (holds span is, more)
-    by false is more = more
+  ran_some : ran_others logs times number ≡ true → RanSome
+  ran_some is =
+      let found = Any-from_list_any (shows_run logs times number) (entries_at number logs) is in
+      entry_ran found.1 (found.0, found.2, found.3) found.4
 
-pub all_callers_ran : (nodes : List Node) (times : List Times) → AllRanOthers nodes times (summary_of nodes times).callers
-all_callers_ran nodes times =
-    let targets = targets_of nodes times in
-    all_that_passed (ran_others targets) (RanOthers nodes times) (λ span is. ran_others_of times span 0 nodes is) (spans_of targets)
+  -- ---- the other way round
 
-pub no_recipe_ran : (nodes : List Node) (times : List Times) → NoneRanOthers nodes times (summary_of nodes times).recipes
-no_recipe_ran nodes times =
-    let targets = targets_of nodes times in
-    all_that_passed (λ (span : Span). not (ran_others targets span)) (λ (span : Span). ¬ RanOthers nodes times span)
-    (λ span is run. let others : ran_others targets span ≡ true = is_ran_others times span 0 nodes run.0 run.1.0 run.1.1 run.1.2 run.2 in
-    no_both (ran_others targets span) is others)
-    (spans_of targets)
-  where
-    no_both : (b : Bool) → not b ≡ true → b ≡ true → ⊥
-    no_both true failed passed = cc
-    no_both false failed passed = cc
+  mention_counts : (pid : ℕ) (how : How) (name : List ℕ) → ¬ (how ≡ Unchanged)
+      → mentioned_log logs (Mention pid how name) ≡ log_number name logs
+  mention_counts pid Made name changed = refl
+  mention_counts pid Waiting name changed = refl
+  mention_counts pid Locked name changed = refl
+  mention_counts pid Unlocked name changed = refl
+  mention_counts pid Unchanged name changed = absurd (changed refl)
+
+  counts : (other : ℕ) → ¬ (other ≡ number) → IsRun other → ran_mentioned times number (Some other) ≡ true
+  counts other differs run =
+      and_from (not (other == number)) (ran_during (times_of times number) (times_of times other))
+      (ap not (ne_eqb other number differs)) run
+
+  some_ran : (other : ℕ) → Mentions logs number other → IsRun other → ran_others logs times number ≡ true
+  some_ran other mentions run =
+      let entry = Mention mentions.pid mentions.how mentions.name in
+      let place = mentions.is_entry in
+      list_any_at (shows_run logs times number) (entries_at number logs) place.0 entry place.1
+      (ap (shows_run logs times number) place.2
+      ∙ ap (ran_mentioned times number) (mention_counts mentions.pid mentions.how mentions.name mentions.changed ∙ mentions.is_other)
+      ∙ counts other mentions.differs run)
+
+-- ---- all spans
+
+module _ (logs : List Log) (nodes : List Node) (times : List Times) where
+  -- Whether a target ran another one depends on its own times, which its span has.
+  run_during : (number other began ended : ℕ) → (times_of times number).began ≡ Some began → (times_of times number).ended ≡ Some ended
+      → ran_during (times_of times number) (times_of times other)
+      ≡ is_within (Some began) (Some ended) (times_of times other).began (times_of times other).ended
+  run_during number other began ended first last =
+      ap (λ (from : Option ℕ). is_within from (times_of times number).ended (times_of times other).began (times_of times other).ended) first
+      ∙ ap (λ (to : Option ℕ). is_within (Some began) to (times_of times other).began (times_of times other).ended) last
+
+  module _ (target : Target) (shown : IsShown logs nodes times target) where
+    abbrev number : ℕ
+    number = shown.node.number
+
+    caller_ran : IfSome (caller_span target) (RanOthers logs nodes times)
+    caller_ran = by target.ran_others target.times.began target.times.ended (sym shown.ran)
+        (ap (λ (known : Times). known.began) shown.same_times) (ap (λ (known : Times). known.ended) shown.same_times)
+      where
+        by : (b : Bool) (began ended : Option ℕ) → ran_others logs times number ≡ b → (times_of times number).began ≡ began
+            → (times_of times number).ended ≡ ended
+            → IfSome (if b then span_if target began ended else None) (RanOthers logs nodes times)
+        by false began ended ran first last = tt
+        by true None None ran first last = tt
+        by true None (Some ended) ran first last = tt
+        by true (Some began) None ran first last = tt
+        by true (Some began) (Some ended) ran first last =
+            let some = ran_some logs times number ran in
+            let other = some.0 in (
+              shown.node,
+              shown.is_at,
+              other,
+              record {
+                mentions = some.1;
+                during = is_during (span_between target began ended) (times_of times other).began (times_of times other).ended
+                    (sym (run_during number other began ended first last) ∙ some.2);
+              },
+            )
+
+    recipe_ran_none : IfSome (recipe_span target) (λ (span : Span). ¬ RanOthers logs nodes times span)
+    recipe_ran_none = by target.ran_others target.times.began target.times.ended (sym shown.ran)
+        (ap (λ (known : Times). known.began) shown.same_times) (ap (λ (known : Times). known.ended) shown.same_times)
+      where
+        by : (b : Bool) (began ended : Option ℕ) → ran_others logs times number ≡ b → (times_of times number).began ≡ began
+            → (times_of times number).ended ≡ ended
+            → IfSome (if b then None else span_if target began ended) (λ (span : Span). ¬ RanOthers logs nodes times span)
+        by true began ended ran first last = tt
+        by false None None ran first last = tt
+        by false None (Some ended) ran first last = tt
+        by false (Some began) None ran first last = tt
+        by false (Some began) (Some ended) ran first last = λ (node, at, other, run).
+            let same : node ≡ shown.node = same_Some node shown.node (sym at ∙ shown.is_at) in
+            let mentions = subst (λ (n : Node). Mentions logs n.number other) same run.mentions in
+            let others : ran_others logs times number ≡ true =
+            some_ran logs times number other mentions (run_during number other began ended first last
+            ∙ during (span_between target began ended) (times_of times other).began (times_of times other).ended run.during) in
+            no_both (ran_others logs times number) ran others
+          where
+            no_both : (b : Bool) → b ≡ false → b ≡ true → ⊥
+            no_both true failed passed = cc
+            no_both false failed passed = cc
+
+  pub all_callers_ran : AllRanOthers logs nodes times (summary_of logs nodes times).callers
+  all_callers_ran = all_callers logs nodes times (RanOthers logs nodes times) caller_ran
+
+  pub no_recipe_ran : NoneRanOthers logs nodes times (summary_of logs nodes times).recipes
+  no_recipe_ran = all_recipes logs nodes times (λ (span : Span). ¬ RanOthers logs nodes times span) recipe_ran_none

@@ -1,5 +1,11 @@
 -- Rows of the facts about the times of shown targets. The values are worked out by hand.
-use Rattle.std.proofs.Common.{◌≡◌, ℕ, ℤ, pos, negsuc, zero, suc, true, false, List, [], ◌∷◌, Option, None, Some, replicate, refl, ap, arith}
+use Rattle.std.proofs.Common.{◌≡◌, ℕ, ℤ, pos, negsuc, zero, suc, true, false, List, [], ◌∷◌, Option, None, Some, map, replicate, refl, ap, arith}
+use Rattle.redo_line.specs.declared.entry.Entry.{Entry}
+use Rattle.redo_line.specs.declared.entry.Entry.TheVariants.{Text, Mention, Done, Closing, Note}
+use Rattle.redo_line.specs.declared.entry.How.{How}
+use Rattle.redo_line.specs.declared.entry.How.TheVariants.{Made, Waiting, Locked, Unlocked, Unchanged}
+use Rattle.redo_logs.specs.Logs.{Log}
+use Rattle.redo_logs.specs.declared.log_state.LogState.TheVariants.{Ended}
 use Rattle.redo_facts.specs.declared.statement.Usage.{Usage}
 use Rattle.redo_facts.specs.Facts.{RecipeFacts}
 use Rattle.redo_timeline.specs.declared.span.Span.{Span}
@@ -9,10 +15,11 @@ use Rattle.redo_summary.specs.declared.rank.Rank.{Rank}
 use Rattle.redo_summary.specs.declared.target.Target.{Target}
 use Rattle.redo_timeline.specs.Alone.{alone}
 use Rattle.redo_summary.specs.Laws.{HasTimeAlone}
-use Rattle.redo_summary.specs.Callers.{is_in, marks_of, callers_of, recipes_of}
+use Rattle.redo_summary.specs.Callers.{is_within, mentioned_log, ran_mentioned, ran_others}
 use Rattle.redo_summary.specs.Ranks.{alone_rank, alone_ranks, duration, first_ranks, longest_alone, longest_of, most_warned}
 use Rattle.redo_summary.specs.Summary.{Facts, bytes_of, is_timed, sum_of, summary_of, total, warnings_of}
-use Rattle.redo_summary.specs.Targets.{duration_of, mark_of, no_times, span_of, targets_of}
+use Rattle.redo_summary.specs.Spans.{callers_of, mark_of, marks_of, recipes_of, span_of, targets_of}
+use Rattle.redo_summary.specs.Targets.{duration_of, no_times}
 use Rattle.redo_summary.specs.Usage.{known_usages, memory_rank, memory_ranks, most_memory, peak_of, processor_ms, processor_of, usage_at, usage_of, used_by}
 use Rattle.redo_summary.specs.Window.{cut, known_times, time_over, window_over}
 
@@ -46,11 +53,19 @@ node number parent status bytes warnings = record {
   ended = None;
 }
 
+-- The log of the target whose name is this one byte.
+abbrev pub log : ℕ → List Entry → Log
+log name entries = record { target = name ∷ []; entries = entries; state = Ended }
+
+-- A mention of the target whose name is this one byte.
+abbrev pub mention : How → ℕ → Entry
+mention how name = Mention 7 how (name ∷ [])
+
 abbrev pub target : ℕ → Option ℕ → Times → Target
-target position parent times = record { position = position; parent = parent; failed = false; times = times }
+target position parent times = record { position = position; parent = parent; failed = false; times = times; ran_others = false }
 
 abbrev pub failed_target : ℕ → Option ℕ → Times → Target
-failed_target position parent times = record { position = position; parent = parent; failed = true; times = times }
+failed_target position parent times = record { position = position; parent = parent; failed = true; times = times; ran_others = false }
 
 abbrev pub span : ℕ → ℕ → ℕ → Span
 span position began ended = record { began = began; position = position; ended = ended; failed = false }
@@ -83,11 +98,13 @@ durations :
     × (duration_of few_times 5 ≡ Some 0) × (duration_of few_times 6 ≡ None)
 durations = (refl, refl, refl, refl, refl, refl, refl)
 
--- The number of a log says where its times are. A target failed if its status is known and isn't 0.
+-- The number of a log says where its times are, and what it mentions. A target failed if its status is known and isn't 0.
 these_targets :
-    targets_of (node 1 None None 0 0 ∷ node 0 (Some 0) (Some (pos 0)) 0 0 ∷ node 2 (Some 1) (Some (pos 2)) 0 0
+    targets_of (log 65 (mention Made 66 ∷ []) ∷ log 66 (mention Made 65 ∷ []) ∷ [])
+    (node 1 None None 0 0 ∷ node 0 (Some 0) (Some (pos 0)) 0 0 ∷ node 2 (Some 1) (Some (pos 2)) 0 0
     ∷ node 7 (Some 0) (Some (negsuc 8)) 0 0 ∷ []) (ran 3 4 ∷ ran 1 9 ∷ ended_at 5 ∷ [])
-    ≡ target 0 None (ran 1 9) ∷ target 1 (Some 0) (ran 3 4) ∷ failed_target 2 (Some 1) (ended_at 5) ∷ failed_target 3 (Some 0) no_times ∷ []
+    ≡ record (target 0 None (ran 1 9)) { ran_others = true } ∷ target 1 (Some 0) (ran 3 4) ∷ failed_target 2 (Some 1) (ended_at 5)
+    ∷ failed_target 3 (Some 0) no_times ∷ []
 these_targets = refl
 
 these_spans :
@@ -111,43 +128,65 @@ marks_in_order = refl
 
 -- ---- callers
 
--- A span may touch both ends of the span around it. A span that ended when the span around it began isn't in it.
-inner_spans :
-    (is_in (span 0 10 20) (span 1 10 20) ≡ true) × (is_in (span 0 10 20) (span 1 9 20) ≡ false)
-    × (is_in (span 0 10 20) (span 1 10 21) ≡ false) × (is_in (span 0 10 20) (span 1 10 10) ≡ false)
-    × (is_in (span 0 10 20) (span 1 10 11) ≡ true) × (is_in (span 0 10 20) (span 1 20 20) ≡ true)
-    × (is_in (span 0 10 10) (span 1 10 10) ≡ false)
-inner_spans = (refl, refl, refl, refl, refl, refl, refl)
+-- A time may touch both ends of the time around it. A time that ended when the one around it began isn't in it.
+inner_times :
+    (is_within (Some 10) (Some 20) (Some 10) (Some 20) ≡ true) × (is_within (Some 10) (Some 20) (Some 9) (Some 20) ≡ false)
+    × (is_within (Some 10) (Some 20) (Some 10) (Some 21) ≡ false) × (is_within (Some 10) (Some 20) (Some 10) (Some 10) ≡ false)
+    × (is_within (Some 10) (Some 20) (Some 10) (Some 11) ≡ true) × (is_within (Some 10) (Some 20) (Some 20) (Some 20) ≡ true)
+    × (is_within (Some 10) (Some 10) (Some 10) (Some 10) ≡ false)
+inner_times = (refl, refl, refl, refl, refl, refl, refl)
 
--- One of the targets below ran in the span of the first one.
-abbrev family : List Target
-family = target 0 None (ran 10 20) ∷ failed_target 1 (Some 0) (ran 5 15) ∷ failed_target 2 (Some 0) (ran 12 18)
-    ∷ target 3 (Some 2) (ran 13 19) ∷ []
+unknown_times :
+    (is_within None (Some 20) (Some 12) (Some 18) ≡ false) × (is_within (Some 10) None (Some 12) (Some 18) ≡ false)
+    × (is_within (Some 10) (Some 20) None (Some 18) ≡ false) × (is_within (Some 10) (Some 20) (Some 12) None ≡ false)
+unknown_times = (refl, refl, refl, refl)
 
-split_family : (callers_of family ≡ span 0 10 20 ∷ []) × (recipes_of family ≡ failed 1 5 15 ∷ failed 2 12 18 ∷ span 3 13 19 ∷ [])
-split_family = (refl, refl)
+-- The first log is for `A`, the second one for `B`. `C` has no log.
+abbrev two_logs : List Log
+two_logs = log 65 [] ∷ log 66 [] ∷ []
 
--- The target at position 1 ran the one at position 3, and is in the span of the one at position 0, which ran it.
-abbrev nested : List Target
-nested = target 0 None (ran 10 90) ∷ failed_target 1 (Some 0) (ran 20 80) ∷ target 2 (Some 0) (began_at 30)
-    ∷ target 3 (Some 1) (ran 30 40) ∷ []
+mentioned_logs : map (mentioned_log two_logs)
+    (mention Made 66 ∷ mention Waiting 66 ∷ mention Locked 66 ∷ mention Unlocked 65 ∷ mention Unchanged 66 ∷ mention Made 67
+    ∷ Text (66 ∷ []) ∷ Done 7 (pos 0) (66 ∷ []) ∷ Closing 7 (pos 0) ∷ Note 7 (66 ∷ []) (66 ∷ []) ∷ [])
+    ≡ Some 1 ∷ Some 1 ∷ Some 1 ∷ Some 0 ∷ None ∷ None ∷ None ∷ None ∷ None ∷ None ∷ []
+mentioned_logs = refl
 
-split_nested : (callers_of nested ≡ span 0 10 90 ∷ failed 1 20 80 ∷ []) × (recipes_of nested ≡ span 3 30 40 ∷ [])
-split_nested = (refl, refl)
+-- A target in the time of another one; itself; one that began before; one without times; one past the end of the list.
+mentioned_runs : map (ran_mentioned (ran 10 20 ∷ ran 12 18 ∷ ran 5 15 ∷ no_times ∷ []) 0)
+    (Some 1 ∷ Some 0 ∷ Some 2 ∷ Some 3 ∷ Some 4 ∷ None ∷ [])
+    ≡ true ∷ false ∷ false ∷ false ∷ false ∷ false ∷ []
+mentioned_runs = refl
 
--- Nothing is known of the target between two others, so neither ran another.
-abbrev gap : List Target
-gap = target 0 None (ran 0 100) ∷ target 1 (Some 0) no_times ∷ target 2 (Some 1) (ran 10 20) ∷ []
+-- The log of `A` mentions `B`, which began before, `A` itself and, after some text, `C`, which ran while `A` did. The log of `B` mentions `D`
+-- as unchanged, though it ran while `B` did. The log of `C` mentions `A`, which ran longer. The log of `D` mentions `E`, whose times aren't
+-- known, and `F`, which has no log. The log of `E` mentions `D`.
+abbrev family : List Log
+family =
+    log 65 (mention Made 65 ∷ mention Made 66 ∷ Text [] ∷ Text (67 ∷ []) ∷ mention Made 67 ∷ mention Made 66 ∷ [])
+    ∷ log 66 (mention Unchanged 68 ∷ Done 7 (pos 0) (68 ∷ []) ∷ []) ∷ log 67 (mention Made 65 ∷ [])
+    ∷ log 68 (mention Made 69 ∷ mention Made 70 ∷ []) ∷ log 69 (mention Made 68 ∷ []) ∷ []
 
-split_gap : (callers_of gap ≡ []) × (recipes_of gap ≡ span 0 0 100 ∷ span 2 10 20 ∷ [])
-split_gap = (refl, refl)
+ran_in_family : map (ran_others family (ran 10 90 ∷ ran 5 80 ∷ ran 20 80 ∷ ran 30 40 ∷ no_times ∷ ran 31 39 ∷ []))
+    (0 ∷ 1 ∷ 2 ∷ 3 ∷ 4 ∷ 5 ∷ [])
+    ≡ true ∷ false ∷ false ∷ false ∷ false ∷ false ∷ []
+ran_in_family = refl
 
--- Two requested targets: the log of none contains the log of the other.
-abbrev requested : List Target
-requested = target 0 None (ran 0 100) ∷ target 1 None (ran 10 20) ∷ []
+-- The same log twice: what it mentions is needed elsewhere too. Both targets ran it.
+shared : map
+    (ran_others (log 65 (mention Made 67 ∷ []) ∷ log 66 (mention Waiting 67 ∷ []) ∷ log 67 [] ∷ []) (ran 10 90 ∷ ran 5 95 ∷ ran 20 30 ∷ []))
+    (0 ∷ 1 ∷ 2 ∷ []) ≡ true ∷ true ∷ false ∷ []
+shared = refl
 
-split_requested : (callers_of requested ≡ []) × (recipes_of requested ≡ span 0 0 100 ∷ span 1 10 20 ∷ [])
-split_requested = (refl, refl)
+-- The targets that ran others are callers, and all others whose times are known are recipes.
+abbrev several : List Target
+several =
+    record (target 0 None (ran 10 90)) { ran_others = true } ∷ failed_target 1 (Some 0) (ran 20 80)
+    ∷ record (failed_target 2 (Some 0) (ran 30 40)) { ran_others = true } ∷ target 3 (Some 1) (ran 13 19)
+    ∷ record (target 4 (Some 1) (began_at 13)) { ran_others = true } ∷ target 5 None (ended_at 14) ∷ []
+
+split_several :
+    (callers_of several ≡ span 0 10 90 ∷ failed 2 30 40 ∷ []) × (recipes_of several ≡ failed 1 20 80 ∷ span 3 13 19 ∷ [])
+split_several = (refl, refl)
 
 -- ---- the window
 
@@ -224,6 +263,11 @@ sums = (refl, refl, refl)
 
 -- ---- the whole
 
+-- The logs of three targets, and the log of a fourth one, which mentions them.
+abbrev pub four_logs : List Log
+four_logs =
+    log 65 [] ∷ log 66 [] ∷ log 67 [] ∷ log 68 (mention Made 68 ∷ mention Made 65 ∷ mention Made 66 ∷ mention Made 67 ∷ []) ∷ []
+
 -- A requested target ran for 90 milliseconds. It ran two others, which failed, one after another. Only the end of the last target is
 -- known.
 abbrev pub small_build : Facts
@@ -243,7 +287,7 @@ small_build = record {
 }
 
 whole :
-    (summary_of (node 3 None (Some (pos 1)) 10 0 ∷ []) [] ≡ record {
+    (summary_of four_logs (node 3 None (Some (pos 1)) 10 0 ∷ []) [] ≡ record {
       window = None;
       took = 0;
       callers = [];
@@ -257,14 +301,14 @@ whole :
       alone = [];
       warned = [];
     })
-    × (summary_of (node 3 None (Some (pos 0)) 10 0 ∷ node 0 (Some 0) (Some (pos 1)) 20 0 ∷ node 2 (Some 0) (Some (pos 2)) 30 4
+    × (summary_of four_logs (node 3 None (Some (pos 0)) 10 0 ∷ node 0 (Some 0) (Some (pos 1)) 20 0 ∷ node 2 (Some 0) (Some (pos 2)) 30 4
     ∷ node 1 (Some 0) None 40 2 ∷ []) (ran 1020 1050 ∷ ended_at 1095 ∷ ran 1050 1090 ∷ ran 1010 1100 ∷ ran 1 9999 ∷ []) ≡ small_build)
 whole = (refl, refl)
 
 -- No target. Then a requested target that failed: it ran two others at once, and one of these failed. Only the end of a third one is
 -- known, and no time of a fourth one.
 other_builds :
-    (summary_of [] [] ≡ record {
+    (summary_of [] [] [] ≡ record {
       window = None;
       took = 0;
       callers = [];
@@ -278,7 +322,7 @@ other_builds :
       alone = [];
       warned = [];
     })
-    × (summary_of (node 3 None (Some (pos 1)) 10 0 ∷ node 0 (Some 0) (Some (pos 0)) 20 0 ∷ node 2 (Some 0) (Some (pos 2)) 30 4
+    × (summary_of four_logs (node 3 None (Some (pos 1)) 10 0 ∷ node 0 (Some 0) (Some (pos 0)) 20 0 ∷ node 2 (Some 0) (Some (pos 2)) 30 4
     ∷ node 1 (Some 0) None 40 2 ∷ node 9 (Some 2) None 50 0 ∷ [])
     (ran 1020 1070 ∷ ended_at 1095 ∷ ran 1050 1090 ∷ ran 1010 1100 ∷ ran 1 9999 ∷ []) ≡ record {
       window = Some (record { began = 1010; width = 90 });
@@ -298,7 +342,8 @@ other_builds = (refl, refl)
 
 -- A requested target ran two others at once: recipes count in `sum` and `most`, and their caller doesn't.
 overlap :
-    summary_of (node 0 None (Some (pos 0)) 10 0 ∷ node 1 (Some 0) (Some (pos 0)) 20 0 ∷ node 2 (Some 0) (Some (pos 0)) 30 0 ∷ [])
+    summary_of (log 65 (mention Made 66 ∷ mention Made 67 ∷ []) ∷ log 66 [] ∷ log 67 [] ∷ [])
+    (node 0 None (Some (pos 0)) 10 0 ∷ node 1 (Some 0) (Some (pos 0)) 20 0 ∷ node 2 (Some 0) (Some (pos 0)) 30 0 ∷ [])
     (ran 1000 1100 ∷ ran 1010 1050 ∷ ran 1040 1090 ∷ []) ≡ record {
       window = Some (record { began = 1000; width = 100 });
       took = 100;

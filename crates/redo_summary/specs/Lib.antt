@@ -2,6 +2,7 @@ pub mod Laws
 pub mod Callers
 pub mod Private
 pub mod Ranks
+pub mod Spans
 pub mod Summary
 pub mod Targets
 pub mod Usage

@@ -1,4 +1,3 @@
 -- Definitions that only clauses of private functions cite. They help in proofs and need not be trusted.
-pub mod Marking
 pub mod Sums
 pub mod Times

@@ -1,5 +1,6 @@
 -- The facts about the times of the shown targets.
 use Rattle.std.specs.Prelude.{ℕ, ◌+◌, ◌*◌, Bool, ◌&&◌, leb, ltb, List, Option, length, sum_by}
+use Rattle.redo_logs.specs.Logs.{Log}
 use Rattle.redo_timeline.specs.declared.span.Span.{Span}
 use Rattle.redo_timeline.specs.declared.span.Window.{Window}
 use Rattle.redo_timeline.specs.Parallelism.{most_of}
@@ -8,9 +9,8 @@ use Rattle.redo_outline.specs.declared.node.Node.{Node}
 use Rattle.redo_outline.specs.Facts.{saturated}
 use Rattle.redo_summary.specs.declared.rank.Rank.{Rank}
 use Rattle.redo_summary.specs.declared.target.Target.{Target}
-use Rattle.redo_summary.specs.Callers.{marks_of, callers_of, recipes_of}
 use Rattle.redo_summary.specs.Ranks.{duration, longest_alone, longest_of, most_warned}
-use Rattle.redo_summary.specs.Targets.{targets_of}
+use Rattle.redo_summary.specs.Spans.{callers_of, marks_of, recipes_of, targets_of}
 use Rattle.redo_summary.specs.Window.{known_times, time_over, window_over}
 
 pub record Facts : Type 0 where
@@ -64,8 +64,8 @@ facts_of nodes targets = record {
   warned = most_warned nodes;
 }
 
-abbrev pub summary_of : List Node → List Times → Facts
-summary_of nodes times = facts_of nodes (targets_of nodes times)
+abbrev pub summary_of : List Log → List Node → List Times → Facts
+summary_of logs nodes times = facts_of nodes (targets_of logs nodes times)
 
 -- Whether there is a timeline: there is a span, and at most a tenth of the spans and marks are marks.
 abbrev pub is_timed : Facts → Bool

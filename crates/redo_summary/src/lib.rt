@@ -1,15 +1,16 @@
 //! The facts about a build's shown targets: when they ran, how long the build took, which ones took longest, and what their recipes
 //! used.
 //!
-//! [`Summary::new`] computes them from the nodes of an outline and the times of all targets, and [`UsageSummary::new`] from what is known
-//! of recipes. They make no HTML.
+//! [`Summary::new`] computes them from logs, the nodes of their outline and the times of all targets, and [`UsageSummary::new`] from what
+//! is known of recipes. They make no HTML.
 //!
 //! # Terms
 //!
 //! - *Shown target*: the target of a node. Its *position* is the node's position.
 //! - *Span*: the time from when a target began to when it ended, if both are known.
 //! - *Mark*: the one time that is known of a target, as a span without length.
-//! - *Caller*: the span of a target that ran another one, which began and ended within it. All other spans are *recipes*.
+//! - *Caller*: the span of a target that ran another one: its log mentions that one, which began and ended within the span. All other
+//!   spans are *recipes*.
 #![tactic(auto)]
 
 mod callers;

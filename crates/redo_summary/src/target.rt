@@ -1,6 +1,6 @@
 //! When a shown target ran.
 ghost use Rattle.std.specs.Prelude.{◌≡◌};
-ghost use Rattle.redo_summary.specs.Targets.{mark_of, span_between, span_of};
+ghost use Rattle.redo_summary.specs.Spans.{caller_span, mark_of, recipe_span, span_between, span_of};
 
 use redo_timeline::Span;
 use redo_times::Times;
@@ -13,6 +13,8 @@ pub struct Target {
     pub parent: Option<usize>,
     pub failed: bool,
     pub times: Times,
+    /// Whether it ran others.
+    pub ran_others: bool,
 }
 
 impl Target {
@@ -26,8 +28,22 @@ impl Target {
         }
     }
 
-    /// Returns the mark of the target, if one time is known. The log of a run by make is the log of a requested target, and says only
-    /// when it ended: this is no mark.
+    /// Returns the span of the target, if both times are known and it ran others.
+    pub fn caller_span(&self) -> Option<Span>
+        ensures { result ≡ caller_span self.now }
+    {
+        if self.ran_others { self.span() } else { None }
+    }
+
+    /// Returns the span of the target, if both times are known and it ran no others.
+    pub fn recipe_span(&self) -> Option<Span>
+        ensures { result ≡ recipe_span self.now }
+    {
+        if self.ran_others { None } else { self.span() }
+    }
+
+    /// Returns the mark of the target, if one time is known. The log of a run by make is the log of a requested target, and may say
+    /// only when it ended: this is no mark.
     pub fn mark(&self) -> Option<Span>
         ensures { result ≡ mark_of self.now }
     {

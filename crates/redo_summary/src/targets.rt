@@ -1,10 +1,12 @@
 //! The shown targets, and their times.
 ghost use Rattle.std.specs.Prelude.{◌≡◌, IfOk};
 ghost use Rattle.redo_outline.specs.Facts.{is_failure};
-ghost use Rattle.redo_summary.specs.Targets.{duration_of, target_of, targets_of, times_of};
-ghost use Rattle.redo_summary.specs.Private.Marking.{ArePositioned};
+ghost use Rattle.redo_summary.specs.Spans.{target_of, targets_of};
+ghost use Rattle.redo_summary.specs.Targets.{duration_of, times_of};
 
+use crate::callers::ran_others;
 use crate::target::Target;
+use redo_logs::{LogTable, Numbered};
 use redo_outline::Node;
 use redo_times::Times;
 use std::alloc::{AllocError, Global};
@@ -24,33 +26,35 @@ pub fn duration_of(times: &[Times], number: u32) -> Option<u64>
 /// Returns the shown targets.
 pub fn list_targets(
     alloc: Global,
+    table: &LogTable,
     nodes: &[Node],
     times: &[Times],
 ) -> Result<Vec<Target>, AllocError>
-    ensures targets { IfOk result (λ targets. targets.items ≡ targets_of nodes.now times.now) }
-    ensures positioned { IfOk result (λ targets. ArePositioned targets.items) }
+    ensures { IfOk result (λ targets. targets.items ≡ targets_of table.now nodes.now times.now) }
 {
+    let logs = table.numbered();
     let mut targets = Vec::new(alloc);
     for (position, node) in nodes.iter().enumerate() {
-        targets.push(target_of(times, position, node))?;
+        targets.push(target_of(&logs, times, position, node))?;
     }
     Ok(targets)
 }
 
 // Returns the target of the node at this position.
-fn target_of(times: &[Times], position: usize, node: &Node) -> Target
-    ensures { result ≡ target_of times.now position node.now }
+fn target_of(logs: &Numbered<'_>, times: &[Times], position: usize, node: &Node) -> Target
+    ensures { result ≡ target_of logs.now.logs times.now position node.now }
 {
     Target {
         position,
         parent: node.parent,
         failed: is_failure(node.status),
         times: times_of(times, node.number),
+        ran_others: ran_others(logs, times, node.number),
     }
 }
 
-// Returns the times of the target of the log with this number.
-fn times_of(times: &[Times], number: u32) -> Times
+/// Returns the times of the target of the log with this number.
+pub fn times_of(times: &[Times], number: u32) -> Times
     ensures { result ≡ times_of times.now number }
 {
     match times.get(number as usize) {

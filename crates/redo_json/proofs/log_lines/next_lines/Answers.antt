@@ -1,6 +1,7 @@
 use Rattle.std.proofs.Common.{◌+◌, [], length, sym, ap, ◌∙◌, arith}
 use Rattle.redo_line.proofs.LineLemmas.{ended-free}
-use Rattle.redo_json.proofs.LogLineLemmas.{count_of, later_lines, next_texts, no_lines, no_text, within}
+use Rattle.redo_json.proofs.LogLineLemmas.{count_of, later_lines, next_texts, no_lines, no_text}
+use Rattle.redo_outline.proofs.LogEntries.{within}
 use Rattle.redo_json.proofs.log_lines.next_lines.Goals as goal
 
 pub returns-then-count-gt0-clause-lines : goal.returns-then-count-gt0-clause-lines

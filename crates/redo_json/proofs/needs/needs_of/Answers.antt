@@ -1,7 +1,7 @@
 use Rattle.std.proofs.Common.{ℕ, Bor, List, [], ap, map, sym, subst, arith}
 use Rattle.redo_logs.specs.Logs.{Log}
 use Rattle.redo_logs.specs.Numbering.{AreLinesAt}
-use Rattle.redo_json.proofs.LogLineLemmas.{within}
+use Rattle.redo_outline.proofs.LogEntries.{within}
 use Rattle.redo_json.proofs.NeedLemmas.{after_entry, after_texts, all_needs, begin_needs, lines_within}
 use Rattle.redo_json.proofs.needs.needs_of.Goals as goal
 

@@ -1,5 +1,6 @@
 use Rattle.std.proofs.Common.{◌+◌, sym, ◌∙◌, arith}
-use Rattle.redo_page.proofs.PrintedLemmas.{later_lines, next_texts, no_lines, no_text, within}
+use Rattle.redo_page.proofs.PrintedLemmas.{later_lines, next_texts, no_lines, no_text}
+use Rattle.redo_outline.proofs.LogEntries.{within}
 use Rattle.redo_page.proofs.printed.next_lines.Goals as goal
 
 pub returns-then-count-gt0 : goal.returns-then-count-gt0
