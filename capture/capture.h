@@ -131,11 +131,35 @@ struct range {
 struct usage {
   int64_t user_us, system_us, peak_kb;
 };
+/* What the sub-makes of one recipe did for a target. */
+struct making {
+  struct target *parent;      /* the target of the recipe; `all` if no recipe runs the make, or its log can't mention the target */
+  const struct make *make;    /* the first one. Lines that other makes run don't change the start and the end. */
+  int is_mentioned;           /* as a prerequisite, in a log that is enough */
+  int failed_after_mention;   /* a line failed after that */
+  int64_t start_time, end_time;
+  int status;                 /* as target_run has it */
+  struct making *next;
+};
+/* That a line of a target failed, and during which line of another recipe. */
+struct failure {
+  const struct make *make;
+  uint32_t recipe;       /* the number of the line's recipe in that make */
+  unsigned line;         /* the number of the line */
+  struct target *parent; /* the target whose recipe runs the make; may be NULL */
+  unsigned parent_line;  /* the number of its line */
+  int is_ignored;        /* the make went on with the next line of the recipe */
+  int is_interrupted;    /* it failed after a signal had stopped the build */
+  int has_cause;         /* set by report.c: a line that a sub-make ran meanwhile failed */
+  struct failure *next;  /* the target's failure before this one */
+};
 /* What has happened to a target in this run. Reset when its first recipe begins. */
 struct target_run {
   int has_begun;
-  int is_mentioned;      /* as a prerequisite, in the log of another target */
-  struct target *parent; /* the target whose recipe runs the make that makes this one; may be NULL */
+  struct target *parent;      /* the target whose recipe runs first_make; may be NULL */
+  struct making *makings;     /* first_make's comes first */
+  struct making *last_making; /* of the last line that began, or that a signal ended; NULL before the first one */
+  struct failure *failures;   /* the last one comes first */
   const char *directory; /* of first_make, or of the last other make that makes the target */
   struct usage usage;    /* of its lines that have ended */
 
@@ -152,11 +176,8 @@ struct target_run {
   int failed_status;  /* of an earlier recipe of the same double-colon rules that failed; otherwise 0 */
   int is_interrupted; /* it failed after a signal had stopped the build */
 
-  unsigned line_count;     /* the number of lines that began so far */
-  unsigned failed_line;    /* line_count when a line failed last */
-  unsigned failed_in_line; /* the parent's line_count when this target failed last */
-  int has_failed_child;    /* a target whose parent this is has failed in the last line */
-  int has_running_child;   /* set by progress.c: a target whose parent this is runs */
+  unsigned last_line;    /* the number of the last line that began */
+  int has_running_child; /* set by progress.c: a line runs whose make a recipe of this target runs */
 };
 /* The log of a target, which this run writes. */
 struct log_file {
@@ -199,8 +220,13 @@ struct target *add_target(const char *name);
 int is_known_prefix(const char *name);
 /* Forgets everything about the targets except their names and the number of lines that run. */
 void clear_targets(void);
-/* Returns the parent, or `all` if there is none. */
-struct target *parent_of(const struct target *target);
+/* Returns what the sub-makes of a recipe of this parent did for the target, or NULL. */
+struct making *making_for(const struct target *target, const struct target *parent);
+/* Adds a making at the end, which begins at this time. */
+struct making *add_making(struct target *target, struct target *parent, const struct make *make, int64_t time);
+/* Returns the target in whose log the sub-makes of a recipe of `parent`, which may be NULL, are recorded as makers of the target: `all`
+   if that log can't mention the target. */
+struct target *log_parent(const struct target *target, struct target *parent);
 /* Returns the targets that began in this run, sorted by name. */
 struct target **sorted_targets(size_t *count);
 
@@ -306,8 +332,8 @@ void append_text(struct target *target, const char *bytes, size_t size, const st
 void complete_line(struct target *target);
 /* Records that these bytes of a log are a provisional record. */
 void add_mention(struct log_file *log, off_t start, off_t end);
-/* Appends a provisional record to the log of the parent: that the target began, or, unless `status` is -1, that it ended. */
-void mention_in_parent(struct target *target, pid_t process, int64_t time, int status);
+/* Appends a provisional record to the log of a parent: that the target began, or, unless `status` is -1, that it ended. */
+void mention_in_parent(struct target *parent, const struct target *target, pid_t process, int64_t time, int status);
 /* Writes the buffer of one log, or of all logs. If `can_begin` isn't set, the journal can't be written, and no log may be
    begun. */
 int flush_log(struct target *target);
@@ -387,10 +413,20 @@ struct line {
   struct pipe *pipe;
   struct command command;
   int64_t start_time;
-  int is_nested; /* its make is run by a recipe of the same target, whose usage has that of this line */
+  unsigned number;       /* among all lines, in the order in which they began */
+  struct making *making; /* NULL if the log of its target hasn't begun */
+  struct target *parent; /* the target whose recipe runs the make, which may be the same one; may be NULL */
+  unsigned parent_line;  /* the number of its line */
+  int is_nested;         /* a recipe of the same target runs its make, and the usage of that recipe has that of this line */
+  int has_failed_child;  /* a line failed that a sub-make of this line ran */
+  int has_sub_make;      /* it runs a make */
+  int has_printed;       /* text has arrived in its pipe */
+  const char *directory_before; /* run.directory before the line; NULL if the log of its target hadn't begun */
   struct line *next;
 };
 extern struct line *lines; /* the lines that run now */
+/* Returns when the first one of the makes that run the target began to do so. */
+int64_t running_since(const struct target *target);
 /* Takes ownership of the command and of its pipe, which may be NULL. */
 void begin_line(struct make *make, uint32_t recipe, struct target *target, struct command command, int64_t time, pid_t process,
                 struct pipe *pipe);
@@ -404,6 +440,8 @@ struct line_end {
 /* Returns the line, or NULL if the process is no line. */
 struct line *find_line(const struct make *make, pid_t process);
 void end_line(struct line *line, struct line_end end, int is_shown);
+/* Records that a line runs this make. */
+void add_sub_make(const struct make *make);
 /* Ends a line that make couldn't start. */
 void fail_line(struct make *make, uint32_t recipe, struct target *target, pid_t process, int64_t time);
 /* Begins the log of a target, whose first line has a process now, with the records at its start. Mentions the target in the log of its

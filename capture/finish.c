@@ -4,8 +4,8 @@
    Closing records and some mentions are written after the build: make doesn't say which line is the last, and the text must
    not depend on timing.
 
-   Targets that no other log mentions are mentioned in the log of their parent or of the run. If a target fails, make never
-   begins its dependents, and doesn't say which they are. */
+   The log of a recipe mentions what its sub-makes made, unless the log of another target of the same sub-make does. The log of the run
+   mentions what no other log does. If a target fails, make never begins its dependents, and doesn't say which they are. */
 #define _GNU_SOURCE
 #include "capture.h"
 #include <errno.h>
@@ -28,23 +28,35 @@ static void report_lost(void) {
 }
 
 /* Adds the start of the record that a target ended. The name follows, as it is written in the log that gets the record. */
-static void add_done_record(struct text *text, const struct target *target, pid_t process) {
-  add_record(text, "done", process, target->run.end_time);
-  add_status(text, target->run.status);
+static void add_done_record(struct text *text, pid_t process, int64_t time, int status) {
+  add_record(text, "done", process, time);
+  add_status(text, status);
 }
 
-/* Adds the target's records to the log of its parent, unless a log mentions the target as a prerequisite. */
-static void add_child_records(const struct target *target) {
-  struct target *parent = parent_of(target);
-  if (parent == target || target->run.is_mentioned || !can_mention(parent->name, target->name)) return;
+/* Adds records of a target to the log of the recipe that had it made. */
+static void add_making_records(const struct target *target, const struct making *making) {
+  struct target *parent = making->parent;
+  if (parent == target || !can_mention(parent->name, target->name)) return;
   struct text *records = &parent->log.child_records;
-  add_record(records, "do", parent->run.process, target->run.start_time);
+  add_record(records, "do", parent->run.process, making->start_time);
   add_name_in_log(records, target->name, parent->name);
   add_string(records, "\n");
-  if (target->run.status < 0) return;
-  add_done_record(records, target, parent->run.process);
+  if (making->status < 0) return;
+  add_done_record(records, parent->run.process, making->end_time, making->status);
   add_name_in_log(records, target->name, parent->name);
   add_string(records, "\n");
+}
+
+/* Whether the log of a recipe must mention a target that it had made: no other log does that is enough, or says how it ended. The log of
+   the run need not, if a recipe had the target made before. */
+static int needs_records(const struct target *target, const struct making *making) {
+  if (making->parent == run_target && making != target->run.makings) return making->status > 0;
+  return !making->is_mentioned || making->failed_after_mention;
+}
+
+static void add_child_records(const struct target *target) {
+  for (const struct making *making = target->run.makings; making; making = making->next)
+    if (needs_records(target, making)) add_making_records(target, making);
 }
 
 /* Whether these bytes of a log are still a provisional record. Somebody may have changed the log. */
@@ -77,6 +89,13 @@ static int rewrite_log(struct target *target, const char *log, size_t size) {
   return error;
 }
 
+static int run_status; /* of the command; -1 if it isn't known */
+
+/* The log of the run ends with the status of the run, even if a recipe makes `all` and succeeded. */
+static int ends_with_run(const struct target *target) { return target == run_target && target->run.status == 0 && run_status != 0; }
+
+static int closing_status(const struct target *target) { return ends_with_run(target) ? run_status : target->run.status; }
+
 /* `size` is the size of the log if it is open, and otherwise -1. */
 static void add_closing_record(struct target *target, off_t size) {
   static struct text record;
@@ -88,7 +107,8 @@ static void add_closing_record(struct target *target, off_t size) {
   if (!is_known && size > 0 && pread(target->log.fd, &last, 1, size - 1) < 1) last = '\n';
   record.size = 0;
   if (last != '\n') add_string(&record, "\n");
-  add_done_record(&record, target, target->run.end_process);
+  int64_t end_time = ends_with_run(target) ? wall_clock_ms() : target->run.end_time;
+  add_done_record(&record, target->run.end_process, end_time, closing_status(target));
   add_string(&record, name_in_own_log(target->name));
   add_string(&record, "\n");
   target->is_closed = write_all(target->log.fd, record.bytes, record.size) == 0;
@@ -117,15 +137,27 @@ static void finish_log(struct target *target) {
     free(log);
     if (error) return;
   }
-  if (target->run.status >= 0) add_closing_record(target, target->log.fd >= 0 ? found.st_size : -1);
+  if (closing_status(target) >= 0) add_closing_record(target, target->log.fd >= 0 ? found.st_size : -1);
   else close_log(target);
 }
 
 /* Gives the log of the run the status of the run, unless a recipe makes `all`. */
-static void end_run_log(int status) {
+static void end_run_log(void) {
   if (run_target->run.has_begun) return;
   run_target->run.process = run_target->run.end_process = getpid();
-  run_target->run.end_time = wall_clock_ms(), run_target->run.status = status;
+  run_target->run.end_time = wall_clock_ms(), run_target->run.status = run_status;
+}
+
+/* The run began with its first recipe. Its log says so, because logs of earlier runs may say when a recipe for `all` began. */
+static void begin_run_log(struct target **begun, size_t count) {
+  struct text *records = &run_target->log.child_records;
+  if (run_target->run.has_begun || count == 0) return;
+  int64_t start_time = begun[0]->run.start_time;
+  for (size_t i = 1; i < count; i++)
+    if (begun[i]->run.start_time < start_time) start_time = begun[i]->run.start_time;
+  add_record(records, "do", getpid(), start_time);
+  add_string(records, run_target->name);
+  add_string(records, "\n");
 }
 
 static void finish_run(int status) {
@@ -134,8 +166,10 @@ static void finish_run(int status) {
   /* Before the journal ends, the list of closed logs must lose those that were begun again, because the journal no longer names
      them afterwards. Before any log is closed, the journal must end, so that no log is closed twice. */
   if (write_index(0) < 0 || write_closed() < 0 || end_journal() < 0) return;
-  end_run_log(status);
+  run_status = status;
+  end_run_log();
   struct target **sorted = sorted_targets(&count);
+  begin_run_log(sorted, count);
   for (size_t i = 0; i < count; i++) add_child_records(sorted[i]);
   for (size_t i = 0; i < target_count; i++)
     if (targets[i]->run.has_begun) finish_log(targets[i]);

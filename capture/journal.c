@@ -130,11 +130,24 @@ static void parse_target_event(const char *line) {
   struct target *target = journal_targets[number] = add_target(line + name);
   target->number = number, target->is_closed = 0;
   target->run = (struct target_run){.has_begun = 1, .parent = journal_target(parent), .start_time = time, .status = -1};
+  add_making(target, log_parent(target, target->run.parent), NULL, time);
   target->log.header_size = target->log.mention_count = 0;
 }
 
+/* Returns what sub-makes of the recipe of this target did, `all` if it has no number. Adds it if it wasn't there. */
+static struct making *journal_making(struct target *target, unsigned parent, int64_t time) {
+  struct target *found = log_parent(target, journal_target(parent));
+  struct making *making = making_for(target, found);
+  return making ? making : add_making(target, found, NULL, time);
+}
+
+static void end_making(struct making *making, int64_t time, int status) {
+  making->end_time = time, making->status = status;
+  making->failed_after_mention |= making->is_mentioned && status > 0;
+}
+
 static void parse_event(const char *line) {
-  unsigned number;
+  unsigned number, parent;
   int process, status;
   long long start, end;
   int64_t time;
@@ -143,10 +156,16 @@ static void parse_event(const char *line) {
   struct target *target = number == 1 && !journal_target(1) ? run_target : journal_target(number);
   if (!target) return;
   if (sscanf(line, "start %u %d %lld", &number, &process, &end) == 3) target->run.process = process, target->log.header_size = end;
-  if (sscanf(line, "needed %u", &number) == 1) target->run.is_mentioned = 1;
-  if (sscanf(line, "line %u %d", &number, &process) == 2) target->run.process = process, target->run.status = -1;
+  if (sscanf(line, "made %u %u %" SCNd64, &number, &parent, &time) == 3) journal_making(target, parent, time);
+  if (sscanf(line, "needed %u %u", &number, &parent) == 2) journal_making(target, parent, target->run.start_time)->is_mentioned = 1;
+  if (sscanf(line, "line %u %d %u", &number, &process, &parent) == 3) {
+    target->run.process = process, target->run.status = -1;
+    journal_making(target, parent, target->run.start_time)->status = -1;
+  }
   if (sscanf(line, "ended %u %d %" SCNd64 " %d", &number, &process, &time, &status) == 4)
     target->run.process = target->run.end_process = process, target->run.end_time = time, target->run.status = status;
+  if (sscanf(line, "did %u %u %" SCNd64 " %d", &number, &parent, &time, &status) == 4)
+    end_making(journal_making(target, parent, time), time, status);
   if (sscanf(line, "mention %u %lld %lld", &number, &start, &end) == 3 && start >= 0 && end > start)
     add_mention(&target->log, start, end);
 }

@@ -314,9 +314,8 @@ void add_mention(struct log_file *log, off_t start, off_t end) {
   log->mentions[log->mention_count++] = (struct range){start, end};
 }
 
-void mention_in_parent(struct target *target, pid_t process, int64_t time, int status) {
+void mention_in_parent(struct target *parent, const struct target *target, pid_t process, int64_t time, int status) {
   static struct text record;
-  struct target *parent = parent_of(target);
   if (parent == target || (parent != run_target && !parent->run.has_begun) ||
       !can_mention(parent->name, target->name))
     return;

@@ -35,6 +35,7 @@ static int handle_hello(struct make *make, const char *message, size_t size, int
   if (watch_source(&make->notes) < 0) return -1;
   make->directory = xasprintf("%s", message + sizeof hello);
   receive_from_parent(make);
+  add_sub_make(make);
   struct welcome welcome = {make->number, show_mode, captures_output, makes_are_asked(), uses_terminals};
   make->is_waiting = 0;
   return send_to_make(make, &welcome, sizeof welcome);

@@ -138,6 +138,7 @@ static void add_output(struct pipe *pipe, const char *bytes, size_t size) {
   const char *newline = memrchr(bytes, '\n', size);
   size_t complete = newline ? newline + 1 - bytes : 0;
   pipe->last_read = monotonic_ms();
+  for (struct line *line = lines; line; line = line->next) line->has_printed |= line->pipe == pipe;
   if (complete > 0 && pipe->held_size > 0) {
     hold_back(pipe, bytes, complete);
     flush_pipe(pipe);

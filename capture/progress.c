@@ -37,26 +37,26 @@ int progress_wait_ms(void) {
   return left > 0 ? left : 0;
 }
 
-static int is_running(const struct target *target) { return target->run.has_begun && target->run.status < 0; }
+static int is_running(const struct target *target) { return target->run.has_begun && target->running_lines > 0; }
 
-/* A target counts as running unless a target that a sub-make of its recipe makes runs. */
+/* A target counts as running unless a sub-make of its recipe runs a line. */
 static void print_counts(void) {
   size_t made = 0, failed = 0, running = 0;
   const struct target *longest = NULL;
   char last_run[48] = "";
   for (size_t i = 0; i < target_count; i++) targets[i]->run.has_running_child = 0;
-  for (size_t i = 0; i < target_count; i++)
-    if (is_running(targets[i]) && targets[i]->run.parent) targets[i]->run.parent->run.has_running_child = 1;
+  for (const struct line *line = lines; line; line = line->next)
+    if (line->parent && line->parent != line->target) line->parent->run.has_running_child = 1;
   for (size_t i = 0; i < target_count; i++) {
     const struct target_run *run = &targets[i]->run;
     made += run->has_begun && run->status == 0, failed += run->has_begun && run->status > 0;
     if (!is_running(targets[i]) || run->has_running_child) continue;
     running++;
-    if (!longest || run->start_time < longest->run.start_time) longest = targets[i];
+    if (!longest || running_since(targets[i]) < running_since(longest)) longest = targets[i];
   }
   if (last_run_count) snprintf(last_run, sizeof last_run, "; last run: %zu", last_run_count);
   if (!longest) return warn("%zu made, %zu failed, %zu running%s", made, failed, running, last_run);
-  int64_t duration = wall_clock_ms() - longest->run.start_time;
+  int64_t duration = wall_clock_ms() - running_since(longest);
   warn("%zu made, %zu failed, %zu running, %s for %lld s%s", made, failed, running, longest->name,
        (long long)(duration > 0 ? duration / 1000 : 0), last_run);
 }

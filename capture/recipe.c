@@ -18,6 +18,40 @@ struct header {
   int64_t time;
 };
 
+/* Returns the line that runs this make, or NULL. Every make is connected before its sub-makes. */
+static struct line *parent_line(const struct make *make) {
+  struct line *line = make->parent_make < make->number ? lines : NULL;
+  while (line && (line->make->number != make->parent_make || line->recipe != make->parent_recipe)) line = line->next;
+  return line;
+}
+
+/* Returns the line of the target that runs this make, directly or through others, or NULL. */
+static struct line *enclosing_line(const struct make *make, const struct target *target) {
+  struct line *line = parent_line(make);
+  while (line && line->target != target) line = parent_line(line->make);
+  return line;
+}
+
+/* In the journal, `all` has no number. */
+static unsigned journal_number(const struct target *parent) { return parent == run_target ? 0 : parent->number; }
+
+/* The log of a target mentions a prerequisite. That is enough if the same recipe had both made, or if no recipe had the prerequisite made.
+   Otherwise the log of that recipe must mention it, too, to show what the recipe did. It isn't enough either if the recipe of the
+   prerequisite runs the make of the target: then only the log of the prerequisite leads to the log of the target. */
+static void set_mentioned(struct header *header, struct target *prerequisite) {
+  if (enclosing_line(header->target->run.first_make, prerequisite)) return;
+  struct target *parent = log_parent(header->target, header->target->run.parent);
+  struct making *making = prerequisite->run.makings;
+  if (making && making->parent != run_target) making = making_for(prerequisite, parent);
+  if (!making) return;
+  making->is_mentioned = 1;
+  add_string(&header->mentioned, "needed ");
+  add_number(&header->mentioned, prerequisite->number);
+  add_string(&header->mentioned, " ");
+  add_number(&header->mentioned, journal_number(making->parent));
+  add_string(&header->mentioned, "\n");
+}
+
 static void mention_prerequisite(struct header *header, struct target *prerequisite) {
   struct target *target = header->target;
   if (!prerequisite || prerequisite->number == 0 || prerequisite == target ||
@@ -26,19 +60,18 @@ static void mention_prerequisite(struct header *header, struct target *prerequis
   if (!can_mention(target->name, prerequisite->name)) return;
   struct target_run *run = &prerequisite->run;
   struct text *records = &header->records;
-  add_record(records, run->has_begun ? "do" : "unchanged", header->process, run->has_begun ? run->start_time : header->time);
+  const struct making *making = making_for(prerequisite, log_parent(target, target->run.parent));
+  if (!making) making = run->makings;
+  add_record(records, making ? "do" : "unchanged", header->process, making ? making->start_time : header->time);
   size_t name_start = records->size;
   add_name_in_log(records, prerequisite->name, target->name);
   size_t name_size = records->size - name_start;
   add_string(records, "\n");
-  if (!run->has_begun) return;
-  run->is_mentioned = 1;
-  add_string(&header->mentioned, "needed ");
-  add_number(&header->mentioned, prerequisite->number);
-  add_string(&header->mentioned, "\n");
-  if (run->status < 0) return;
-  add_record(records, "done", header->process, run->end_time);
-  add_status(records, run->status);
+  if (!making) return;
+  set_mentioned(header, prerequisite);
+  if (making->status < 0) return;
+  add_record(records, "done", header->process, making->end_time);
+  add_status(records, making->status);
   reserve_text(records, name_size + 1);
   add_text(records, records->bytes + name_start, name_size);
   add_string(records, "\n");
@@ -72,7 +105,7 @@ static void write_header(struct target *target, const char *directory, const cha
   append_header(target, header.records.bytes, header.records.size);
   write_journal("start", 3, (int64_t[]){target->number, process, header.records.size});
   add_to_journal(header.mentioned.bytes, header.mentioned.size);
-  mention_in_parent(target, process, target->run.start_time, -1);
+  mention_in_parent(target->run.makings->parent, target, process, target->run.start_time, -1);
   free(header.records.bytes);
   free(header.mentioned.bytes);
 }
@@ -81,10 +114,10 @@ void begin_target(struct target *target, struct make *make, struct target *paren
                   pid_t process) {
   int is_new = target->number == 0;
   if (is_new && add_to_index(target) < 0) return;
-  if (parent && parent->name[0] == '/' && target->name[0] != '/') parent = NULL;
   target->is_closed = 0;
   target->run = (struct target_run){.has_begun = 1, .parent = parent, .directory = make->directory, .first_make = make,
                                     .start_time = time, .status = -1};
+  add_making(target, log_parent(target, parent), make, time);
   begin_in_journal(target);
   begin_facts(target);
   begin_log(target, is_new);
@@ -100,49 +133,121 @@ static void begin_recipe_of(struct target *target, const struct make *make, uint
   run->last_make = make, run->last_recipe = recipe;
 }
 
-/* Whether a recipe of the target runs this make, directly or through others. */
-static int is_within(struct make *make, const struct target *target) {
-  struct target *parent = parent_target(make);
-  while (parent && parent != target) parent = parent->run.parent;
-  return parent != NULL;
+static void set_target_directory(struct target *target, const char *directory) {
+  if (strcmp(target->run.directory, directory) == 0) return;
+  target->run.directory = directory;
+  record_directory(target);
 }
 
 /* A recipe such as `sub/x: ; $(MAKE) -C sub x` only runs a sub-make, in whose directory the compiler then runs. */
-static void change_directory(struct target *target, const struct make *make) {
-  if (make == target->run.first_make || strcmp(target->run.directory, make->directory) == 0) return;
-  target->run.directory = make->directory;
-  record_directory(target);
+static void change_directory(struct line *line) {
+  struct target_run *run = &line->target->run;
+  line->directory_before = run->directory;
+  if (line->make != run->first_make) set_target_directory(line->target, line->make->directory);
+}
+
+/* A line that runs a sub-make and prints nothing may only have asked whether the target must be made. If the sub-make ran no line for the
+   target, the directory says nothing about the text of the log. */
+static void restore_directory(const struct line *line) {
+  const struct target_run *run = &line->target->run;
+  int is_own = line->directory_before && run->has_begun && line->make != run->first_make && run->directory == line->make->directory;
+  if (is_own && line->has_sub_make && !line->has_printed) set_target_directory(line->target, line->directory_before);
+}
+
+int64_t running_since(const struct target *target) {
+  const struct making *making = target->run.last_making;
+  int64_t time = making ? making->start_time : target->run.start_time;
+  for (const struct line *line = lines; line; line = line->next)
+    if (line->target == target && line->making && line->making->start_time < time) time = line->making->start_time;
+  return time;
+}
+
+/* Returns what the line belongs to. A line that a recipe of the same target runs belongs to what that recipe does. */
+static struct making *making_of(const struct line *line, const struct line *enclosing) {
+  struct target *target = line->target, *parent = log_parent(target, line->parent);
+  struct making *making = enclosing && enclosing->making ? enclosing->making : making_for(target, parent);
+  if (making) return making;
+  write_journal("made", 3, (int64_t[]){target->number, journal_number(parent), line->start_time});
+  mention_in_parent(parent, target, line->process, line->start_time, -1);
+  return add_making(target, parent, line->make, line->start_time);
+}
+
+/* If make goes on with the recipe, it ignores what failed before. */
+static void ignore_failures(const struct line *line) {
+  for (struct failure *failure = line->target->run.failures; failure; failure = failure->next)
+    failure->is_ignored |= failure->make == line->make && failure->recipe == line->recipe;
+}
+
+/* Fills in what a line has besides the values that it was announced with. */
+static void set_up_line(struct line *line) {
+  static unsigned last_number;
+  struct target *target = line->target;
+  struct target_run *run = &target->run;
+  const struct line *outer = parent_line(line->make), *enclosing = run->has_begun ? enclosing_line(line->make, target) : NULL;
+  line->number = run->last_line = ++last_number;
+  line->parent = outer && outer->target->run.has_begun ? outer->target : parent_target(line->make);
+  line->parent_line = outer ? outer->number : 0;
+  line->is_nested = enclosing != NULL;
+  line->making = run->last_making = run->has_begun ? making_of(line, enclosing) : NULL;
+  ignore_failures(line);
+  begin_recipe_of(target, line->make, line->recipe);
 }
 
 void begin_line(struct make *make, uint32_t recipe, struct target *target, struct command command, int64_t time, pid_t process,
                 struct pipe *pipe) {
   struct line *line = xrealloc(NULL, sizeof *line);
   struct target_run *run = &target->run;
-  *line = (struct line){make, recipe, process, target, pipe, command, time, run->has_begun && is_within(make, target), lines};
-  lines = line;
+  *line = (struct line){.make = make, .recipe = recipe, .process = process, .target = target, .pipe = pipe, .command = command,
+                        .start_time = time};
+  set_up_line(line);
+  line->next = lines, lines = line;
   target->running_lines++;
-  if (run->has_begun) change_directory(target, make);
-  begin_recipe_of(target, make, recipe);
-  run->line_count++, run->has_failed_child = 0;
-  if (run->has_begun && run->process != process && run->status >= 0) write_journal("line", 2, (int64_t[]){target->number, process});
+  if (run->has_begun) change_directory(line);
+  if (run->has_begun && (run->status >= 0 || line->making->status >= 0))
+    write_journal("line", 3, (int64_t[]){target->number, process, journal_number(line->making->parent)});
+  if (line->making) line->making->status = -1;
   run->process = process, run->status = -1;
   if (records_all_commands) record_command(target, &line->command);
   if (pipe) start_pipe(pipe, target);
 }
 
+void add_sub_make(const struct make *make) {
+  struct line *line = parent_line(make);
+  if (line) line->has_sub_make = 1;
+}
+
+static void add_failure(const struct line *line) {
+  struct target_run *run = &line->target->run;
+  struct failure *failure = xrealloc(NULL, sizeof *failure);
+  *failure = (struct failure){.make = line->make, .recipe = line->recipe, .line = line->number, .parent = line->parent,
+                              .parent_line = line->parent_line, .is_interrupted = run->is_interrupted, .next = run->failures};
+  run->failures = failure;
+  struct line *outer = parent_line(line->make);
+  if (outer && !run->is_interrupted) outer->has_failed_child = 1;
+}
+
+static void end_making(const struct line *line, int64_t time) {
+  struct target *target = line->target;
+  struct making *making = line->making;
+  if (line->make == making->make || making->end_time == 0) making->end_time = time;
+  making->status = target->run.status;
+  making->failed_after_mention |= making->is_mentioned && making->status > 0;
+  write_journal("did", 4, (int64_t[]){target->number, journal_number(making->parent), making->end_time, making->status});
+}
+
 /* If several makes run one target, only the first make changes its end, because other logs have its start by this make. */
-static void end_target_line(struct target *target, const struct make *make, pid_t process, int status, int64_t time) {
-  struct target_run *run = &target->run, *parent_run = run->parent ? &run->parent->run : NULL;
+static void end_target_line(const struct line *line, int status, int64_t time) {
+  struct target *target = line->target;
+  struct target_run *run = &target->run;
   int has_failed = status != 0;
   run->status = has_failed ? status : run->failed_status;
-  if (make == run->first_make || run->end_process == 0) run->end_process = process, run->end_time = time;
+  if (line->make == run->first_make || run->end_process == 0) run->end_process = line->process, run->end_time = time;
   if (!run->has_begun) return;
   write_journal("ended", 4, (int64_t[]){target->number, run->end_process, run->end_time, run->status});
+  if (line->making) end_making(line, time);
   if (!has_failed) return;
-  run->failed_line = run->line_count;
-  if (parent_run) run->failed_in_line = parent_run->line_count;
-  if (parent_run && !run->is_interrupted) parent_run->has_failed_child = 1;
-  mention_in_parent(target, process, time, status);
+  add_failure(line);
+  mention_in_parent(line->making ? line->making->parent : run_target, target, line->process, time, status);
 }
 
 static void add_usage(struct usage *sum, struct usage usage) {
@@ -178,13 +283,14 @@ void end_line(struct line *line, struct line_end end, int is_shown) {
   int status = shell_status(end.wait_status);
   was_stopped |= end.is_stopping;
   end_output(line, status != 0, is_shown);
+  restore_directory(line);
   if (!line->is_nested) add_usage(&target->run.usage, end.usage);
   record_usage(target);
   if (status != 0 && !records_all_commands) record_command(target, &line->command);
   target->run.is_interrupted = status != 0 && end.is_stopping;
-  end_target_line(target, line->make, line->process, status, end.time);
+  if (target->run.is_interrupted) target->run.last_making = line->making;
+  end_target_line(line, status, end.time);
   if (is_shown && !target->run.is_interrupted) show_output(line, status);
-  if (line->is_nested && status != 0 && !target->run.is_interrupted) target->run.has_failed_child = 1;
   target->running_lines--;
   detect_lost_log(target);
   if (target->running_lines == 0) close_log_soon(target);
@@ -193,10 +299,10 @@ void end_line(struct line *line, struct line_end end, int is_shown) {
 
 /* make itself prints the cause. */
 void fail_line(struct make *make, uint32_t recipe, struct target *target, pid_t process, int64_t time) {
+  struct line line = {.make = make, .recipe = recipe, .process = process, .target = target, .start_time = time};
   if (!target->run.has_begun) return;
-  begin_recipe_of(target, make, recipe);
+  set_up_line(&line);
   target->run.process = process, target->run.is_interrupted = 0;
-  target->run.line_count++, target->run.has_failed_child = 0;
-  end_target_line(target, make, process, 127, time);
+  end_target_line(&line, 127, time);
   close_log_soon(target);
 }

@@ -53,7 +53,7 @@ static char *format_running(const struct target_group *group) {
   FILE *stream = xopen_memstream(&list, &size);
   for (size_t i = 0; i < named_count(group); i++) {
     const struct target *target = group->targets[i];
-    int64_t end = stop_time ? stop_time : wall_clock_ms(), duration = end > target->run.start_time ? end - target->run.start_time : 0;
+    int64_t end = stop_time ? stop_time : wall_clock_ms(), start = running_since(target), duration = end > start ? end - start : 0;
     fprintf(stream, "%s%s (%lld.%d s)", i ? ", " : "", target->name, (long long)(duration / 1000), (int)(duration % 1000 / 100));
   }
   if (group->count > MAX_NAMED) fprintf(stream, " and %zu more", group->count - MAX_NAMED);
@@ -107,33 +107,60 @@ static void report_uncaptured(void) {
 
 static int has_failed(const struct target *target) { return target->run.status > 0 && !target->run.is_interrupted; }
 
-/* Whether the recipe that ran this target's make, or one above it, went on with its next line or did not fail. */
-static int is_ignored(const struct target *target) {
-  for (const struct target *parent; (parent = target->run.parent); target = parent) {
-    unsigned last_line = parent->run.status > 0 ? parent->run.failed_line : parent->run.line_count;
-    if (parent->run.status == 0 || (target->run.status >= 0 && target->run.failed_in_line != last_line)) return 1;
+static struct failure *failure_of(const struct target *target, unsigned line) {
+  struct failure *failure = target->run.failures;
+  while (failure && failure->line != line) failure = failure->next;
+  return failure;
+}
+
+/* Whether nobody ignored a failure: not the make, nor the recipe that ran it, nor one above. A recipe whose line still ran ignored none. */
+static int is_final(const struct failure *failure) {
+  while (failure && !failure->is_ignored) {
+    const struct target *parent = failure->parent;
+    if (!parent) return 1;
+    if (parent->run.status < 0 && parent->run.last_line == failure->parent_line) return 1;
+    failure = failure_of(parent, failure->parent_line);
   }
   return 0;
+}
+
+/* Whether a line of the target failed, nobody ignored that, and no line of a sub-make was the cause. */
+static int is_cause(const struct target *target) {
+  for (const struct failure *failure = target->run.failures; failure; failure = failure->next)
+    if (!failure->is_interrupted && !failure->has_cause && is_final(failure)) return 1;
+  return 0;
+}
+
+static int has_final_failure(const struct target *target) {
+  const struct failure *failure = target->run.failures;
+  while (failure && (failure->is_interrupted || !is_final(failure))) failure = failure->next;
+  return failure != NULL;
+}
+
+static void find_causes(const struct target *target) {
+  for (const struct failure *failure = target->run.failures; failure; failure = failure->next) {
+    struct failure *outer = failure->parent ? failure_of(failure->parent, failure->parent_line) : NULL;
+    if (outer && !failure->is_ignored && !failure->is_interrupted) outer->has_cause = 1;
+  }
 }
 
 struct groups {
   struct target_group failed, running, ignored, texts;
 };
 
-/* Finds the targets that failed, except those whose failure was ignored, and parents of a failed target in their last line; the
-   targets that ran when a signal stopped the build; and the targets that did not fail and printed something. */
+/* Finds the targets that failed, except those whose failure was ignored, and those in whose line a sub-make's failed; the targets that
+   ran when a signal stopped the build; and the targets that did not fail and printed something. */
 static void group_targets(struct groups *groups) {
   size_t count;
   struct target **sorted = sorted_targets(&count);
-  for (size_t i = 0; i < count; i++) sorted[i]->run.has_failed_child = 0;
-  for (size_t i = 0; i < count; i++)
-    if (sorted[i]->run.parent && has_failed(sorted[i]) && !is_ignored(sorted[i])) sorted[i]->run.parent->run.has_failed_child = 1;
+  for (size_t i = 0; i < count; i++) find_causes(sorted[i]);
   for (size_t i = 0; i < count; i++) {
     struct target *target = sorted[i];
-    if (target->run.is_interrupted || target->run.status < 0) add_to_group(&groups->running, target);
-    else if (has_failed(target) && is_ignored(target)) add_to_group(&groups->ignored, target);
-    else if (has_failed(target) && !target->run.has_failed_child) add_to_group(&groups->failed, target);
-    else if (!has_failed(target) && target->log.has_text) add_to_group(&groups->texts, target);
+    if (target->run.is_interrupted || target->run.status < 0 || target->running_lines > 0) add_to_group(&groups->running, target);
+    else if (is_cause(target)) add_to_group(&groups->failed, target);
+    else if (has_final_failure(target)) continue;
+    else if (has_failed(target)) add_to_group(&groups->ignored, target);
+    else if (target->log.has_text) add_to_group(&groups->texts, target);
   }
   free(sorted);
 }

@@ -74,6 +74,7 @@ int is_known_prefix(const char *name) {
   return is_known;
 }
 
+/* Lines that run may still refer to its makings, which stay in memory therefore. */
 static void clear_target(struct target *target) {
   forward_held_log(target);
   close_log(target);
@@ -88,7 +89,22 @@ void clear_targets(void) {
   for (size_t i = 0; i < target_count; i++) clear_target(targets[i]);
 }
 
-struct target *parent_of(const struct target *target) { return target->run.parent ? target->run.parent : run_target; }
+struct making *making_for(const struct target *target, const struct target *parent) {
+  struct making *making = target->run.makings;
+  while (making && making->parent != parent) making = making->next;
+  return making;
+}
+
+struct making *add_making(struct target *target, struct target *parent, const struct make *make, int64_t time) {
+  struct making *making = xrealloc(NULL, sizeof *making), **end = &target->run.makings;
+  *making = (struct making){.parent = parent, .make = make, .start_time = time, .status = -1};
+  while (*end) end = &(*end)->next;
+  return *end = making;
+}
+
+struct target *log_parent(const struct target *target, struct target *parent) {
+  return parent && can_mention(parent->name, target->name) ? parent : run_target;
+}
 
 static int compare_names(const void *left, const void *right) {
   return strcmp((*(struct target *const *)left)->name, (*(struct target *const *)right)->name);

@@ -292,6 +292,17 @@ def of_two_makes(checks, at):
         heads = re.findall(r"^redo-log-capture: sub/x .*", printed, re.M)
         checks.expect(f"facts: makes {name}: printed once", heads, ["redo-log-capture: sub/x (exit 3)" + (f", in {wanted}" if wanted else "")])
 
+    # The make in `later` only asks whether there is something to do.
+    folder = project(at("makes later"), "all: ; @$(MAKE) -s -C sub x && $(MAKE) -s -C later\n")
+    write(os.path.join(folder, "sub/Makefile"), "x: ; @echo x.c:1: warning >&2; touch x\n")
+    write(os.path.join(folder, "later/Makefile"), "../sub/x: FORCE ; @$(MAKE) -s -C ../sub x\nFORCE:\n")
+    checks.expect("facts: makes later: status", captured(folder, "-s")[0], 0)
+    checks.expect("facts: makes later: directory", all_facts(folder)[b"sub/x"]["directory"], b"sub")
+    # Here it compiles, too, after it has run another make.
+    write(os.path.join(folder, "later/Makefile"), "../sub/x: FORCE ; @$(MAKE) -s -C ../sub x && echo y.c:1: warning >&2\nFORCE:\n")
+    checks.expect("facts: makes and compiles: status", captured(folder, "-s")[0], 0)
+    checks.expect("facts: makes and compiles: directory", all_facts(folder)[b"sub/x"]["directory"], b"later")
+
 
 TEXTS = (b"exit %d", b"true; exit %d", b": \xff\x01'\t'; exit %d", b": x; \\\n  exit %d", b"  : ' y'; exit %d", b": 7 log a; exit %d")
 

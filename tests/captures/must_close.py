@@ -80,7 +80,7 @@ def marks(checks, at):
     for command, status in (("exit 7", 7), ("kill -9 $$", 137), ("exit 0", 0)):
         found = ran(folder, [TOOL, *MARKING, "sh", "-c", f"make -s; {command}"])[0]
         checks.expect(f"a status, {command}: make", found, status if status < 128 else 128 - status)
-        closed = re.fullmatch(r"@@REDO:do:[\d:.]+@@ x\n@@REDO:done:[\d:.]+@@ 0 x\n@@REDO:done:[\d:.]+@@ (\d+) all\n", log_of(folder, "all"))
+        closed = re.fullmatch(r"@@REDO:do:[\d:.]+@@ all\n@@REDO:do:[\d:.]+@@ x\n@@REDO:done:[\d:.]+@@ 0 x\n@@REDO:done:[\d:.]+@@ (\d+) all\n", log_of(folder, "all"))
         checks.expect(f"a status, {command}", (closed and closed[1], names_of(folder), shown(folder, "all")), (str(status), "!1 all\n!2 x\n", "redo  all\nredo    x\nx\n"))
 
     folder = project(at("own"), "all: x ; @echo all >&2; exit $(A)\nx: ; @echo x >&2\n")
@@ -90,7 +90,7 @@ def marks(checks, at):
         checks.expect(f"a recipe `all`, {status}", (names_of(folder), log), ("!1 all\n!2 x\n", f"@@REDO:do:@@ all\n@@REDO:do:@@ x\n@@REDO:done:@@ 0 x\nall\n@@REDO:done:@@ {status} all\n"))
     checks.expect("a run of another target: make", make(folder, "x", options=MARKING)[0], 0)
     log = re.sub(r"\d+:\d+\.\d+@@", "@@", log_of(folder, "all"))
-    checks.expect("a run of another target", (names_of(folder), log), ("!1 all\n!2 x\n", "@@REDO:do:@@ x\n@@REDO:done:@@ 0 x\n@@REDO:done:@@ 0 all\n"))
+    checks.expect("a run of another target", (names_of(folder), log), ("!1 all\n!2 x\n", "@@REDO:do:@@ all\n@@REDO:do:@@ x\n@@REDO:done:@@ 0 x\n@@REDO:done:@@ 0 all\n"))
 
     folder = project(at("below"), "top: lib ; @echo top >&2\n.PHONY: lib\nlib: ; @$(MAKE) -s -C lib a; echo lib >&2\n")
     write(os.path.join(folder, "lib/Makefile"), "a: ; @echo a >&2; exit 3\n")

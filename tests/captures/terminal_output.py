@@ -179,7 +179,7 @@ def ignored_failures(checks, at):
     write(os.path.join(folder, "x.mk"), "x: ; @test -z \"$(X)\"\n")
     checks.expect("a target that fails in a sub-make", last_lines(3, make(folder, "-s")[2]), failed("x", is_empty=True))
     write(os.path.join(folder, "Makefile"), "all: s1 s2\ns1: ; @$(MAKE) -s -f x.mk x X=1\ns2: ; @$(MAKE) -s -f x.mk x\n")
-    checks.expect("and is made by another one", last_lines(2, make(folder, "-ks")[2]), failed("s1"))
+    checks.expect("and is made by another one", last_lines(3, make(folder, "-ks")[2]), failed("x", is_empty=True))
     folder = project(at("colons"), "all: x\nx:: ; @echo one >&2; false\nx:: ; @echo two >&2\n")
     checks.expect("double-colon rules", last_lines(2, make(folder, "-k")[2]), failed("x"))
     checks.expect("double-colon rules of a build that succeeds", ran(folder, [TOOL, "make", "-is"]), (0, "", said("x", 1, "echo one >&2; false", "one\n")))
