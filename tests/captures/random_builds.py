@@ -427,7 +427,7 @@ class Build:
         else:
             text = f"{words}; status=$?\n"
         # A recipe that leaves a process behind may not have run, after a failure.
-        text += "".join(f"[ ! -e begun{n} ] || until [ -e late{n} ]; do sleep 0.01; done\n" for n in range(1, self.late + 1))
+        text += "".join(f"[ ! -e begun{n} ] || until [ -s late{n} ]; do sleep 0.01; done\n" for n in range(1, self.late + 1))
         self.files["build.sh"] = text + "exit $status\n"
         return ["sh", "build.sh"]
 
