@@ -141,17 +141,21 @@ struct making {
   int status;                 /* as target_run has it */
   struct making *next;
 };
-/* That a line of a target failed, and during which line of another recipe. */
+/* The line of a recipe that runs a make. */
+struct caller {
+  struct target *target; /* the target of the recipe; may be NULL */
+  unsigned line;         /* the number of the line; 0 if it is not known */
+};
+/* That a line of a target failed. */
 struct failure {
   const struct make *make;
-  uint32_t recipe;       /* the number of the line's recipe in that make */
-  unsigned line;         /* the number of the line */
-  struct target *parent; /* the target whose recipe runs the make; may be NULL */
-  unsigned parent_line;  /* the number of its line */
-  int is_ignored;        /* the make went on with the next line of the recipe */
-  int is_interrupted;    /* it failed after a signal had stopped the build */
-  int has_cause;         /* set by report.c: a line that a sub-make ran meanwhile failed */
-  struct failure *next;  /* the target's failure before this one */
+  uint32_t recipe; /* the number of the line's recipe in that make */
+  unsigned line;   /* the number of the line */
+  struct caller caller; /* of the make */
+  int is_ignored;       /* the make went on with the next line of the recipe */
+  int is_interrupted;   /* it failed after a signal had stopped the build */
+  int has_cause;        /* set by report.c: a line that a sub-make ran meanwhile failed */
+  struct failure *next; /* the target's failure before this one */
 };
 /* What has happened to a target in this run. Reset when its first recipe begins. */
 struct target_run {
@@ -224,6 +228,8 @@ void clear_targets(void);
 struct making *making_for(const struct target *target, const struct target *parent);
 /* Adds a making at the end, which begins at this time. */
 struct making *add_making(struct target *target, struct target *parent, const struct make *make, int64_t time);
+/* A line of the making has ended. */
+void end_making(struct making *making, int64_t time, int status);
 /* Returns the target in whose log the sub-makes of a recipe of `parent`, which may be NULL, are recorded as makers of the target: `all`
    if that log can't mention the target. */
 struct target *log_parent(const struct target *target, struct target *parent);
@@ -415,8 +421,7 @@ struct line {
   int64_t start_time;
   unsigned number;       /* among all lines, in the order in which they began */
   struct making *making; /* NULL if the log of its target hasn't begun */
-  struct target *parent; /* the target whose recipe runs the make, which may be the same one; may be NULL */
-  unsigned parent_line;  /* the number of its line */
+  struct caller caller;  /* of the make; its target may be the same one */
   int is_nested;         /* a recipe of the same target runs its make, and the usage of that recipe has that of this line */
   int has_failed_child;  /* a line failed that a sub-make of this line ran */
   int has_sub_make;      /* it runs a make */

@@ -141,11 +141,6 @@ static struct making *journal_making(struct target *target, unsigned parent, int
   return making ? making : add_making(target, found, NULL, time);
 }
 
-static void end_making(struct making *making, int64_t time, int status) {
-  making->end_time = time, making->status = status;
-  making->failed_after_mention |= making->is_mentioned && status > 0;
-}
-
 static void parse_event(const char *line) {
   unsigned number, parent;
   int process, status;

@@ -46,7 +46,7 @@ static void print_counts(void) {
   char last_run[48] = "";
   for (size_t i = 0; i < target_count; i++) targets[i]->run.has_running_child = 0;
   for (const struct line *line = lines; line; line = line->next)
-    if (line->parent && line->parent != line->target) line->parent->run.has_running_child = 1;
+    if (line->caller.target && line->caller.target != line->target) line->caller.target->run.has_running_child = 1;
   for (size_t i = 0; i < target_count; i++) {
     const struct target_run *run = &targets[i]->run;
     made += run->has_begun && run->status == 0, failed += run->has_begun && run->status > 0;

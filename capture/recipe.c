@@ -164,7 +164,7 @@ int64_t running_since(const struct target *target) {
 
 /* Returns what the line belongs to. A line that a recipe of the same target runs belongs to what that recipe does. */
 static struct making *making_of(const struct line *line, const struct line *enclosing) {
-  struct target *target = line->target, *parent = log_parent(target, line->parent);
+  struct target *target = line->target, *parent = log_parent(target, line->caller.target);
   struct making *making = enclosing && enclosing->making ? enclosing->making : making_for(target, parent);
   if (making) return making;
   write_journal("made", 3, (int64_t[]){target->number, journal_number(parent), line->start_time});
@@ -185,8 +185,8 @@ static void set_up_line(struct line *line) {
   struct target_run *run = &target->run;
   const struct line *outer = parent_line(line->make), *enclosing = run->has_begun ? enclosing_line(line->make, target) : NULL;
   line->number = run->last_line = ++last_number;
-  line->parent = outer && outer->target->run.has_begun ? outer->target : parent_target(line->make);
-  line->parent_line = outer ? outer->number : 0;
+  line->caller.target = outer && outer->target->run.has_begun ? outer->target : parent_target(line->make);
+  line->caller.line = outer ? outer->number : 0;
   line->is_nested = enclosing != NULL;
   line->making = run->last_making = run->has_begun ? making_of(line, enclosing) : NULL;
   ignore_failures(line);
@@ -219,19 +219,19 @@ void add_sub_make(const struct make *make) {
 static void add_failure(const struct line *line) {
   struct target_run *run = &line->target->run;
   struct failure *failure = xrealloc(NULL, sizeof *failure);
-  *failure = (struct failure){.make = line->make, .recipe = line->recipe, .line = line->number, .parent = line->parent,
-                              .parent_line = line->parent_line, .is_interrupted = run->is_interrupted, .next = run->failures};
+  *failure = (struct failure){.make = line->make, .recipe = line->recipe, .line = line->number, .caller = line->caller,
+                              .is_interrupted = run->is_interrupted, .next = run->failures};
   run->failures = failure;
   struct line *outer = parent_line(line->make);
   if (outer && !run->is_interrupted) outer->has_failed_child = 1;
 }
 
-static void end_making(const struct line *line, int64_t time) {
-  struct target *target = line->target;
+/* Only lines of the make that began the making change its end. */
+static void end_line_of_making(const struct line *line, int64_t time) {
+  const struct target *target = line->target;
   struct making *making = line->making;
-  if (line->make == making->make || making->end_time == 0) making->end_time = time;
-  making->status = target->run.status;
-  making->failed_after_mention |= making->is_mentioned && making->status > 0;
+  int is_end = line->make == making->make || making->end_time == 0;
+  end_making(making, is_end ? time : making->end_time, target->run.status);
   write_journal("did", 4, (int64_t[]){target->number, journal_number(making->parent), making->end_time, making->status});
 }
 
@@ -244,7 +244,7 @@ static void end_target_line(const struct line *line, int status, int64_t time) {
   if (line->make == run->first_make || run->end_process == 0) run->end_process = line->process, run->end_time = time;
   if (!run->has_begun) return;
   write_journal("ended", 4, (int64_t[]){target->number, run->end_process, run->end_time, run->status});
-  if (line->making) end_making(line, time);
+  if (line->making) end_line_of_making(line, time);
   if (!has_failed) return;
   add_failure(line);
   mention_in_parent(line->making ? line->making->parent : run_target, target, line->process, time, status);

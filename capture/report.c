@@ -116,10 +116,10 @@ static struct failure *failure_of(const struct target *target, unsigned line) {
 /* Whether nobody ignored a failure: not the make, nor the recipe that ran it, nor one above. A recipe whose line still ran ignored none. */
 static int is_final(const struct failure *failure) {
   while (failure && !failure->is_ignored) {
-    const struct target *parent = failure->parent;
-    if (!parent) return 1;
-    if (parent->run.status < 0 && parent->run.last_line == failure->parent_line) return 1;
-    failure = failure_of(parent, failure->parent_line);
+    struct caller caller = failure->caller;
+    if (!caller.target) return 1;
+    if (caller.target->run.status < 0 && caller.target->run.last_line == caller.line) return 1;
+    failure = failure_of(caller.target, caller.line);
   }
   return 0;
 }
@@ -139,7 +139,7 @@ static int has_final_failure(const struct target *target) {
 
 static void find_causes(const struct target *target) {
   for (const struct failure *failure = target->run.failures; failure; failure = failure->next) {
-    struct failure *outer = failure->parent ? failure_of(failure->parent, failure->parent_line) : NULL;
+    struct failure *outer = failure->caller.target ? failure_of(failure->caller.target, failure->caller.line) : NULL;
     if (outer && !failure->is_ignored && !failure->is_interrupted) outer->has_cause = 1;
   }
 }

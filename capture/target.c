@@ -102,6 +102,11 @@ struct making *add_making(struct target *target, struct target *parent, const st
   return *end = making;
 }
 
+void end_making(struct making *making, int64_t time, int status) {
+  making->end_time = time, making->status = status;
+  making->failed_after_mention |= making->is_mentioned && status > 0;
+}
+
 struct target *log_parent(const struct target *target, struct target *parent) {
   return parent && can_mention(parent->name, target->name) ? parent : run_target;
 }
