@@ -1,10 +1,13 @@
 /* The run journal, `.capture/run`. Once the run is finished, it is one line, `ended PROCESS TARGETS`, with the number of targets that
-   began. Before, its first line is `running PROCESS`, and it has a line for each event:
-     target NUMBER TIME PARENT NAME                a target began; PARENT is the number of its parent, or 0
+   began. Before, its first line is `running PROCESS`, and it has a line for each event. PARENT is the number of the target whose recipe
+   runs the make, or 0. Below the first kind, it is also 0 if that is `all`, or if its log can't mention the target:
+     target NUMBER TIME PARENT NAME                a target began
      start NUMBER PROCESS HEAD                     its first line started; the first HEAD bytes of its log are records
-     needed NUMBER                                 a log mentions it as a prerequisite
-     line NUMBER PROCESS                           a line began, after its first
+     needed NUMBER PARENT                          a log mentions it as a prerequisite, as PARENT had it made
+     made NUMBER PARENT TIME                       another recipe, the one of PARENT, began to have it made
+     line NUMBER PROCESS PARENT                    a line began, after its first
      ended NUMBER PROCESS TIME STATUS              a line ended; the target's end so far has this PROCESS and TIME
+     did NUMBER PARENT TIME STATUS                 the same, for what PARENT had made
      mention NUMBER START END                      these bytes of its log are a provisional record
    `.capture/closed` has a line for each closed log: its number and its name.
 
