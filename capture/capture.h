@@ -149,13 +149,14 @@ struct caller {
 /* That a line of a target failed. */
 struct failure {
   const struct make *make;
-  uint32_t recipe; /* the number of the line's recipe in that make */
-  unsigned line;   /* the number of the line */
+  uint32_t recipe;      /* the number of the line's recipe in that make */
+  unsigned line;        /* the number of the line */
   struct caller caller; /* of the make */
-  int is_ignored;       /* the make went on with the next line of the recipe */
+  int is_ignored;       /* the make went on, with the next line of the recipe or after the recipe */
   int is_interrupted;   /* it failed after a signal had stopped the build */
   int has_cause;        /* set by report.c: a line that a sub-make ran meanwhile failed */
   struct failure *next; /* the target's failure before this one */
+  struct failure *next_in_make;
 };
 /* What has happened to a target in this run. Reset when its first recipe begins. */
 struct target_run {
@@ -423,7 +424,7 @@ struct line {
   struct making *making; /* NULL if the log of its target hasn't begun */
   struct caller caller;  /* of the make; its target may be the same one */
   int is_nested;         /* a recipe of the same target runs its make, and the usage of that recipe has that of this line */
-  int has_failed_child;  /* a line failed that a sub-make of this line ran */
+  int failed_children;   /* how many lines of its sub-makes failed, without those whose make is known to ignore that */
   int has_sub_make;      /* it runs a make */
   int has_printed;       /* text has arrived in its pipe */
   const char *directory_before; /* run.directory before the line; NULL if the log of its target hadn't begun */
@@ -445,6 +446,8 @@ struct line_end {
 /* Returns the line, or NULL if the process is no line. */
 struct line *find_line(const struct make *make, pid_t process);
 void end_line(struct line *line, struct line_end end, int is_shown);
+/* Records that a make ignores all failures of its lines so far. */
+void ignore_failures(struct make *make);
 /* Records that a line runs this make. */
 void add_sub_make(const struct make *make);
 /* Ends a line that make couldn't start. */

@@ -146,7 +146,7 @@ static void add_target_line(const struct target *target, const char *directory, 
 /* A recipe that failed only because a sub-make did has no head, because the sub-make's line in the output states the failure. */
 static void add_head(const struct line *line, int status, const struct content *content) {
   struct target *target = line->target;
-  if (status != 0 && line->has_failed_child && content->has_text && !content->has_other) return;
+  if (status != 0 && line->failed_children > 0 && content->has_text && !content->has_other) return;
   if (status != 0 || target != last_shown) add_target_line(target, make_directory(line->make), status);
   if (status != 0) add_command(&line->command);
 }

@@ -34,6 +34,7 @@ struct make {
      start the last line; otherwise 0. */
   uint32_t ended_recipe, failed_recipe;
   struct announcement announced;
+  struct failure *failures; /* of its lines, since it last went on */
 };
 
 /* The target of a line that isn't captured although its pipe was accepted. Its output goes to standard error. */

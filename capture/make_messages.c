@@ -195,6 +195,12 @@ static int handle_ended(struct make *make, const char *message, size_t size) {
   return ended.wants_reply ? reply(make, CAPTURED) : 0;
 }
 
+static int handle_went_on(struct make *make, size_t size) {
+  if (size < sizeof(struct went_on)) return -1;
+  ignore_failures(make);
+  return 0;
+}
+
 static int handle_note(struct make *make, const char *note, size_t size, int *descriptor, int is_lost) {
   uint32_t kind;
   if (size < sizeof kind) return -1;
@@ -206,6 +212,7 @@ static int handle_note(struct make *make, const char *note, size_t size, int *de
     case STARTED: return handle_started(make, note, size);
     case FAILED: return handle_failed(make, note, size);
     case ENDED: return handle_ended(make, note, size);
+    case WENT_ON: return handle_went_on(make, size);
     default: return -1;
   }
 }

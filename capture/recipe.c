@@ -172,10 +172,27 @@ static struct making *making_of(const struct line *line, const struct line *encl
   return add_making(target, parent, line->make, line->start_time);
 }
 
+/* Returns the line with this number, or NULL if it has ended. */
+static struct line *running_line(unsigned number) {
+  struct line *line = lines;
+  while (line && line->number != number) line = line->next;
+  return line;
+}
+
+static void ignore_failure(struct failure *failure) {
+  struct line *outer = failure->is_ignored || failure->is_interrupted ? NULL : running_line(failure->caller.line);
+  if (outer) outer->failed_children--;
+  failure->is_ignored = 1;
+}
+
 /* If make goes on with the recipe, it ignores what failed before. */
-static void ignore_failures(const struct line *line) {
+static void ignore_earlier_lines(const struct line *line) {
   for (struct failure *failure = line->target->run.failures; failure; failure = failure->next)
-    failure->is_ignored |= failure->make == line->make && failure->recipe == line->recipe;
+    if (failure->make == line->make && failure->recipe == line->recipe) ignore_failure(failure);
+}
+
+void ignore_failures(struct make *make) {
+  for (; make->failures; make->failures = make->failures->next_in_make) ignore_failure(make->failures);
 }
 
 /* Fills in what a line has besides the values that it was announced with. */
@@ -189,7 +206,7 @@ static void set_up_line(struct line *line) {
   line->caller.line = outer ? outer->number : 0;
   line->is_nested = enclosing != NULL;
   line->making = run->last_making = run->has_begun ? making_of(line, enclosing) : NULL;
-  ignore_failures(line);
+  ignore_earlier_lines(line);
   begin_recipe_of(target, line->make, line->recipe);
 }
 
@@ -220,10 +237,10 @@ static void add_failure(const struct line *line) {
   struct target_run *run = &line->target->run;
   struct failure *failure = xrealloc(NULL, sizeof *failure);
   *failure = (struct failure){.make = line->make, .recipe = line->recipe, .line = line->number, .caller = line->caller,
-                              .is_interrupted = run->is_interrupted, .next = run->failures};
-  run->failures = failure;
-  struct line *outer = parent_line(line->make);
-  if (outer && !run->is_interrupted) outer->has_failed_child = 1;
+                              .is_interrupted = run->is_interrupted, .next = run->failures, .next_in_make = line->make->failures};
+  run->failures = line->make->failures = failure;
+  struct line *outer = run->is_interrupted ? NULL : running_line(line->caller.line);
+  if (outer) outer->failed_children++;
 }
 
 /* Only lines of the make that began the making change its end. */

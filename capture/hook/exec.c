@@ -26,8 +26,9 @@ static int is_shell_function(void) {
 int hooked_execvp(const char *file, char *const *command) {
   execvp_function *original = (execvp_function *)imports[EXECVP].original;
   char ***environment = find_function("environ");
-  int is_child = environment && current_pid() != make_pid;
+  int is_own = current_pid() == make_pid, is_child = environment && !is_own;
   long recipe = is_child ? recipe_number_of(*environment) : -1;
+  if (is_own) report_going_on(); /* make executes itself again because it has remade a makefile */
   if (recipe > 0 && is_shell_function()) recipe = 0;
   if (!is_child || (recipe < 0 && (!is_connected() || has_variable(*environment, RUN_VARIABLE "=")))) return original(file, command);
   int pipe = recipe > 0 && is_connected() ? announce_line(recipe, command) : -1;

@@ -84,14 +84,25 @@ int has_variable(char *const *environment, const char *prefix);
    is -1, it is the environment of another child. Returns NULL if memory can't be allocated. */
 char **build_environment(char *const *environment, long recipe, int pipe);
 
-/* spawn.c, exec.c, wait.c: what make calls instead of the C library */
+/* failure.c: failures that make ignores */
+
+/* A child has failed, or could not be started. */
+void note_failure(void);
+/* make begins a recipe. */
+void note_recipe(void);
+/* Tells the server that make ignores all failures so far, unless there is none since the last call. */
+void report_going_on(void);
+/* make's own variable: whether it goes on with other recipes after one has failed (-k). NULL if make doesn't export it. */
+extern volatile int *keep_going_flag;
+
+/* spawn.c, exec.c, wait.c, failure.c: what make calls instead of the C library */
 struct import {
   const char *name;
   void *replacement, *original;
 };
 extern struct import imports[];
 enum import_number {
-  POSIX_SPAWN, ACTIONS_INIT, ACTIONS_ADDDUP2, ACTIONS_DESTROY, VFORK, EXECVP, WAIT, WAITPID, WAIT3, WAIT4, IMPORT_COUNT
+  POSIX_SPAWN, ACTIONS_INIT, ACTIONS_ADDDUP2, ACTIONS_DESTROY, VFORK, EXECVP, WAIT, WAITPID, WAIT3, WAIT4, EXIT, IMPORT_COUNT
 };
 int hooked_spawn();
 int hooked_actions_init();
@@ -102,6 +113,7 @@ pid_t hooked_wait(int *wait_status);
 pid_t hooked_waitpid(pid_t process, int *wait_status, int options);
 pid_t hooked_wait3(int *wait_status, int options, void *usage);
 pid_t hooked_wait4(pid_t process, int *wait_status, int options, void *usage);
+void hooked_exit(int status);
 /* make's own variable: whether it has got a signal that ends it. NULL if make doesn't export it. */
 extern volatile int *handling_fatal_signal;
 /* The process that loaded the hook. A child of vfork has another number. */

@@ -27,6 +27,7 @@ struct import imports[IMPORT_COUNT] = {
     [WAITPID] = {"waitpid", hooked_waitpid, NULL},
     [WAIT3] = {"wait3", hooked_wait3, NULL},
     [WAIT4] = {"wait4", hooked_wait4, NULL},
+    [EXIT] = {"exit", hooked_exit, NULL},
 };
 
 /* The parts of the program's dynamic section that are needed. */
@@ -114,6 +115,7 @@ static int visit_slots(int is_replaced) {
 int find_imports(void) {
   for (int i = 0; i < IMPORT_COUNT; i++) imports[i].original = find_function(imports[i].name);
   handling_fatal_signal = find_function("handling_fatal_signal");
+  keep_going_flag = find_function("keep_going_flag");
   return imports[WAIT4].original ? visit_slots(0) : -1;
 }
 

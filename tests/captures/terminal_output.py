@@ -185,6 +185,57 @@ def ignored_failures(checks, at):
     checks.expect("double-colon rules of a build that succeeds", ran(folder, [TOOL, "make", "-is"]), (0, "", said("x", 1, "echo one >&2; false", "one\n")))
 
 
+# Makefiles with a failure that ends no recipe early, because the line is the last one, and the targets that failed. `clean` and `gen.mk`
+# fail, but their make goes on.
+BELOW = "rebuild: ; @$(MAKE) -s%s && { echo bad.c >&2; exit 3; }\n"
+INCLUDED = "gen.mk: ; @echo gen.mk >&2; false\n"
+GOING_ON = {
+    "-, in a sub-make that succeeds": (BELOW % " clean" + "clean: ; -@false\n", ["rebuild"]),
+    "-, and a message about it": ((BELOW % " clean").replace(" -s", "") + "clean: ; -false\n", ["rebuild"]),
+    ".IGNORE": (BELOW % " clean" + ".IGNORE: clean\nclean: ; @false\n", ["rebuild"]),
+    "make -i": (BELOW % "i clean" + "clean: ; @false\n", ["rebuild"]),
+    "a signal": (BELOW % " clean" + "clean: ; -@kill -9 $$$$\n", ["rebuild"]),
+    "a command that isn't there": (BELOW % " clean" + "clean: ; -@./nosuch\n", ["rebuild"]),
+    "two levels": (BELOW % " mid" + "mid: ; @$(MAKE) -s clean\nclean: ; -@false\n", ["rebuild"]),
+    "-include": (BELOW % " CLEAN=1 mid" + "mid: ;\nifdef CLEAN\n-include gen.mk\nendif\n" + INCLUDED, ["rebuild"]),
+    "another recipe": ("all: clean x\nclean: ; -@false\nx: clean ; @exit 3\n", ["x"]),
+    "another recipe of a sub-make": ("all: ; @$(MAKE) -s x\nclean: ; -@false\nx: clean ; @exit 3\n", ["x"]),
+    "another recipe, after -include": ("-include gen.mk\nall: ; @exit 3\n" + INCLUDED, ["all"]),
+    "a makefile that is remade": ("include a.mk\n-include gen.mk\nall: ; @exit 3\na.mk: ; @touch a.mk\n" + INCLUDED, ["all"]),
+    "a makefile that is remade, and -k": ("MAKEFLAGS += -k\ninclude a.mk\n-include gen.mk\nall: ; @$(MAKE) -s x\nx: ; @exit 3\na.mk: ; @touch a.mk\n" + INCLUDED, ["gen.mk", "x"]),
+    "-k": ("MAKEFLAGS += -k\nall: clean x\nclean: ; -@false\nx: ; @exit 3\n", ["clean", "x"]),
+    "-k, and nothing is ignored": ("MAKEFLAGS += -k\nall: clean x\nclean: ; @false\nx: ; @exit 3\n", ["clean", "x"]),
+    "-k for a sub-make that succeeds": (BELOW % "k clean" + "clean: ; -@false\n", ["rebuild"]),
+    "a sub-make that fails": ("all: ; @$(MAKE) -s clean || { echo all >&2; exit 3; }\nclean: ; @false\n", ["clean"]),
+    "a line that can't be started after it": ("all: ; @$(MAKE) -s clean && exec ./nosuch 2>/dev/null\nclean: ; -@false\n", ["all"]),
+}
+
+
+def ignored_last_lines(checks, at):
+    """A target isn't named if its make ignored that the last line of its recipe failed, and that is known: the make went on."""
+    for name, (makefile, names) in GOING_ON.items():
+        told = ran(project(at(name), makefile), [TOOL, "make", "-s"])[2]
+        found = re.search(r"^redo-log-capture: \d+ targets? failed: redo-log (.*)$", told, re.M)
+        checks.expect(f"a failure that ends no recipe early, {name}", found and found[1].split(), names)
+    script = "make -s clean; make -s x"
+    told = ran(project(at("script"), "clean: ; -@false\nx: ; @exit 3\n"), [TOOL, "sh", "-c", script])[2]
+    checks.expect("a make that succeeded, and another one", last_lines(3, told), failed("x", is_empty=True))
+
+    # `b` begins its second line when make knows that `a` has failed, and fails then. make ends each recipe that has begun.
+    wait = "until [ -e begun ]; do sleep 0.01; done"
+    ended = f"until grep -q '@@ 3 a$' {CAPTURES}/log.1; do sleep 0.01; done"
+    makefile = f"all: a b c\na: ; @{wait}; exit 3\nb:\n\t@touch begun; {ended.replace('$', '$$')}\n\t@exit $(B)\nc: ; @echo c >&2\n"
+    for status, names in (("0", ["a"]), ("4", ["a", "b"])):
+        told = make(project(at(f"begun{status}"), makefile), "-sj2", f"B={status}")[2]
+        checks.expect(f"a line of a recipe that had begun, {status}", last_lines(3, told), failed(*names, is_empty=True))
+
+    folder = project(at("head"), "all: lib\nlib: ; @$(MAKE) -s clean; $(MAKE) -s norule\nclean: ; -@false\n.PHONY: lib\n")
+    text = said("lib", 2, "make -s clean; make -s norule", "make[1]: *** No rule to make target 'norule'.  Stop.\n")
+    told = make(folder, "-s")[2]
+    checks.expect("the block of a recipe whose second sub-make has no rule", text in told, True)
+    checks.expect("a recipe whose second sub-make has no rule", last_lines(2, told), failed("lib"))
+
+
 # A line of a recipe, and the command as redo-log-capture shows it: at most three lines and 240 bytes of it.
 COMMANDS = {
     "a shell": ("@echo 'a  b' >&2; false", "echo 'a  b' >&2; false"),
@@ -418,7 +469,7 @@ def refused_directories(checks, at):
 
 
 PARTS = (
-    what_failed, below, heads_of_parents, ignored_failures, failed_commands, live, last_words, printed_something, interrupted, progress, summaries, uncaptured,
+    what_failed, below, heads_of_parents, ignored_failures, ignored_last_lines, failed_commands, live, last_words, printed_something, interrupted, progress, summaries, uncaptured,
     refused_directories, directories,
 )  # fmt: skip
 # The parts that sanitizers can't run.
