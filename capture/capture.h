@@ -151,8 +151,10 @@ struct failure {
   const struct make *make;
   uint32_t recipe;      /* the number of the line's recipe in that make */
   unsigned line;        /* the number of the line */
+  int status;           /* as a shell reports it */
   struct caller caller; /* of the make */
-  int is_ignored;       /* the make went on, with the next line of the recipe or after the recipe */
+  int is_followed;      /* the make went on with the next line of the recipe, so the recipe did not fail */
+  int is_ignored;       /* the make went on, with the next line or after the recipe */
   int is_interrupted;   /* it failed after a signal had stopped the build */
   int has_cause;        /* set by report.c: a line that a sub-make ran meanwhile failed */
   struct failure *next; /* the target's failure before this one */
@@ -174,11 +176,8 @@ struct target_run {
   pid_t end_process; /* of the line of the first make that was the last to end so far; 0 before */
 
   /* The last line. */
-  const struct make *last_make; /* the make that ran it */
-  uint32_t last_recipe;         /* the number of its recipe in that make */
   pid_t process;
-  int status;         /* as a shell reports it; -1 while a line runs */
-  int failed_status;  /* of an earlier recipe of the same double-colon rules that failed; otherwise 0 */
+  int status;         /* as a shell reports it; if it is 0, of an earlier double-colon rule that failed in its make; -1 while it runs */
   int is_interrupted; /* it failed after a signal had stopped the build */
 
   unsigned last_line;    /* the number of the last line that began */

@@ -124,15 +124,6 @@ void begin_target(struct target *target, struct make *make, struct target *paren
   write_header(target, make->directory, prerequisites, process);
 }
 
-/* A double-colon rule that failed still has failed if the make then runs the recipe of the next one. If another make runs a recipe of
-   the target, the last one counts. */
-static void begin_recipe_of(struct target *target, const struct make *make, uint32_t recipe) {
-  struct target_run *run = &target->run;
-  if (run->last_make == make && run->last_recipe == recipe) return;
-  run->failed_status = run->last_make == make && run->status > 0 ? run->status : 0;
-  run->last_make = make, run->last_recipe = recipe;
-}
-
 static void set_target_directory(struct target *target, const char *directory) {
   if (strcmp(target->run.directory, directory) == 0) return;
   target->run.directory = directory;
@@ -187,8 +178,11 @@ static void ignore_failure(struct failure *failure) {
 
 /* If make goes on with the recipe, it ignores what failed before. */
 static void ignore_earlier_lines(const struct line *line) {
-  for (struct failure *failure = line->target->run.failures; failure; failure = failure->next)
-    if (failure->make == line->make && failure->recipe == line->recipe) ignore_failure(failure);
+  for (struct failure *failure = line->target->run.failures; failure; failure = failure->next) {
+    if (failure->make != line->make || failure->recipe != line->recipe) continue;
+    ignore_failure(failure);
+    failure->is_followed = 1;
+  }
 }
 
 void ignore_failures(struct make *make) {
@@ -207,7 +201,6 @@ static void set_up_line(struct line *line) {
   line->is_nested = enclosing != NULL;
   line->making = run->last_making = run->has_begun ? making_of(line, enclosing) : NULL;
   ignore_earlier_lines(line);
-  begin_recipe_of(target, line->make, line->recipe);
 }
 
 void begin_line(struct make *make, uint32_t recipe, struct target *target, struct command command, int64_t time, pid_t process,
@@ -236,11 +229,20 @@ void add_sub_make(const struct make *make) {
 static void add_failure(const struct line *line) {
   struct target_run *run = &line->target->run;
   struct failure *failure = xrealloc(NULL, sizeof *failure);
-  *failure = (struct failure){.make = line->make, .recipe = line->recipe, .line = line->number, .caller = line->caller,
-                              .is_interrupted = run->is_interrupted, .next = run->failures, .next_in_make = line->make->failures};
+  *failure = (struct failure){.make = line->make, .recipe = line->recipe, .line = line->number, .status = run->status,
+                              .caller = line->caller, .is_interrupted = run->is_interrupted, .next = run->failures,
+                              .next_in_make = line->make->failures};
   run->failures = line->make->failures = failure;
   struct line *outer = run->is_interrupted ? NULL : running_line(line->caller.line);
   if (outer) outer->failed_children++;
+}
+
+/* A double-colon rule that failed still has failed if its make then runs the recipe of the next one. Returns the status of the last one
+   that failed in the make of the line, or 0. */
+static int failed_status(const struct line *line) {
+  const struct failure *failure = line->target->run.failures;
+  while (failure && (failure->make != line->make || failure->is_followed)) failure = failure->next;
+  return failure ? failure->status : 0;
 }
 
 /* Only lines of the make that began the making change its end. */
@@ -257,7 +259,7 @@ static void end_target_line(const struct line *line, int status, int64_t time) {
   struct target *target = line->target;
   struct target_run *run = &target->run;
   int has_failed = status != 0;
-  run->status = has_failed ? status : run->failed_status;
+  run->status = has_failed ? status : failed_status(line);
   if (line->make == run->first_make || run->end_process == 0) run->end_process = line->process, run->end_time = time;
   if (!run->has_begun) return;
   write_journal("ended", 4, (int64_t[]){target->number, run->end_process, run->end_time, run->status});

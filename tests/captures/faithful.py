@@ -174,6 +174,27 @@ def double_colons(checks, at):
     folder = project(at("retried"), "x: ; @test -e there\n")
     status = ran(folder, [TOOL, "--summary", "summary", "sh", "-c", "make x || { touch there; make x; }"])[0]
     checks.expect("another make succeeds", (status, summary_of(folder)), (0, {"x": "0"}))
+    # A recipe of `x` runs a make that makes `x`. What failed there counts if this recipe fails, and what failed before does in any case.
+    for name, above, below, words, wanted in (
+        ("fails there, and that is ignored", "x:: ; @$(MAKE) -s -i -f below.mk x\n", "x:: ; @false\nx:: ; @true\n", [], (0, "0")),
+        ("fails there", "x:: ; @$(MAKE) -s -k -f below.mk x\n", "x:: ; @exit 4\nx:: ; @true\n", [], (2, "2")),
+        ("failed before", "x:: ; @exit 4\nx:: ; @$(MAKE) -s -f below.mk x\n", "x:: ; @true\nx:: ; @true\n", ["-k"], (2, "4")),
+        ("failed before, and it has two lines", "x:: ; @exit 4\nx::\n\t@$(MAKE) -s -f below.mk x\n\t@true\n", "x:: ; @true\n", ["-k"], (2, "4")),
+        ("failed in a line before", "x::\n\t-@exit 4\n\t@true\nx:: ; @$(MAKE) -s -f below.mk x\n", "x:: ; @true\n", ["-k"], (0, "0")),
+    ):
+        folder = project(at(name), above)
+        write(os.path.join(folder, "below.mk"), below)
+        status = ran(folder, [TOOL, "--summary", "summary", "make", "-s", *words])[0]
+        found = (status, summary_of(folder)["x"], log_of(folder, "x").splitlines()[-1].split()[1])
+        checks.expect(f"a make that makes its own target: a recipe {name}", found, (*wanted, wanted[1]))
+    # The makes of `one` and `two` make `x` at the same time. Nothing fails in the one that ends last.
+    wait = "until [ -e {} ]; do sleep 0.01; done"
+    folder = project(at("beside"), "all: one two\none two: ; @$(MAKE) -s -f $@.mk x\n")
+    write(os.path.join(folder, "one.mk"), f"x:: ; @touch first; {wait.format('failed')}\nx:: ; @touch second\n")
+    write(os.path.join(folder, "two.mk"), f"x:: ; @{wait.format('first')}; exit 4\nx:: ; @touch failed; {wait.format('second')}\n")
+    status = ran(folder, [TOOL, "--summary", "summary", "make", "-skj2"])[0]
+    statuses = [re.findall(r"^@@REDO:done:.*@@ (\d+) x$", log_of(folder, name), re.M) for name in ("one", "two")]
+    checks.expect("two makes of a target at the same time", (status, statuses), (2, [["0"], ["4"]]))
 
 
 def unended_lines(checks, at):
