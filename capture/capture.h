@@ -191,7 +191,7 @@ struct log_file {
   int is_lost;                 /* somebody has removed it */
   int is_unwritable, is_full;  /* is_full: it gets no more text */
 
-  int has_text, is_mid_line;
+  int has_text, has_unshown_text, is_mid_line; /* has_unshown_text: show_output hasn't printed its last text */
   const struct pipe *mid_line_pipe; /* from which its last text came; NULL if the pipe is closed */
 
   struct write_buffer buffer; /* the end of the log, which isn't written yet */

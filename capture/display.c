@@ -162,6 +162,6 @@ void show_output(const struct line *line, int status) {
   add_head(line, status, &content);
   if (content.has_text) for_each_text_line(target, target->log.shown_size, add_line, NULL);
   write_unwritten();
-  target->log.shown_size = target->log.size;
+  target->log.shown_size = target->log.size, target->log.has_unshown_text = 0;
   last_shown = target;
 }

@@ -238,7 +238,7 @@ void begin_log(struct target *target, int is_new) {
   struct log_file *log = &target->log;
   if (!log->is_prepared) close_log(target);
   log->must_be_emptied = 1, log->is_new = is_new;
-  log->is_lost = log->is_unwritable = log->is_full = log->has_text = log->is_mid_line = 0;
+  log->is_lost = log->is_unwritable = log->is_full = log->has_text = log->has_unshown_text = log->is_mid_line = 0;
   log->header_size = log->size = log->written_size = log->shown_size = 0;
   log->buffer.size = log->mention_count = 0;
   mark_dirty(target);
@@ -252,7 +252,7 @@ void append_header(struct target *target, const char *records, size_t size) {
 static void append_bytes(struct target *target, const char *bytes, size_t size) {
   if (size == 0) return;
   if (append(target, bytes, size) < 0) write_all(2, bytes, size);
-  else target->log.has_text = 1, target->log.is_mid_line = bytes[size - 1] != '\n';
+  else target->log.has_text = target->log.has_unshown_text = 1, target->log.is_mid_line = bytes[size - 1] != '\n';
 }
 
 /* Whether these bytes at the start of a line are, or may become, the start of a record. */

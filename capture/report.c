@@ -149,7 +149,7 @@ struct groups {
 };
 
 /* Finds the targets that failed, except those whose failure was ignored, and those in whose line a sub-make's failed; the targets that
-   ran when a signal stopped the build; and the targets that did not fail and printed something. */
+   ran when a signal stopped the build; and the targets that did not fail, and printed something that wasn't shown. */
 static void group_targets(struct groups *groups) {
   size_t count;
   struct target **sorted = sorted_targets(&count);
@@ -160,7 +160,7 @@ static void group_targets(struct groups *groups) {
     else if (is_cause(target)) add_to_group(&groups->failed, target);
     else if (has_final_failure(target)) continue;
     else if (has_failed(target)) add_to_group(&groups->ignored, target);
-    else if (target->log.has_text) add_to_group(&groups->texts, target);
+    else if (target->log.has_unshown_text) add_to_group(&groups->texts, target);
   }
   free(sorted);
 }

@@ -32,10 +32,10 @@ def failed(*names, words=None, printed=(), is_empty=False):
     lines = [f"{count} failed{', 10 of them' if len(names) > 10 else ''}: redo-log {named}"]
     if is_empty:
         lines.append(("its log is" if len(names) == 1 else "their logs are") + " empty; --both also captures standard output")
-    return "".join(f"redo-log-capture: {line}\n" for line in [*lines, *printed_something(*printed), "show all logs: redo-log -r all"])
+    return "".join(f"redo-log-capture: {line}\n" for line in [*lines, *printed_by(*printed), "show all logs: redo-log -r all"])
 
 
-def printed_something(*names):
+def printed_by(*names):
     """The line about targets that printed something and did not fail."""
     what = "target that did not fail" if len(names) == 1 else "targets that did not fail"
     return [f"{len(names)} {what} printed something: redo-log {' '.join(names)}"] if names else []

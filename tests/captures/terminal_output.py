@@ -6,7 +6,7 @@ import signal
 import subprocess
 import time
 
-from builds import PREFIX, TOOL, failed, last_lines, log_of, make, of_a_terminal, project, ran, said, shown, wait_for, wait_until, write
+from builds import PREFIX, TOOL, failed, last_lines, log_of, make, of_a_terminal, printed_by, project, ran, said, shown, wait_for, wait_until, write
 from checks import CAPTURES, contents, environment
 
 
@@ -132,6 +132,30 @@ def printed_something(checks, at):
     folder = project(at("many"), f"all: {names}\n{names}: ; @echo $@ >&2\n")
     checks.expect("many warnings", ran(folder, [TOOL, "make"])[2], "redo-log-capture: 11 targets that did not fail printed something: redo-log -r all\n")
     checks.expect("no warning", ran(project(at("none"), "all: ; @true\n"), [TOOL, "make"]), (0, "", ""))
+
+    # The block of a line that failed has all that was printed up to then.
+    first = "all:\n\t@echo first >&2\n\t-@exit $(E)\n"
+    block = said("all", 3, "exit 3", "first\n")
+    line = "redo-log-capture: 1 target that did not fail printed something: redo-log all\n"
+    for name, makefile, text in (
+        ("the last line fails", first, block),
+        ("a line fails, and nothing is printed after it", first + "\t@true\n", block),
+        ("a line fails, and something is printed after it", first + "\t@echo second >&2\n", block + line),
+    ):
+        folder = project(at(name), makefile)
+        checks.expect(f"what is ignored: {name}", ran(folder, [TOOL, "make", "-s", "E=3"]), (0, "", text))
+        checks.expect(f"what is ignored: {name}, and doesn't", ran(folder, [TOOL, "make", "-s", "E=0"]), (0, "", line))
+    folder = project(at("missing"), "all:\n\t@echo first >&2\n\t-@./nosuch\n\t@true\n")
+    told = ran(folder, [TOOL, "make", "-s"])[2]
+    checks.expect("what is ignored: a command that isn't there has no block", last_lines(1, told), line)
+    # `x` fails in one make, and prints something in another one, whose output isn't shown. make's own message is in the log of `one`.
+    makefile = "all: one two\none: ; @$(MAKE) -s x E=3 $(OR)\ntwo: ; @$(MAKE) -s x E=0\nx: ; @echo x >&2; exit $(E)\n"
+    folder = project(at("twice"), makefile)
+    told = ran(folder, [TOOL, "make", "-s", "OR=|| :"])
+    text = said("x", 3, "echo x >&2; exit 3", "x\n") + "".join(f"redo-log-capture: {line}\n" for line in printed_by("one", "x"))
+    checks.expect("a target that fails in one make, and that is ignored, and prints in another one", told, (0, "", text))
+    told = ran(folder, [TOOL, "make", "-ks"])[2]
+    checks.expect("a target that fails in one make and prints in another one", ("printed something" in told, last_lines(2, told)), (False, failed("x")))
 
 
 def heads_of_parents(checks, at):
