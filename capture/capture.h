@@ -154,7 +154,7 @@ struct failure {
   int status;           /* as a shell reports it */
   struct caller caller; /* of the make */
   int is_followed;      /* the make went on with the next line of the recipe, so the recipe did not fail */
-  int is_ignored;       /* the make went on, with the next line or after the recipe */
+  int is_ignored;       /* the make is known to have gone on, with the next line or after the recipe */
   int is_interrupted;   /* it failed after a signal had stopped the build */
   int has_cause;        /* set by report.c: a line that a sub-make ran meanwhile failed */
   struct failure *next; /* the target's failure before this one */
