@@ -1,7 +1,7 @@
 /* The hook: a shared object that each make of a captured build loads. It reports each line of a recipe to the server, and gives
    the line a pipe to the server as standard error, or, with --colour, a terminal. Below, a pipe may be a terminal.
 
-   It replaces the functions of the C library by which make starts and reaps children. Its own functions call the originals. It
+   It replaces the functions of the C library by which make starts and reaps children, and exits. Its own functions call the originals. It
    runs inside make, partly in a signal handler, so it doesn't call malloc and leaves errno alone. It imports only what make itself
    has or imports (gmk_*, dlsym), so that one file works with every glibc and musl. If anything fails here, the build goes on
    without being captured.
