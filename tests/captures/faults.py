@@ -1042,8 +1042,9 @@ def too_many_names(liar):
 
 
 def almost_right(chance, token, latest):
-    """A random message of a make that has announced some recipes. The message is often valid."""
-    some = [b"r%d\0" % n for n in range(20)] + [b"", b"\0", b"a b c\0x y\0", b"../r\0", b"x\ny\0"]
+    """A random message of a make that has announced some recipes. The message is often valid. Its names differ by more than a byte from
+    those of honest targets."""
+    some = [b"lie%d\0" % n for n in range(20)] + [b"", b"\0", b"a b c\0x y\0", b"../r\0", b"x\ny\0"]
     number, time = chance.choice((latest, latest, latest, 1, *NUMBERS)), chance.choice((ORDINARY, ORDINARY, *TIMES))
     process = chance.choice((5, 5, 5, 5, 6, 7, *SIGNED))
     kinds = (
