@@ -10,7 +10,7 @@ from typing import NamedTuple
 
 from chart_model import DrawnBar, Span, Window, chart_html, layout, meter_html, most_at_once, times_alone
 from text_model import bdi, cut_to, lines_html, name_html, passage
-from times_model import MOST, WIDEST, date, duration, size, tenths
+from times_model import MOST, WIDEST, Times, date, duration, size, tenths
 from model import Closed, Done, Mention, Note, Text  # found by times_model
 
 # ---- the shown logs ---------------------------------------------------------------------------------------------------
@@ -60,10 +60,6 @@ class Shown:
         time = self.ended if self.began is None else self.began
         return Span(time, self.place, time, self.failed)
 
-    def ran(self, began, ended):
-        """Whether a target with these times ran while this one did."""
-        return self.has_times and None not in (began, ended) and self.began <= began and self.began < ended <= self.ended
-
     def under(self):
         for child in self.children:
             yield child
@@ -87,11 +83,7 @@ class Build:
         for shown in self.order:
             closed = [entry.status for entry in self.logs[shown.target].entries if isinstance(entry, Closed)]
             shown.status = closed[0] if closed else self.done.get(shown.target)
-            shown.began, shown.ended = times.get(shown.target, (None, None))
-            others = [
-                entry.target for entry in self.logs[shown.target].entries
-                if isinstance(entry, Mention) and entry.kind != b"unchanged" and entry.target != shown.target]
-            shown.ran_others = any(shown.ran(*times.get(other, (None, None))) for other in others)
+            shown.began, shown.ended, shown.ran_others = times.get(shown.target, Times())
         without_cause = [shown for shown in self.order if shown.failed and not any(under.failed for under in shown.under())]
         ended = sorted((shown for shown in without_cause if shown.ended is not None), key=lambda shown: (shown.ended, shown.place))
         self.first = ended + [shown for shown in without_cause if shown.ended is None]

@@ -2,6 +2,7 @@
 import datetime
 import os
 import sys
+from typing import NamedTuple, Optional
 
 sys.path.insert(0, os.path.join(os.path.dirname(os.path.abspath(__file__)), "..", "differential"))
 import model as logs_model  # noqa: E402
@@ -20,9 +21,16 @@ def time_value(time):
     return 1000 * int(seconds) + int((decimals + b"000")[:3])
 
 
+class Times(NamedTuple):
+    """When a target began and ended, and whether it ran others."""
+    began: Optional[int] = None
+    ended: Optional[int] = None
+    ran_others: bool = False
+
+
 def times_of(logs):
-    """Returns when each target began and ended: None for an unknown time. `logs` has the target and the bytes of each log."""
-    began_in_own_log, began_in_other_log, ended_in_own_log, ended_in_other_log = {}, {}, {}, {}
+    """Returns the times of each target: None for an unknown time. `logs` has the target and the bytes of each log."""
+    began_in_own_log, began_in_other_log, ended_in_own_log, ended_in_other_log, ran_others_at = {}, {}, {}, {}, {}
     for target, data in logs:
         for line in logs_model.lines_of(data[: logs_model.MOST_BYTES]):
             entry = logs_model.entry_of(line, target) if logs_model.is_candidate(line) else None
@@ -31,7 +39,10 @@ def times_of(logs):
             time = time_value(logs_model.RECORD.fullmatch(line.content)["time"])
             if time is None:
                 continue
-            if isinstance(entry, logs_model.Mention) and entry.kind == b"do":
+            is_mention = isinstance(entry, logs_model.Mention)
+            if is_mention and entry.kind != b"unchanged" and entry.target != target or isinstance(entry, logs_model.Done):
+                ran_others_at.setdefault(target, []).append(time)
+            if is_mention and entry.kind == b"do":
                 began = began_in_own_log if entry.target == target else began_in_other_log
                 began[entry.target] = min(time, began.get(entry.target, time))
             elif isinstance(entry, logs_model.Closed):
@@ -45,7 +56,8 @@ def times_of(logs):
         end = ended_in_own_log.get(target, None if target in began_in_own_log else ended_in_other_log.get(target))
         if begin is not None and end is not None and begin > end:  # the clock was set
             begin = None
-        times[target] = begin, end
+        is_known = begin is not None and end is not None
+        times[target] = Times(begin, end, is_known and any(begin < time <= end for time in ran_others_at.get(target, [])))
     return times
 
 

@@ -103,7 +103,7 @@ for what, logs, wanted in [
      {b"all": (None, None), b"a": after(None, 5000)}),
     ("targets that are not listed", {b"a": record(b"do", 3, b"b") + record(b"done", 4, b"0 b")}, {b"a": (None, None)}),
 ]:
-    check(what, times_of(list(logs.items())), wanted)
+    check(what, {target: (known.began, known.ended) for target, known in times_of(list(logs.items())).items()}, wanted)
 
 # ---- layout ----------------------------------------------------------------------------------------------------------
 
@@ -552,13 +552,16 @@ for what, logs, requested, wanted in [
     timing = page_model.Timing(build.order)
     check(what, (len(timing.marks), timing.window is not None), wanted)
 
-# Who ran others: whose child began and ended meanwhile, and not only at the end.
-for what, child, wanted in [
-    ("meanwhile", (2, 3), True), ("from begin to end", (1, 5), True), ("until it began", (0, 1), False), ("begun before", (0, 3), False),
-    ("it ends at the beginning", (1, 1), False), ("at the end", (5, 5), True), ("longer", (2, 6), False), ("no end", (2, None), False),
+# Who ran others: a target that began at 1 and ended at 5, and has a record of another one at a time after 1.
+for what, records, wanted in [
+    ("no other one", b"", False), ("a beginning", record(b"do", 2, b"c"), True), ("an end", record(b"done", 2, b"1 c"), True),
+    ("a prerequisite", record(b"do", 0, b"c") + record(b"done", 1, b"0 c"), False), ("from begin to end", record(b"do", 1, b"c") + record(b"done", 5, b"0 c"), True),
+    ("after the end", record(b"do", 6, b"c") + record(b"done", 7, b"0 c"), False), ("before and after", record(b"do", 0, b"c") + record(b"done", 7, b"0 c"), False),
+    ("waits", record(b"waiting", 3, b"c"), True), ("another one has the lock", record(b"locked", 3, b"c") + record(b"unlocked", 9, b"c"), True),
+    ("the lock is free", record(b"unlocked", 3, b"c"), True), ("unchanged", record(b"unchanged", 3, b"c"), False), ("a note", record(b"check", 3, b"c"), False),
+    ("itself", record(b"waiting", 3, b"./p"), False), ("no time", record(b"do", b"1", b"c"), False), ("text", b" " + record(b"do", 2, b"c"), False),
 ]:
-    logs = {b"p": record(b"do", 1, b"p") + (record(b"do", child[0], b"c")) + record(b"done", 5, b"0 p"),
-            b"c": record(b"done", child[1], b"0 c") if child[1] is not None else b""}
+    logs = {b"p": record(b"do", 1, b"p") + records + record(b"done", 5, b"0 p"), b"c": record(b"do", 2, b"c") + record(b"done", 3, b"0 c")}
     build = page_model.Build([logs_model.log_of(target, data) for target, data in logs.items()], [b"p"], False, False, times_of(list(logs.items())))
     check(("ran others", what), build.order[0].ran_others, wanted)
 

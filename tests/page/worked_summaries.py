@@ -62,8 +62,8 @@ SMALL = {
     b"a": b"x" * 19 + b"\n" + ran(b"a", 1020, 1070),
     b"c": b"warning: 12345678\n" + b"warning:1234567\n" + record(b"do", UNTIMED, b"d"),
     b"b": b"warning:\n" * 4 + ran(b"b", 1050, 1090, 2),
-    b"all": record(b"do", time(1010), b"all") + b"".join(record(b"do", UNTIMED, name) for name in (b"a", b"b", b"c")) + b"x" * 9 + b"\n"
-    + record(b"done", time(1100), b"1 all"),
+    b"all": record(b"do", time(1010), b"all") + record(b"do", time(1020), b"a") + record(b"do", time(1050), b"b") + record(b"do", UNTIMED, b"c")
+    + b"x" * 9 + b"\n" + record(b"done", time(1100), b"1 all"),
     b"e": record(b"do", time(1), b"e") + record(b"done", time(1095), b"0 c") + record(b"done", time(9999), b"0 e"),
     **{b"f%d" % number: b"" for number in range(4)},
     b"d": b"x" * 49 + b"\n",
@@ -108,13 +108,15 @@ def expect_timed_small(checks, program):
 
 # ---- a target that another one needs ---------------------------------------------------------------------------------
 
-# `q` ran `x`. `p` needs it, and is mentioned first, so the log of `p` contains the log of `x`. `r` found that it was unchanged.
+# `q` ran `x`, and later `s` did. `p` needs it, and is mentioned first, so the log of `p` contains the log of `x`. `r` found that it was
+# unchanged.
 NEEDED = {
     b"all": record(b"do", time(1000), b"all") + ran(b"p", 1040, 1060) + ran(b"q", 1010, 1030) + ran(b"r", 1005, 1035)
-    + record(b"done", time(1100), b"0 all"),
+    + ran(b"s", 1040, 1080) + record(b"done", time(1100), b"0 all"),
     b"p": record(b"do", time(1040), b"p") + ran(b"x", 1012, 1028) + record(b"done", time(1060), b"0 p"),
     b"q": record(b"do", time(1010), b"q") + ran(b"x", 1012, 1028) + record(b"done", time(1030), b"0 q"),
     b"r": record(b"do", time(1005), b"r") + record(b"unchanged", time(1030), b"x") + record(b"done", time(1035), b"0 r"),
+    b"s": record(b"do", time(1040), b"s") + ran(b"x", 1042, 1078) + record(b"done", time(1080), b"0 s"),
     b"x": ran(b"x", 1012, 1028),
 }
 
@@ -124,7 +126,8 @@ def expect_needed(checks, program):
     times = [tiles_on(page).get(term) for term in (b"Took", b"Sum of times", b"At once")]
     checks.expect("a target that another one needs: tiles", times, [b"0.10 s", b"0.06 s", b"0.6, at most 2"])
     checks.expect("a target that another one needs: longest", table_on(page, b"Longest"), rows_of([(30, 4), (20, 1), (16, 2)], duration))
-    checks.expect("a target that another one needs: callers", bars_on(page, b"w"), [(0, 0, 10_000, False), (3, 1000, 2000, False)])
+    checks.expect("a target that another one needs: callers", bars_on(page, b"w"),
+                  [(0, 0, 10_000, False), (3, 1000, 2000, False), (5, 4000, 4000, False)])
     checks.expect("a target that another one needs: the model", page, made_page(NEEDED))
 
 

@@ -13,9 +13,9 @@ CLAUSE_OF = "redo_run/src/running.rt"
 # The maximum number of quoted lines.
 MOST_LINES = 400
 # The maximum number of other lines that the laws of a page depend on. docs/guarantees.md says it.
-MOST_PAGE_LINES = 2930
+MOST_PAGE_LINES = 2915
 # The same without the definitions of the page and of its parts, for all laws and for a law by itself.
-MOST_READ_LINES = 2040
+MOST_READ_LINES = 2025
 MOST_LAW_LINES = 1190
 UNREAD = [("Rattle.redo_page.specs.Page", "page_html"), ("Rattle.redo_page.specs.Page", "page_parts")]
 PART = r"\w+ \w+(?:: (?:[^\s;]+ to )?[^\s;]+)?"

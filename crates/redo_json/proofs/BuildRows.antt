@@ -44,7 +44,7 @@ abbrev asks : Bool → List Times → List RecipeFacts → Request
 asks unchanged times facts = record { unchanged = unchanged; times = times; facts = facts; baseline = None }
 
 abbrev time : Option ℕ → Option ℕ → Times
-time began ended = record { began = began; ended = ended }
+time began ended = record { began = began; ended = ended; ran_others = false }
 
 -- The values of a log of which nothing is known but these.
 abbrev values : List ℕ → Option (List ℕ) → Option ℤ → List (List ℕ) → List (List ℕ) → LogValues

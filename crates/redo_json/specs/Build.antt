@@ -72,7 +72,7 @@ needs_of target entries = new_names (target ∷ []) (mentions_in entries)
 -- ---- the values of a log
 
 abbrev pub unknown_times : Times
-unknown_times = record { began = None; ended = None }
+unknown_times = record { began = None; ended = None; ran_others = false }
 
 -- The processor time of a recipe, in milliseconds.
 abbrev pub cpu_time : Usage → ℕ

@@ -198,6 +198,7 @@ fn times_at(times: &[Times], number: u32) -> Times
         None => Times {
             began: None,
             ended: None,
+            ran_others: false,
         },
     }
 }

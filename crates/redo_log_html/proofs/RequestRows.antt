@@ -18,7 +18,9 @@ record Row : Type 0 where
   request : Request
 
 abbrev times : List Times
-times = record { began = Some 1600000000000; ended = Some 1600000001000 } ∷ record { began = None; ended = None } ∷ []
+times =
+    record { began = Some 1600000000000; ended = Some 1600000001000; ran_others = false }
+    ∷ record { began = None; ended = None; ran_others = false } ∷ []
 
 abbrev recipes : List RecipeFacts
 recipes = record { has_log = true; directory = Some (codes "x"); commands = []; usage = None } ∷ nothing ∷ []
@@ -78,7 +80,9 @@ abbrev long : ℕ → List ℕ
 long count = replicate count 97 ++ codes "x"
 
 abbrev many_times : List Times
-many_times = replicate 300 (record { began = None; ended = None }) ++ record { began = Some 5; ended = Some 7 } ∷ []
+many_times =
+    replicate 300 (record { began = None; ended = None; ran_others = false })
+    ++ record { began = Some 5; ended = Some 7; ran_others = false } ∷ []
 
 abbrev long_job : PageParts
 long_job = record {

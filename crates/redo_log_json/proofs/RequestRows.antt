@@ -29,7 +29,9 @@ job unchanged every = record {
 }
 
 abbrev times : List Times
-times = record { began = Some 1600000000000; ended = Some 1600000001000 } ∷ record { began = None; ended = None } ∷ []
+times =
+    record { began = Some 1600000000000; ended = Some 1600000001000; ran_others = false }
+    ∷ record { began = None; ended = None; ran_others = false } ∷ []
 
 abbrev recipes : List RecipeFacts
 recipes = record { has_log = true; directory = Some (codes "sub"); commands = []; usage = None } ∷ nothing ∷ []

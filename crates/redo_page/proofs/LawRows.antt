@@ -217,14 +217,13 @@ target_at_times parent position began ended = record {
   position = position;
   parent = parent;
   failed = false;
-  times = record { began = began; ended = ended };
-  ran_others = false;
+  times = record { began = began; ended = ended; ran_others = false };
 }
 
 -- Callers, and targets that ran no others, of which the last one has a mark.
 abbrev timed_targets : ℕ → ℕ → List Target
 timed_targets callers recipes =
-    replicate callers (record (target_at_times None 0 (Some 1) (Some 9)) { ran_others = true })
+    replicate callers (record (target_at_times None 0 None None) { times = record { began = Some 1; ended = Some 9; ran_others = true } })
     ++ (replicate recipes (target_at_times (Some 0) 1 (Some 2) (Some 3)) ++ target_at_times (Some 0) 2 (Some 4) None ∷ [])
 
 -- One of ten may have a mark.

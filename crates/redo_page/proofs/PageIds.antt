@@ -250,7 +250,7 @@ module _ (view : View) where
 
 -- The times of shown targets, and the recipes with the most memory, lead to positions of nodes.
 abbrev pub HavePositions : Type 0
-HavePositions = (logs : List Log) (nodes : List Node) (times : List Times) → AreOfNodes nodes (summary_of logs nodes times)
+HavePositions = (nodes : List Node) (times : List Times) → AreOfNodes nodes (summary_of nodes times)
 
 abbrev pub HavePositionsOfMemory : Type 0
 HavePositionsOfMemory =
@@ -325,7 +325,7 @@ module _ (have : HavePositions) (memory : HavePositionsOfMemory) (lead : BarsLea
       by some is = rw is (append-nil (take max_articles (position ∷ roots)))
 
   rows_are : AreRows (length nodes) (articles nodes) view
-  rows_are = (rows_below (have logs nodes request.times), lists_below, articles_below nodes)
+  rows_are = (rows_below (have nodes request.times), lists_below, articles_below nodes)
 
   top_refers : Refers (length nodes) (articles nodes) (top_parts view) [] ((ids_of (root_failures nodes) ++ []) ++ [])
       (top_sections (nat_lt 0 (length (root_failures nodes))) view.news.is_compared (is_some facts.window) (is_timed facts))
@@ -340,7 +340,7 @@ module _ (have : HavePositions) (memory : HavePositionsOfMemory) (lead : BarsLea
   times_refer : Refers (length nodes) (articles nodes) (timeline_parts view) [] []
       (timeline_found view (is_timed facts) facts.window)
   times_refer =
-      let positions = have logs nodes request.times in
+      let positions = have nodes request.times in
       timeline_refers lead (length nodes) (articles nodes) view rows_are positions.callers positions.recipes positions.marks
 
   footer_refers : Refers (length nodes) (articles nodes) (footer_parts view) [] [] []

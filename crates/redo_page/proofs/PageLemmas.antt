@@ -100,13 +100,13 @@ module _ (request : Request) (options : Options) (logs : List Log) (requested : 
     node = no_node;
   }
 
-  pub view_is : options ≡ options_of request → nodes ≡ page_outline request logs requested → facts ≡ summary_of logs nodes request.times
+  pub view_is : options ≡ options_of request → nodes ≡ page_outline request logs requested → facts ≡ summary_of nodes request.times
       → usage ≡ usage_of nodes request.recipes facts.recipes → AreTexts request options requested nodes texts
       → roots ≡ root_failures nodes → dependents ≡ positions_where is_dependent_failure 0 nodes
       → unclosed ≡ positions_where is_unclosed 0 nodes → news ≡ news_of request.baseline logs nodes
       → view_with ≡ page_view request logs requested
   view_is options_are nodes_are facts_are usage_is are roots_are dependents_are unclosed_are news_are =
-      let used : usage ≡ usage_of nodes request.recipes (summary_of logs nodes request.times).recipes =
+      let used : usage ≡ usage_of nodes request.recipes (summary_of nodes request.times).recipes =
       usage_is ∙ ap (λ (known : Facts). usage_of nodes request.recipes known.recipes) facts_are in
       (λ i. record view_with {
         verdict = are.verdict i;
@@ -121,4 +121,4 @@ module _ (request : Request) (options : Options) (logs : List Log) (requested : 
         news = news_are i;
       })
       ∙ (λ i. build_view request.title request.dir (command request.dir (options_are i) requested) request.recipes logs (nodes_are i)
-      (summary_of logs (nodes_are i) request.times) (news_of request.baseline logs (nodes_are i)))
+      (summary_of (nodes_are i) request.times) (news_of request.baseline logs (nodes_are i)))

@@ -93,12 +93,10 @@ top_tells view values =
 
 -- The values of the ranks are of nodes: the law of the summary.
 pub record RanksHaveValues : Type 0 where
-  pub longest : (logs : List Log) (nodes : List Node) (times : List Times)
-      → AllByRecursion (HasDuration nodes times) (summary_of logs nodes times).longest
-  pub alone : (logs : List Log) (nodes : List Node) (times : List Times)
-      → AllByRecursion (HasTimeAlone (summary_of logs nodes times).recipes) (summary_of logs nodes times).alone
-  pub warned : (logs : List Log) (nodes : List Node) (times : List Times)
-      → AllByRecursion (HasWarnings nodes) (summary_of logs nodes times).warned
+  pub longest : (nodes : List Node) (times : List Times) → AllByRecursion (HasDuration nodes times) (summary_of nodes times).longest
+  pub alone : (nodes : List Node) (times : List Times)
+      → AllByRecursion (HasTimeAlone (summary_of nodes times).recipes) (summary_of nodes times).alone
+  pub warned : (nodes : List Node) (times : List Times) → AllByRecursion (HasWarnings nodes) (summary_of nodes times).warned
   pub memory : (nodes : List Node) (facts : List RecipeFacts) (recipes : List Span)
       → AllByRecursion (HasMemory nodes facts) (usage_of nodes facts recipes).memory
 
@@ -171,18 +169,18 @@ module _ (request : Request) (logs : List Log) (requested : List (List ℕ)) whe
       where
         by : (timed : Bool) → AllByRecursion (λ (rank : Rank). IsValueOf recipes Longest (node_at nodes rank.position) rank)
             (if timed then (page_facts request logs requested).longest else [])
-        by true = each duration_at (page_facts request logs requested).longest (ranks.longest logs nodes request.times)
+        by true = each duration_at (page_facts request logs requested).longest (ranks.longest nodes request.times)
         by false = tt
     values LongestAlone = by (is_timed (page_facts request logs requested) && nat_lt 1 (page_facts request logs requested).most)
       where
         by : (shown : Bool) → AllByRecursion (λ (rank : Rank). IsValueOf recipes LongestAlone (node_at nodes rank.position) rank)
             (if shown then (page_facts request logs requested).alone else [])
-        by true = each alone_at (page_facts request logs requested).alone (ranks.alone logs nodes request.times)
+        by true = each alone_at (page_facts request logs requested).alone (ranks.alone nodes request.times)
         by false = tt
     values MostMemory = each memory_at (usage_of nodes request.recipes (page_facts request logs requested).recipes).memory
         (ranks.memory nodes request.recipes (page_facts request logs requested).recipes)
     values rows.New = each_new (take max_rows (page_news request logs requested).lines)
-    values Warned = each warnings_at (page_facts request logs requested).warned (ranks.warned logs nodes request.times)
+    values Warned = each warnings_at (page_facts request logs requested).warned (ranks.warned nodes request.times)
 
   page_tells : RanksHaveValues → Tells recipes logs nodes (page_parts request logs requested)
   unfolding page_parts footer_parts

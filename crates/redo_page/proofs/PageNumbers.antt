@@ -129,7 +129,7 @@ module _ (request : Request) (logs : List Log) (requested : List (List ℕ)) whe
   nodes = page_outline request logs requested
 
   abbrev targets : List Target
-  targets = targets_of logs nodes request.times
+  targets = targets_of nodes request.times
 
   abbrev facts : Facts
   facts = page_facts request logs requested

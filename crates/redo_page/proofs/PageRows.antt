@@ -213,7 +213,7 @@ at items = record { ref_ptr = (0, 0); now = items }
 
 -- The times of a target that hasn't ended.
 abbrev begun : Times
-begun = record { began = Some 7; ended = None }
+begun = record { began = Some 7; ended = None; ran_others = false }
 
 abbrev known : RecipeFacts
 known = record { has_log = true; directory = Some (codes "x"); commands = []; usage = None }
@@ -312,20 +312,22 @@ outline_is = refl
 -- ---- times
 
 abbrev ran : ℕ → ℕ → Times
-ran began ended = record { began = Some began; ended = Some ended }
+ran began ended = record { began = Some began; ended = Some ended; ran_others = false }
 
 abbrev run : Option ℕ → Option ℕ → RunTimes
 run took ended = record { took = took; ended = ended }
 
 -- Both times of a target are needed for how long it took.
 run_times_are :
-    map run_times (ran 1000 5000 ∷ begun ∷ record { began = None; ended = Some 8 } ∷ ran 7 7 ∷ [])
+    map run_times (ran 1000 5000 ∷ begun ∷ record { began = None; ended = Some 8; ran_others = false } ∷ ran 7 7 ∷ [])
     ≡ run (Some 4000) (Some 5000) ∷ run None None ∷ run None (Some 8) ∷ run (Some 0) (Some 7) ∷ []
 run_times_are = refl
 
 -- A target that ran another one. Nothing is known of the third one, which isn't shown.
 abbrev timed : Request
-timed = record (request [] false false) { times = ran 1795829211000 1795829213500 ∷ ran 1795829211200 1795829213000 ∷ [] }
+timed = record (request [] false false) {
+  times = record (ran 1795829211000 1795829213500) { ran_others = true } ∷ ran 1795829211200 1795829213000 ∷ [];
+}
 
 -- How long each target took, and when it ended, is in the outline.
 abbrev node_times : Node → RunTimes

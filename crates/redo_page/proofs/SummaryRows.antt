@@ -443,8 +443,7 @@ target position began ended = record {
   position = position;
   parent = Some 0;
   failed = false;
-  times = record { began = Some began; ended = Some ended };
-  ran_others = false;
+  times = record { began = Some began; ended = Some ended; ran_others = false };
 }
 
 -- Two recipes, which ran for 60 s and for 65 s.

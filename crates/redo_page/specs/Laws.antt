@@ -531,7 +531,7 @@ module _ (request : Request) (logs : List Log) (requested : List (List ℕ)) whe
 
   -- The shown targets, with their times.
   abbrev pub page_targets : List Target
-  page_targets = targets_of logs (page_outline request logs requested) request.times
+  page_targets = targets_of (page_outline request logs requested) request.times
 
   -- The processor time of the recipes that ran no others, if it is known.
   abbrev pub page_processor : Option ℕ

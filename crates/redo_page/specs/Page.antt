@@ -115,7 +115,7 @@ module _ (request : Request) (logs : List Log) (requested : List (List ℕ)) whe
 
   -- The facts about the times of the shown targets.
   abbrev pub page_facts : Facts
-  page_facts = summary_of logs page_outline request.times
+  page_facts = summary_of page_outline request.times
 
   -- What is new since the baseline.
   abbrev pub page_news : NewsValue

@@ -166,7 +166,7 @@ fn write_outlined<W: Sink>(
     let nodes = outline.nodes();
     let failures = find_failures(alloc, nodes)?;
     let texts = Texts::new(alloc, request, options, requested, nodes, &failures)?;
-    let summary = Summary::new(alloc, table, nodes, request.times)?;
+    let summary = Summary::new(alloc, nodes, request.times)?;
     let usage = UsageSummary::new(alloc, nodes, request.recipes, summary.recipes())?;
     let roots = failures.roots.as_slice();
     let dependents = failures.dependents.as_slice();

@@ -46,15 +46,18 @@ target position parent began ended = record {
   position = position;
   parent = parent;
   failed = false;
-  times = record { began = began; ended = ended };
-  ran_others = false;
+  times = record { began = began; ended = ended; ran_others = false };
 }
 
+-- The same target, which ran others.
+abbrev caller : Target → Target
+caller one = record one { times = record { began = one.times.began; ended = one.times.ended; ran_others = true } }
+
 abbrev all : Target
-all = record (target 0 None (Some 100) (Some 900)) { ran_others = true }
+all = caller (target 0 None (Some 100) (Some 900))
 
 abbrev lib : Target
-lib = record (target 1 (Some 0) (Some 200) (Some 800)) { ran_others = true }
+lib = caller (target 1 (Some 0) (Some 200) (Some 800))
 
 abbrev object : Target
 object = target 2 (Some 1) (Some 300) (Some 400)
@@ -117,16 +120,16 @@ many_marks = refl
 
 -- The log with the number 5000 has its own times.
 abbrev ran : ℕ → ℕ → Times
-ran began ended = record { began = Some began; ended = Some ended }
+ran began ended = record { began = Some began; ended = Some ended; ran_others = false }
 
 late_log : times_of (replicate 5000 no_times ++ ran 3 4 ∷ ran 5 6 ∷ []) 5000 ≡ ran 3 4
 late_log = refl
 
 -- A requested target may have failed, and a signal may have killed one.
 abbrev failed_in : Option ℕ → Target
-failed_in parent = record { position = 0; parent = parent; failed = true; times = no_times; ran_others = false }
+failed_in parent = record { position = 0; parent = parent; failed = true; times = no_times }
 
-failures : map (λ node. targets_of [] (node ∷ []) [])
+failures : map (λ node. targets_of (node ∷ []) [])
     (record no_node { status = Some (pos 1) } ∷ record no_node { status = Some (negsuc 8) }
     ∷ record no_node { parent = Some 7; status = Some (pos 130) } ∷ [])
     ≡ (failed_in None ∷ []) ∷ (failed_in None ∷ []) ∷ (failed_in (Some 7) ∷ []) ∷ []

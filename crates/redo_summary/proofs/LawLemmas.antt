@@ -9,14 +9,12 @@ use Rattle.std.proofs.lemmas.List.{append_assoc, length-append}
 use Rattle.std.proofs.lemmas.List.Sorted.{IsPermutation-cons, IsPermutation-middle, IsPermutation-refl, IsPermutation-sym, IsPermutation-trans}
 use Rattle.redo_timeline.specs.declared.span.Span.{Span}
 use Rattle.redo_timeline.specs.Order.{insert_sorted, sort}
-use Rattle.redo_logs.specs.Logs.{Log}
 use Rattle.redo_times.specs.declared.times.Times.{Times}
 use Rattle.redo_outline.specs.declared.node.Node.{Node}
 use Rattle.redo_outline.specs.Facts.{is_failure}
 use Rattle.redo_summary.specs.declared.rank.Rank.{Rank}
 use Rattle.redo_summary.specs.declared.target.Target.{Target}
-use Rattle.redo_summary.specs.Laws.{AreInOrderOfPosition, AreOfNodes, AreRisingFrom, AreSplit, HasDuration, HasTimeAlone, HasWarnings, IsMarkOf, IsOfTarget, IsSpanOf}
-use Rattle.redo_summary.specs.Callers.{ran_others}
+use Rattle.redo_summary.specs.Laws.{AreInOrderOfPosition, AreOfNodes, AreRisingFrom, AreSplit, HasDuration, HasTimeAlone, HasWarnings, IsMarkOf, IsOfTarget, IsSpanOf, RanNone, RanOthers}
 use Rattle.redo_summary.specs.Spans.{caller_span, callers_of, mark_of, only_time, recipe_span, recipes_of, span_between, span_if, span_of, spans_of, target_of, targets_from, targets_of}
 use Rattle.redo_summary.specs.Ranks.{alone_rank, alone_ranks, first_ranks, rank_cmp, rank_of, warnings_from}
 use Rattle.redo_summary.specs.Summary.{summary_of}
@@ -64,14 +62,14 @@ all_chosen {X = X} {Y = Y} P Q choose kept (x ∷ xs) all = by (choose x) (kept 
 -- The span of a target, if it ran others, and if it ran none.
 module _ (P : Span → Type 0) (target : Target) (holds : IfSome (span_of target) P) where
   pub if_caller : IfSome (caller_span target) P
-  if_caller = by target.ran_others
+  if_caller = by target.times.ran_others
     where
       by : (b : Bool) → IfSome (if b then span_of target else None) P
       by true = holds
       by false = tt
 
   pub if_recipe : IfSome (recipe_span target) P
-  if_recipe = by target.ran_others
+  if_recipe = by target.times.ran_others
     where
       by : (b : Bool) → IfSome (if b then None else span_of target) P
       by true = tt
@@ -80,11 +78,11 @@ module _ (P : Span → Type 0) (target : Target) (holds : IfSome (span_of target
 -- ---- positions
 
 module _ (count : ℕ) where
-  targets_below : (logs : List Log) (times : List Times) (position : ℕ) (nodes : List Node) → position + length nodes ≤ count
-      → AllByRecursion (λ (target : Target). target.position < count) (targets_from logs times position nodes)
-  targets_below logs times position [] within = tt
-  targets_below logs times position (node ∷ nodes) within =
-      (omega (arith, within), targets_below logs times (position + 1) nodes (omega (arith, within)))
+  targets_below : (times : List Times) (position : ℕ) (nodes : List Node) → position + length nodes ≤ count
+      → AllByRecursion (λ (target : Target). target.position < count) (targets_from times position nodes)
+  targets_below times position [] within = tt
+  targets_below times position (node ∷ nodes) within =
+      (omega (arith, within), targets_below times (position + 1) nodes (omega (arith, within)))
 
   warnings_below : (position : ℕ) (nodes : List Node) → position + length nodes ≤ count
       → AllByRecursion (λ (rank : Rank). rank.position < count) (warnings_from position nodes)
@@ -124,11 +122,11 @@ module _ (count : ℕ) where
       all_taken (λ (rank : Rank). rank.position < count) 10 (sort rank_cmp ranks)
       (all_sorted (λ (rank : Rank). rank.position < count) rank_cmp ranks all)
 
-pub are_of_nodes : (logs : List Log) (nodes : List Node) (times : List Times) → AreOfNodes nodes (summary_of logs nodes times)
-are_of_nodes logs nodes times =
+pub are_of_nodes : (nodes : List Node) (times : List Times) → AreOfNodes nodes (summary_of nodes times)
+are_of_nodes nodes times =
     let count = length nodes in
-    let targets = targets_of logs nodes times in
-    let below = targets_below count logs times 0 nodes (omega arith) in
+    let targets = targets_of nodes times in
+    let below = targets_below count times 0 nodes (omega arith) in
     let recipes = all_chosen (λ (target : Target). target.position < count) (λ (span : Span). span.position < count) recipe_span
     (λ target within. if_recipe (λ (span : Span). span.position < count) target (span_below count target within)) targets below in
     record {
@@ -152,22 +150,22 @@ rising_less least other (span ∷ spans) less rising = (let le = rising.0 in ome
 
 rising_chosen : (choose : Target → Option Span)
     → ((target : Target) → IfSome (choose target) (λ (span : Span). span.position ≡ target.position))
-    → (logs : List Log) (times : List Times) (position : ℕ) (nodes : List Node)
-    → AreRisingFrom position (filter_map choose (targets_from logs times position nodes))
-rising_chosen choose kept logs times position [] = tt
-rising_chosen choose kept logs times position (node ∷ nodes) =
-    by (choose (target_of logs times position node)) (kept (target_of logs times position node))
-    (rising_chosen choose kept logs times (position + 1) nodes)
+    → (times : List Times) (position : ℕ) (nodes : List Node)
+    → AreRisingFrom position (filter_map choose (targets_from times position nodes))
+rising_chosen choose kept times position [] = tt
+rising_chosen choose kept times position (node ∷ nodes) =
+    by (choose (target_of times position node)) (kept (target_of times position node))
+    (rising_chosen choose kept times (position + 1) nodes)
   where
     by : (chosen : Option Span) → IfSome chosen (λ (span : Span). span.position ≡ position)
-        → AreRisingFrom (position + 1) (filter_map choose (targets_from logs times (position + 1) nodes))
-        → AreRisingFrom position (cons_option chosen (filter_map choose (targets_from logs times (position + 1) nodes)))
-    by None here more = rising_less (position + 1) position (filter_map choose (targets_from logs times (position + 1) nodes))
+        → AreRisingFrom (position + 1) (filter_map choose (targets_from times (position + 1) nodes))
+        → AreRisingFrom position (cons_option chosen (filter_map choose (targets_from times (position + 1) nodes)))
+    by None here more = rising_less (position + 1) position (filter_map choose (targets_from times (position + 1) nodes))
         (omega arith) more
     by (Some span) here more = (
       omega (arith, here),
       rising_less (position + 1) (span.position + 1)
-          (filter_map choose (targets_from logs times (position + 1) nodes)) (omega (arith, here)) more,
+          (filter_map choose (targets_from times (position + 1) nodes)) (omega (arith, here)) more,
     )
 
 span_position : (target : Target) → IfSome (span_of target) (λ (span : Span). span.position ≡ target.position)
@@ -187,20 +185,20 @@ mark_position target = by (only_time target.parent target.times.began target.tim
     by None = tt
     by (Some time) = refl
 
-pub are_in_order_of_position : (logs : List Log) (nodes : List Node) (times : List Times)
-    → AreInOrderOfPosition (summary_of logs nodes times)
-are_in_order_of_position logs nodes times =
+pub are_in_order_of_position : (nodes : List Node) (times : List Times)
+    → AreInOrderOfPosition (summary_of nodes times)
+are_in_order_of_position nodes times =
     record {
       callers = rising_chosen caller_span
-          (λ target. if_caller (λ (span : Span). span.position ≡ target.position) target (span_position target)) logs times 0 nodes;
+          (λ target. if_caller (λ (span : Span). span.position ≡ target.position) target (span_position target)) times 0 nodes;
       recipes = rising_chosen recipe_span
-          (λ target. if_recipe (λ (span : Span). span.position ≡ target.position) target (span_position target)) logs times 0 nodes;
-      marks = rising_chosen mark_of mark_position logs times 0 nodes;
+          (λ target. if_recipe (λ (span : Span). span.position ≡ target.position) target (span_position target)) times 0 nodes;
+      marks = rising_chosen mark_of mark_position times 0 nodes;
     }
 
 split : (targets : List Target) → IsPermutation (spans_of targets) (callers_of targets ++ recipes_of targets)
 split [] = IsPermutation-refl []
-split (target ∷ targets) = by target.ran_others (span_of target) (split targets)
+split (target ∷ targets) = by target.times.ran_others (span_of target) (split targets)
   where
     callers : List Span
     callers = callers_of targets
@@ -218,8 +216,8 @@ split (target ∷ targets) = by target.ran_others (span_of target) (split target
         IsPermutation-trans _ _ _ (IsPermutation-cons span _ _ later)
         (IsPermutation-sym _ _ (IsPermutation-middle callers span recipes))
 
-pub are_split : (logs : List Log) (nodes : List Node) (times : List Times) → AreSplit logs nodes times (summary_of logs nodes times)
-are_split logs nodes times = split (targets_of logs nodes times)
+pub are_split : (nodes : List Node) (times : List Times) → AreSplit nodes times (summary_of nodes times)
+are_split nodes times = split (targets_of nodes times)
 
 -- ---- values
 
@@ -248,36 +246,35 @@ module _ (nodes : List Node) where
   )
 
 -- The target of a node at its position.
-pub record IsShown (logs : List Log) (nodes : List Node) (times : List Times) (target : Target) : Type 0 where
+pub record IsShown (nodes : List Node) (times : List Times) (target : Target) : Type 0 where
   pub node : Node
   pub is_at : slice_get nodes target.position ≡ Some node
   pub same_times : times_of times node.number ≡ target.times
   pub status : target.failed ≡ is_failure node.status
-  pub ran : target.ran_others ≡ ran_others logs times node.number
 
-module _ (logs : List Log) (nodes : List Node) (times : List Times) where
+module _ (nodes : List Node) (times : List Times) where
   shown_from : (before rest : List Node) (position : ℕ) → before ++ rest ≡ nodes → length before ≡ position
-      → AllByRecursion (IsShown logs nodes times) (targets_from logs times position rest)
+      → AllByRecursion (IsShown nodes times) (targets_from times position rest)
   shown_from before [] position split place = tt
   shown_from before (node ∷ rest) position split place = (
-    record { node = node; is_at = found_in nodes before node rest position split place; same_times = refl; status = refl; ran = refl },
+    record { node = node; is_at = found_in nodes before node rest position split place; same_times = refl; status = refl },
     shown_from (before ++ (node ∷ [])) rest (position + 1) (append_assoc before (node ∷ []) rest ∙ split)
         (next_place nodes before node position place),
   )
 
-  targets_are_shown : AllByRecursion (IsShown logs nodes times) (targets_of logs nodes times)
+  targets_are_shown : AllByRecursion (IsShown nodes times) (targets_of nodes times)
   targets_are_shown = shown_from [] nodes 0 refl refl
 
   -- The spans of targets that ran others, and of those that ran none.
-  pub all_callers : (P : Span → Type 0) → ((target : Target) → IsShown logs nodes times target → IfSome (caller_span target) P)
-      → AllByRecursion P (summary_of logs nodes times).callers
+  pub all_callers : (P : Span → Type 0) → ((target : Target) → IsShown nodes times target → IfSome (caller_span target) P)
+      → AllByRecursion P (summary_of nodes times).callers
   all_callers P holds =
-      all_chosen (IsShown logs nodes times) P caller_span holds (targets_of logs nodes times) targets_are_shown
+      all_chosen (IsShown nodes times) P caller_span holds (targets_of nodes times) targets_are_shown
 
-  pub all_recipes : (P : Span → Type 0) → ((target : Target) → IsShown logs nodes times target → IfSome (recipe_span target) P)
-      → AllByRecursion P (summary_of logs nodes times).recipes
+  pub all_recipes : (P : Span → Type 0) → ((target : Target) → IsShown nodes times target → IfSome (recipe_span target) P)
+      → AllByRecursion P (summary_of nodes times).recipes
   all_recipes P holds =
-      all_chosen (IsShown logs nodes times) P recipe_span holds (targets_of logs nodes times) targets_are_shown
+      all_chosen (IsShown nodes times) P recipe_span holds (targets_of nodes times) targets_are_shown
 
   -- ---- how long recipes took
 
@@ -285,7 +282,7 @@ module _ (logs : List Log) (nodes : List Node) (times : List Times) where
   IsSpan span =
       (node : Node) × (slice_get nodes span.position ≡ Some node) × (duration_of times node.number ≡ Some (span.ended - span.began))
 
-  span_is : (target : Target) → IsShown logs nodes times target → IfSome (span_of target) IsSpan
+  span_is : (target : Target) → IsShown nodes times target → IfSome (span_of target) IsSpan
   span_is target shown =
       by target.times.began target.times.ended (ap (λ (known : Times). time_between known.began known.ended) shown.same_times)
     where
@@ -300,9 +297,9 @@ module _ (logs : List Log) (nodes : List Node) (times : List Times) where
   ranks_are [] all = tt
   ranks_are (span ∷ spans) all = ((all.0.0, all.0.1, span.ended - span.began, all.0.2, refl), ranks_are spans all.1)
 
-  pub longest_are : AllByRecursion (HasDuration nodes times) (summary_of logs nodes times).longest
+  pub longest_are : AllByRecursion (HasDuration nodes times) (summary_of nodes times).longest
   longest_are =
-      let recipes = recipes_of (targets_of logs nodes times) in
+      let recipes = recipes_of (targets_of nodes times) in
       let ranks = map rank_of recipes in
       all_taken (HasDuration nodes times) 10 (sort rank_cmp ranks)
       (all_sorted (HasDuration nodes times) rank_cmp ranks
@@ -327,18 +324,18 @@ alone_have : (all spans : List Span) → AllByRecursion (Contains all) spans
 alone_have all [] contains = tt
 alone_have all (span ∷ spans) contains = ((span, contains.0, refl, refl), alone_have all spans contains.1)
 
-pub alone_are : (logs : List Log) (nodes : List Node) (times : List Times)
-    → AllByRecursion (HasTimeAlone (summary_of logs nodes times).recipes) (summary_of logs nodes times).alone
-alone_are logs nodes times =
-    let recipes = recipes_of (targets_of logs nodes times) in
+pub alone_are : (nodes : List Node) (times : List Times)
+    → AllByRecursion (HasTimeAlone (summary_of nodes times).recipes) (summary_of nodes times).alone
+alone_are nodes times =
+    let recipes = recipes_of (targets_of nodes times) in
     all_taken (HasTimeAlone recipes) 10 (sort rank_cmp (alone_ranks recipes))
     (all_sorted (HasTimeAlone recipes) rank_cmp (alone_ranks recipes)
     (all_passed (HasTimeAlone recipes) (λ (rank : Rank). ltb 0 rank.value) (map (alone_rank recipes) recipes)
     (alone_have recipes recipes (contained recipes))))
 
-pub warned_are : (logs : List Log) (nodes : List Node) (times : List Times)
-    → AllByRecursion (HasWarnings nodes) (summary_of logs nodes times).warned
-warned_are logs nodes times =
+pub warned_are : (nodes : List Node) (times : List Times)
+    → AllByRecursion (HasWarnings nodes) (summary_of nodes times).warned
+warned_are nodes times =
     let ranks = filter (λ (rank : Rank). ltb 0 rank.value) (warnings_from 0 nodes) in
     all_taken (HasWarnings nodes) 10 (sort rank_cmp ranks)
     (all_sorted (HasWarnings nodes) rank_cmp ranks
@@ -346,8 +343,8 @@ warned_are logs nodes times =
 
 -- ---- the targets of spans
 
-module _ (logs : List Log) (nodes : List Node) (times : List Times) where
-  shown_span : (target : Target) → IsShown logs nodes times target → IfSome (span_of target) (IsOfTarget IsSpanOf nodes times)
+module _ (nodes : List Node) (times : List Times) where
+  shown_span : (target : Target) → IsShown nodes times target → IfSome (span_of target) (IsOfTarget IsSpanOf nodes times)
   shown_span target shown =
       by target.times.began target.times.ended (ap (λ (known : Times). known.began) shown.same_times)
       (ap (λ (known : Times). known.ended) shown.same_times)
@@ -359,7 +356,7 @@ module _ (logs : List Log) (nodes : List Node) (times : List Times) where
       by (Some began) None first last = tt
       by (Some began) (Some ended) first last = (shown.node, shown.is_at, record { began = first; ended = last; failed = shown.status })
 
-  shown_mark : (target : Target) → IsShown logs nodes times target → IfSome (mark_of target) (IsOfTarget IsMarkOf nodes times)
+  shown_mark : (target : Target) → IsShown nodes times target → IfSome (mark_of target) (IsOfTarget IsMarkOf nodes times)
   shown_mark target shown =
       by target.parent target.times.began target.times.ended (ap (λ (known : Times). known.began) shown.same_times)
       (ap (λ (known : Times). known.ended) shown.same_times)
@@ -378,17 +375,50 @@ module _ (logs : List Log) (nodes : List Node) (times : List Times) where
       by None (Some began) (Some ended) first last = tt
       by (Some parent) (Some began) (Some ended) first last = tt
 
-  pub callers_are_shown : AllByRecursion (IsOfTarget IsSpanOf nodes times) (summary_of logs nodes times).callers
+  pub callers_are_shown : AllByRecursion (IsOfTarget IsSpanOf nodes times) (summary_of nodes times).callers
   callers_are_shown =
-      all_callers logs nodes times (IsOfTarget IsSpanOf nodes times)
+      all_callers nodes times (IsOfTarget IsSpanOf nodes times)
       (λ target shown. if_caller (IsOfTarget IsSpanOf nodes times) target (shown_span target shown))
 
-  pub recipes_are_shown : AllByRecursion (IsOfTarget IsSpanOf nodes times) (summary_of logs nodes times).recipes
+  pub recipes_are_shown : AllByRecursion (IsOfTarget IsSpanOf nodes times) (summary_of nodes times).recipes
   recipes_are_shown =
-      all_recipes logs nodes times (IsOfTarget IsSpanOf nodes times)
+      all_recipes nodes times (IsOfTarget IsSpanOf nodes times)
       (λ target shown. if_recipe (IsOfTarget IsSpanOf nodes times) target (shown_span target shown))
 
-  pub marks_are_shown : AllByRecursion (IsOfTarget IsMarkOf nodes times) (summary_of logs nodes times).marks
+  pub marks_are_shown : AllByRecursion (IsOfTarget IsMarkOf nodes times) (summary_of nodes times).marks
   marks_are_shown =
-      all_chosen (IsShown logs nodes times) (IsOfTarget IsMarkOf nodes times) mark_of shown_mark (targets_of logs nodes times)
-      (targets_are_shown logs nodes times)
+      all_chosen (IsShown nodes times) (IsOfTarget IsMarkOf nodes times) mark_of shown_mark (targets_of nodes times)
+      (targets_are_shown nodes times)
+
+  -- ---- which targets ran others
+
+  module _ (target : Target) (shown : IsShown nodes times target) where
+    caller_ran : IfSome (caller_span target) (IsOfTarget RanOthers nodes times)
+    caller_ran = by target.times.ran_others target.times.began target.times.ended
+        (ap (λ (known : Times). known.ran_others) shown.same_times)
+      where
+        by : (b : Bool) (began ended : Option ℕ) → (times_of times shown.node.number).ran_others ≡ b
+            → IfSome (if b then span_if target began ended else None) (IsOfTarget RanOthers nodes times)
+        by false began ended ran = tt
+        by true None None ran = tt
+        by true None (Some ended) ran = tt
+        by true (Some began) None ran = tt
+        by true (Some began) (Some ended) ran = (shown.node, shown.is_at, ran)
+
+    recipe_ran_none : IfSome (recipe_span target) (IsOfTarget RanNone nodes times)
+    recipe_ran_none = by target.times.ran_others target.times.began target.times.ended
+        (ap (λ (known : Times). known.ran_others) shown.same_times)
+      where
+        by : (b : Bool) (began ended : Option ℕ) → (times_of times shown.node.number).ran_others ≡ b
+            → IfSome (if b then None else span_if target began ended) (IsOfTarget RanNone nodes times)
+        by true began ended ran = tt
+        by false None None ran = tt
+        by false None (Some ended) ran = tt
+        by false (Some began) None ran = tt
+        by false (Some began) (Some ended) ran = (shown.node, shown.is_at, ran)
+
+  pub all_callers_ran : AllByRecursion (IsOfTarget RanOthers nodes times) (summary_of nodes times).callers
+  all_callers_ran = all_callers nodes times (IsOfTarget RanOthers nodes times) caller_ran
+
+  pub no_recipe_ran : AllByRecursion (IsOfTarget RanNone nodes times) (summary_of nodes times).recipes
+  no_recipe_ran = all_recipes nodes times (IsOfTarget RanNone nodes times) recipe_ran_none

@@ -1,26 +1,22 @@
 -- Summaries that the laws accept, and others that they reject.
-use Rattle.std.proofs.Common.{◌≤◌, ◌≡◌, ◌<◌, ◌+◌, ℕ, zero, suc, List, [], ◌∷◌, ◌++◌, None, Some, get_or, length, replicate, inl, inr, refl, sym, subst, ap, ◌∙◌, arith}
+use Rattle.std.proofs.Common.{◌≤◌, ◌≡◌, ◌<◌, ◌+◌, ℕ, zero, suc, true, false, List, [], ◌∷◌, ◌++◌, None, Some, get_or, length, replicate, inl, inr, refl, sym, ap, ◌∙◌, arith}
 use Rattle.std.specs.List.{AllByRecursion}
 use Rattle.std.proofs.lemmas.List.Sorted.{length_permutation}
 use Rattle.std.proofs.lemmas.Option.{none-some, same_Some}
 use Rattle.redo_timeline.proofs.OrderLemmas.{sum_of-permutation}
 use Rattle.redo_timeline.proofs.OrderLemmas.{sum_of as added}
-use Rattle.redo_line.specs.declared.entry.Entry.{Entry}
-use Rattle.redo_line.specs.declared.entry.Entry.TheVariants.{Mention, Text}
-use Rattle.redo_line.specs.declared.entry.How.{How}
-use Rattle.redo_line.specs.declared.entry.How.TheVariants.{Locked, Made, Unchanged}
-use Rattle.redo_logs.specs.Logs.{Log, log_number}
 use Rattle.redo_facts.specs.declared.statement.Usage.{Usage}
 use Rattle.redo_times.specs.declared.times.Times.{Times}
 use Rattle.redo_outline.specs.declared.node.Node.{Node}
 use Rattle.redo_summary.specs.declared.rank.Rank.{Rank}
-use Rattle.redo_summary.specs.Laws.{AllRanOthers, AreDuring, AreInOrder, AreInOrderOfPosition, AreOfNodes, AreSplit, HasFirstTen, HasMemory, HasTimeAlone, IsBefore, IsProcessorTime, IsTable, Mentions, NoneRanOthers, Ran, RanOthers, warning_ranks}
+use Rattle.redo_summary.specs.Laws.{AreInOrder, AreInOrderOfPosition, AreOfNodes, AreSplit, HasFirstTen, HasMemory, HasTimeAlone, IsBefore, IsOfTarget, IsProcessorTime, IsTable, RanNone, RanOthers, warning_ranks}
 use Rattle.redo_summary.specs.Summary.{Facts}
+use Rattle.redo_summary.specs.Targets.{times_of}
 use Rattle.redo_summary.specs.Usage.{usage_at}
 use Rattle.redo_summary.specs.Window.{cut}
 use Rattle.redo_timeline.specs.Alone.{alone}
 use Rattle.redo_timeline.specs.declared.span.Span.{Span}
-use Rattle.redo_summary.proofs.SummaryRows.{log, mention, node, ran, rank, span, unknown, usage, used}
+use Rattle.redo_summary.proofs.SummaryRows.{node, ran, ran_some, rank, span, unknown, usage, used}
 
 -- ---- tables
 
@@ -118,127 +114,38 @@ rejected_orders = (
 
 -- A span is in no list, or in both.
 rejected_split :
-    ¬ AreSplit [] one_node (ran 1 9 ∷ []) no_facts
-    × ¬ AreSplit [] one_node (ran 1 9 ∷ []) (record no_facts { callers = span 0 1 9 ∷ []; recipes = span 0 1 9 ∷ [] })
+    ¬ AreSplit one_node (ran 1 9 ∷ []) no_facts
+    × ¬ AreSplit one_node (ran 1 9 ∷ []) (record no_facts { callers = span 0 1 9 ∷ []; recipes = span 0 1 9 ∷ [] })
 rejected_split = (
   λ split. let same : 0 ≡ 1 = length_permutation (span 0 1 9 ∷ []) [] split in omega (arith, same),
   λ split. let same : 2 ≡ 1 = length_permutation (span 0 1 9 ∷ []) (span 0 1 9 ∷ span 0 1 9 ∷ []) split in omega (arith, same),
 )
 
--- A target began before the span, ended after it, or ended when the span began. Then its beginning or its end is unknown.
-rejected_times :
-    ¬ AreDuring (span 0 10 20) (Some 9) (Some 15) × ¬ AreDuring (span 0 10 20) (Some 12) (Some 21)
-    × ¬ AreDuring (span 0 10 20) (Some 10) (Some 10)
-    × ¬ AreDuring (span 0 10 20) None (Some 15) × ¬ AreDuring (span 0 10 20) (Some 12) None × ¬ AreDuring (span 0 10 20) None None
-rejected_times = (
-  λ are. let low : 10 ≤ 9 = are.0 in omega (arith, low),
-  λ are. let high : 21 ≤ 20 = are.1 in omega (arith, high),
-  λ are. let after : 10 < 10 = are.2 in omega (arith, after),
-  λ are. are,
-  λ are. are,
-  λ are. are,
-)
-
 abbrev two_nodes : List Node
-two_nodes = node 0 None None 0 0 ∷ node 1 (Some 0) None 0 0 ∷ []
+two_nodes = node 1 None None 0 0 ∷ node 0 (Some 0) None 0 0 ∷ []
 
 abbrev two_times : List Times
-two_times = ran 10 90 ∷ ran 20 80 ∷ []
+two_times = ran 20 80 ∷ ran_some 10 90 ∷ []
 
--- Two logs. This is the only entry of the first one.
-abbrev logs_with : Entry → List Log
-logs_with entry = log 65 (entry ∷ []) ∷ log 66 [] ∷ []
+-- The target of the span ran others, or didn't, by the number of its log. Then there is no target at this position.
+accepted_run : IsOfTarget RanOthers two_nodes two_times (span 0 10 90) × IsOfTarget RanNone two_nodes two_times (span 1 20 80)
+accepted_run = ((node 1 None None 0 0, refl, refl), (node 0 (Some 0) None 0 0, refl, refl))
 
-accepted_run : RanOthers (logs_with (mention Made 66)) two_nodes two_times (span 0 10 90)
-accepted_run = (
-  node 0 None None 0 0,
-  refl,
-  1,
-  record {
-    mentions = record {
-      pid = 7;
-      how = Made;
-      name = 66 ∷ [];
-      is_entry = (0, omega arith, refl);
-      is_other = refl;
-      differs = λ same. omega (arith, same);
-      changed = λ same. cc;
-    };
-    during = (omega arith, omega arith, omega arith);
-  },
-)
-
--- The mention that is the only entry of a log.
-abbrev how_of : Entry → How
-how_of (Mention pid how name) = how
-how_of entry = Locked
-
-abbrev name_of : Entry → List ℕ
-name_of (Mention pid how name) = name
-name_of entry = []
-
-only_entry : (one other : Entry) (k : ℕ) → k < 1 → get_or (one ∷ []) k other ≡ other → one ≡ other
-only_entry one other zero below same = same
-only_entry one other (suc k) below same = absurd (omega (arith, below))
-
--- The log mentions no target; then the other one as unchanged; then a target without a log; then only its own target.
-mentions_none : (other : ℕ) → Mentions (logs_with (Text [])) 0 other → ⊥
-mentions_none other mentions =
-    let place = mentions.is_entry in
-    let name : [] ≡ mentions.name =
-    ap name_of (only_entry (Text []) (Mention mentions.pid mentions.how mentions.name) place.0 place.1 place.2)
-    in
-    none-some other (ap (λ (n : List ℕ). log_number n (logs_with (Text []))) name ∙ mentions.is_other)
-
-mentions_unchanged : (other : ℕ) → Mentions (logs_with (mention Unchanged 66)) 0 other → ⊥
-mentions_unchanged other mentions =
-    let place = mentions.is_entry in
-    mentions.changed (sym (ap how_of (only_entry (mention Unchanged 66) (Mention mentions.pid mentions.how mentions.name) place.0 place.1
-    place.2)))
-
-mentions_no_log : (other : ℕ) → Mentions (logs_with (mention Made 67)) 0 other → ⊥
-mentions_no_log other mentions =
-    let place = mentions.is_entry in
-    let name : 67 ∷ [] ≡ mentions.name =
-    ap name_of (only_entry (mention Made 67) (Mention mentions.pid mentions.how mentions.name) place.0 place.1 place.2) in
-    none-some other (ap (λ (n : List ℕ). log_number n (logs_with (mention Made 67))) name ∙ mentions.is_other)
-
-mentions_itself : (other : ℕ) → Mentions (logs_with (mention Made 65)) 0 other → ⊥
-mentions_itself other mentions =
-    let place = mentions.is_entry in
-    let name : 65 ∷ [] ≡ mentions.name =
-    ap name_of (only_entry (mention Made 65) (Mention mentions.pid mentions.how mentions.name) place.0 place.1 place.2) in
-    mentions.differs (sym (same_Some 0 other (ap (λ (n : List ℕ). log_number n (logs_with (mention Made 65))) name ∙ mentions.is_other)))
-
--- The other target began too early. Then nothing is mentioned.
 rejected_runs :
-    ¬ Ran (logs_with (mention Made 66)) (ran 10 90 ∷ ran 5 80 ∷ []) (span 0 10 90) 0 1
-    × ¬ Ran (logs_with (mention Unchanged 66)) two_times (span 0 10 90) 0 1
+    ¬ IsOfTarget RanOthers two_nodes two_times (span 1 20 80) × ¬ IsOfTarget RanNone two_nodes two_times (span 0 10 90)
+    × ¬ IsOfTarget RanNone two_nodes two_times (span 2 10 90)
 rejected_runs = (
-  λ run. let low : 10 ≤ 5 = run.during.0 in omega (arith, low),
-  λ run. mentions_unchanged 1 run.mentions,
+  λ (one, is_at, ran). by_none (sym (ap (λ (n : Node). times_of two_times n.number)
+      (same_Some (node 0 (Some 0) None 0 0) one is_at))) ran,
+  λ (one, is_at, ran). by_some (sym (ap (λ (n : Node). times_of two_times n.number) (same_Some (node 1 None None 0 0) one is_at))) ran,
+  λ (one, is_at, ran). none-some one is_at,
 )
+  where
+    by_none : {known : Times} → known ≡ ran 20 80 → known.ran_others ≡ true → ⊥
+    by_none same is = let differs : false ≡ true = sym (ap (λ (t : Times). t.ran_others) same) ∙ is in cc
 
--- The log of the span's target mentions the other one only as unchanged.
-ran_unmentioned : ¬ RanOthers (logs_with (mention Unchanged 66)) two_nodes two_times (span 0 10 90)
-ran_unmentioned (one, is_at, other, run) =
-    let same : node 0 None None 0 0 ≡ one = same_Some (node 0 None None 0 0) one is_at in
-    mentions_unchanged other
-    (subst (λ (n : Node). Mentions (logs_with (mention Unchanged 66)) n.number other) (sym same) run.mentions)
-
--- The log of the target at the span's position mentions nothing, but another log does.
-ran_at_other_position : ¬ RanOthers (logs_with (mention Made 66)) two_nodes two_times (span 1 10 90)
-ran_at_other_position (one, is_at, other, run) =
-    let same : node 1 (Some 0) None 0 0 ≡ one = same_Some (node 1 (Some 0) None 0 0) one is_at in
-    let mentions : Mentions (logs_with (mention Made 66)) 1 other =
-    subst (λ (n : Node). Mentions (logs_with (mention Made 66)) n.number other) (sym same) run.mentions in
-    let below = mentions.is_entry.1 in omega (arith, below)
-
--- A recipe is among the callers, and a caller among the recipes.
-rejected_lists :
-    ¬ AllRanOthers (logs_with (mention Unchanged 66)) two_nodes two_times (span 0 10 90 ∷ [])
-    × ¬ NoneRanOthers (logs_with (mention Made 66)) two_nodes two_times (span 0 10 90 ∷ [])
-rejected_lists = (λ all. ran_unmentioned all.0, λ lists. lists.0 accepted_run)
+    by_some : {known : Times} → known ≡ ran_some 10 90 → known.ran_others ≡ false → ⊥
+    by_some same is = let differs : true ≡ false = sym (ap (λ (t : Times). t.ran_others) same) ∙ is in cc
 
 -- ---- what recipes used
 

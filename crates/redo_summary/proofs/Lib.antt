@@ -1,7 +1,5 @@
 mod LawLemmas
 mod LawRows
-mod CallerLemmas
-mod RanOthersLemmas
 mod RankLemmas
 mod SummaryRows
 mod TableLemmas

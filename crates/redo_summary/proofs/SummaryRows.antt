@@ -1,11 +1,5 @@
 -- Rows of the facts about the times of shown targets. The values are worked out by hand.
-use Rattle.std.proofs.Common.{◌≡◌, ℕ, ℤ, pos, negsuc, zero, suc, true, false, List, [], ◌∷◌, Option, None, Some, map, replicate, refl, ap, arith}
-use Rattle.redo_line.specs.declared.entry.Entry.{Entry}
-use Rattle.redo_line.specs.declared.entry.Entry.TheVariants.{Text, Mention, Done, Closing, Note}
-use Rattle.redo_line.specs.declared.entry.How.{How}
-use Rattle.redo_line.specs.declared.entry.How.TheVariants.{Made, Waiting, Locked, Unlocked, Unchanged}
-use Rattle.redo_logs.specs.Logs.{Log}
-use Rattle.redo_logs.specs.declared.log_state.LogState.TheVariants.{Ended}
+use Rattle.std.proofs.Common.{◌≡◌, ℕ, ℤ, pos, negsuc, zero, suc, true, false, List, [], ◌∷◌, Option, None, Some, replicate, refl, ap, arith}
 use Rattle.redo_facts.specs.declared.statement.Usage.{Usage}
 use Rattle.redo_facts.specs.Facts.{RecipeFacts}
 use Rattle.redo_timeline.specs.declared.span.Span.{Span}
@@ -15,7 +9,6 @@ use Rattle.redo_summary.specs.declared.rank.Rank.{Rank}
 use Rattle.redo_summary.specs.declared.target.Target.{Target}
 use Rattle.redo_timeline.specs.Alone.{alone}
 use Rattle.redo_summary.specs.Laws.{HasTimeAlone}
-use Rattle.redo_summary.specs.Callers.{is_within, mentioned_log, ran_mentioned, ran_others}
 use Rattle.redo_summary.specs.Ranks.{alone_rank, alone_ranks, duration, first_ranks, longest_alone, longest_of, most_warned}
 use Rattle.redo_summary.specs.Summary.{Facts, bytes_of, is_timed, sum_of, summary_of, total, warnings_of}
 use Rattle.redo_summary.specs.Spans.{callers_of, mark_of, marks_of, recipes_of, span_of, targets_of}
@@ -26,13 +19,16 @@ use Rattle.redo_summary.specs.Window.{cut, known_times, time_over, window_over}
 -- ---- values
 
 abbrev pub ran : ℕ → ℕ → Times
-ran began ended = record { began = Some began; ended = Some ended }
+ran began ended = record { began = Some began; ended = Some ended; ran_others = false }
+
+abbrev pub ran_some : ℕ → ℕ → Times
+ran_some began ended = record { began = Some began; ended = Some ended; ran_others = true }
 
 abbrev pub began_at : ℕ → Times
-began_at time = record { began = Some time; ended = None }
+began_at time = record { began = Some time; ended = None; ran_others = false }
 
 abbrev pub ended_at : ℕ → Times
-ended_at time = record { began = None; ended = Some time }
+ended_at time = record { began = None; ended = Some time; ran_others = false }
 
 -- A node, by the number of its log, the position of its parent, its status, its number of bytes and its number of warnings.
 abbrev pub node : ℕ → Option ℕ → Option ℤ → ℕ → ℕ → Node
@@ -53,19 +49,11 @@ node number parent status bytes warnings = record {
   ended = None;
 }
 
--- The log of the target whose name is this one byte.
-abbrev pub log : ℕ → List Entry → Log
-log name entries = record { target = name ∷ []; entries = entries; state = Ended }
-
--- A mention of the target whose name is this one byte.
-abbrev pub mention : How → ℕ → Entry
-mention how name = Mention 7 how (name ∷ [])
-
 abbrev pub target : ℕ → Option ℕ → Times → Target
-target position parent times = record { position = position; parent = parent; failed = false; times = times; ran_others = false }
+target position parent times = record { position = position; parent = parent; failed = false; times = times }
 
 abbrev pub failed_target : ℕ → Option ℕ → Times → Target
-failed_target position parent times = record { position = position; parent = parent; failed = true; times = times; ran_others = false }
+failed_target position parent times = record { position = position; parent = parent; failed = true; times = times }
 
 abbrev pub span : ℕ → ℕ → ℕ → Span
 span position began ended = record { began = began; position = position; ended = ended; failed = false }
@@ -98,12 +86,12 @@ durations :
     × (duration_of few_times 5 ≡ Some 0) × (duration_of few_times 6 ≡ None)
 durations = (refl, refl, refl, refl, refl, refl, refl)
 
--- The number of a log says where its times are, and what it mentions. A target failed if its status is known and isn't 0.
+-- The number of a log says where its times are. A target failed if its status is known and isn't 0.
 these_targets :
-    targets_of (log 65 (mention Made 66 ∷ []) ∷ log 66 (mention Made 65 ∷ []) ∷ [])
+    targets_of
     (node 1 None None 0 0 ∷ node 0 (Some 0) (Some (pos 0)) 0 0 ∷ node 2 (Some 1) (Some (pos 2)) 0 0
     ∷ node 7 (Some 0) (Some (negsuc 8)) 0 0 ∷ []) (ran 3 4 ∷ ran 1 9 ∷ ended_at 5 ∷ [])
-    ≡ record (target 0 None (ran 1 9)) { ran_others = true } ∷ target 1 (Some 0) (ran 3 4) ∷ failed_target 2 (Some 1) (ended_at 5)
+    ≡ target 0 None (ran 1 9) ∷ target 1 (Some 0) (ran 3 4) ∷ failed_target 2 (Some 1) (ended_at 5)
     ∷ failed_target 3 (Some 0) no_times ∷ []
 these_targets = refl
 
@@ -128,61 +116,12 @@ marks_in_order = refl
 
 -- ---- callers
 
--- A time may touch both ends of the time around it. A time that ended when the one around it began isn't in it.
-inner_times :
-    (is_within (Some 10) (Some 20) (Some 10) (Some 20) ≡ true) × (is_within (Some 10) (Some 20) (Some 9) (Some 20) ≡ false)
-    × (is_within (Some 10) (Some 20) (Some 10) (Some 21) ≡ false) × (is_within (Some 10) (Some 20) (Some 10) (Some 10) ≡ false)
-    × (is_within (Some 10) (Some 20) (Some 10) (Some 11) ≡ true) × (is_within (Some 10) (Some 20) (Some 20) (Some 20) ≡ true)
-    × (is_within (Some 10) (Some 10) (Some 10) (Some 10) ≡ false)
-inner_times = (refl, refl, refl, refl, refl, refl, refl)
-
-unknown_times :
-    (is_within None (Some 20) (Some 12) (Some 18) ≡ false) × (is_within (Some 10) None (Some 12) (Some 18) ≡ false)
-    × (is_within (Some 10) (Some 20) None (Some 18) ≡ false) × (is_within (Some 10) (Some 20) (Some 12) None ≡ false)
-unknown_times = (refl, refl, refl, refl)
-
--- The first log is for `A`, the second one for `B`. `C` has no log.
-abbrev two_logs : List Log
-two_logs = log 65 [] ∷ log 66 [] ∷ []
-
-mentioned_logs : map (mentioned_log two_logs)
-    (mention Made 66 ∷ mention Waiting 66 ∷ mention Locked 66 ∷ mention Unlocked 65 ∷ mention Unchanged 66 ∷ mention Made 67
-    ∷ Text (66 ∷ []) ∷ Done 7 (pos 0) (66 ∷ []) ∷ Closing 7 (pos 0) ∷ Note 7 (66 ∷ []) (66 ∷ []) ∷ [])
-    ≡ Some 1 ∷ Some 1 ∷ Some 1 ∷ Some 0 ∷ None ∷ None ∷ None ∷ None ∷ None ∷ None ∷ []
-mentioned_logs = refl
-
--- A target in the time of another one; itself; one that began before; one without times; one past the end of the list.
-mentioned_runs : map (ran_mentioned (ran 10 20 ∷ ran 12 18 ∷ ran 5 15 ∷ no_times ∷ []) 0)
-    (Some 1 ∷ Some 0 ∷ Some 2 ∷ Some 3 ∷ Some 4 ∷ None ∷ [])
-    ≡ true ∷ false ∷ false ∷ false ∷ false ∷ false ∷ []
-mentioned_runs = refl
-
--- The log of `A` mentions `B`, which began before, `A` itself and, after some text, `C`, which ran while `A` did. The log of `B` mentions `D`
--- as unchanged, though it ran while `B` did. The log of `C` mentions `A`, which ran longer. The log of `D` mentions `E`, whose times aren't
--- known, and `F`, which has no log. The log of `E` mentions `D`.
-abbrev family : List Log
-family =
-    log 65 (mention Made 65 ∷ mention Made 66 ∷ Text [] ∷ Text (67 ∷ []) ∷ mention Made 67 ∷ mention Made 66 ∷ [])
-    ∷ log 66 (mention Unchanged 68 ∷ Done 7 (pos 0) (68 ∷ []) ∷ []) ∷ log 67 (mention Made 65 ∷ [])
-    ∷ log 68 (mention Made 69 ∷ mention Made 70 ∷ []) ∷ log 69 (mention Made 68 ∷ []) ∷ []
-
-ran_in_family : map (ran_others family (ran 10 90 ∷ ran 5 80 ∷ ran 20 80 ∷ ran 30 40 ∷ no_times ∷ ran 31 39 ∷ []))
-    (0 ∷ 1 ∷ 2 ∷ 3 ∷ 4 ∷ 5 ∷ [])
-    ≡ true ∷ false ∷ false ∷ false ∷ false ∷ false ∷ []
-ran_in_family = refl
-
--- The same log twice: what it mentions is needed elsewhere too. Both targets ran it.
-shared : map
-    (ran_others (log 65 (mention Made 67 ∷ []) ∷ log 66 (mention Waiting 67 ∷ []) ∷ log 67 [] ∷ []) (ran 10 90 ∷ ran 5 95 ∷ ran 20 30 ∷ []))
-    (0 ∷ 1 ∷ 2 ∷ []) ≡ true ∷ true ∷ false ∷ []
-shared = refl
-
 -- The targets that ran others are callers, and all others whose times are known are recipes.
 abbrev several : List Target
 several =
-    record (target 0 None (ran 10 90)) { ran_others = true } ∷ failed_target 1 (Some 0) (ran 20 80)
-    ∷ record (failed_target 2 (Some 0) (ran 30 40)) { ran_others = true } ∷ target 3 (Some 1) (ran 13 19)
-    ∷ record (target 4 (Some 1) (began_at 13)) { ran_others = true } ∷ target 5 None (ended_at 14) ∷ []
+    target 0 None (ran_some 10 90) ∷ failed_target 1 (Some 0) (ran 20 80) ∷ failed_target 2 (Some 0) (ran_some 30 40)
+    ∷ target 3 (Some 1) (ran 13 19) ∷ target 4 (Some 1) (record { began = Some 13; ended = None; ran_others = true })
+    ∷ target 5 None (ended_at 14) ∷ []
 
 split_several :
     (callers_of several ≡ span 0 10 90 ∷ failed 2 30 40 ∷ []) × (recipes_of several ≡ failed 1 20 80 ∷ span 3 13 19 ∷ [])
@@ -263,11 +202,6 @@ sums = (refl, refl, refl)
 
 -- ---- the whole
 
--- The logs of three targets, and the log of a fourth one, which mentions them.
-abbrev pub four_logs : List Log
-four_logs =
-    log 65 [] ∷ log 66 [] ∷ log 67 [] ∷ log 68 (mention Made 68 ∷ mention Made 65 ∷ mention Made 66 ∷ mention Made 67 ∷ []) ∷ []
-
 -- A requested target ran for 90 milliseconds. It ran two others, which failed, one after another. Only the end of the last target is
 -- known.
 abbrev pub small_build : Facts
@@ -287,7 +221,7 @@ small_build = record {
 }
 
 whole :
-    (summary_of four_logs (node 3 None (Some (pos 1)) 10 0 ∷ []) [] ≡ record {
+    (summary_of (node 3 None (Some (pos 1)) 10 0 ∷ []) [] ≡ record {
       window = None;
       took = 0;
       callers = [];
@@ -301,14 +235,14 @@ whole :
       alone = [];
       warned = [];
     })
-    × (summary_of four_logs (node 3 None (Some (pos 0)) 10 0 ∷ node 0 (Some 0) (Some (pos 1)) 20 0 ∷ node 2 (Some 0) (Some (pos 2)) 30 4
-    ∷ node 1 (Some 0) None 40 2 ∷ []) (ran 1020 1050 ∷ ended_at 1095 ∷ ran 1050 1090 ∷ ran 1010 1100 ∷ ran 1 9999 ∷ []) ≡ small_build)
+    × (summary_of (node 3 None (Some (pos 0)) 10 0 ∷ node 0 (Some 0) (Some (pos 1)) 20 0 ∷ node 2 (Some 0) (Some (pos 2)) 30 4
+    ∷ node 1 (Some 0) None 40 2 ∷ []) (ran 1020 1050 ∷ ended_at 1095 ∷ ran 1050 1090 ∷ ran_some 1010 1100 ∷ ran 1 9999 ∷ []) ≡ small_build)
 whole = (refl, refl)
 
 -- No target. Then a requested target that failed: it ran two others at once, and one of these failed. Only the end of a third one is
 -- known, and no time of a fourth one.
 other_builds :
-    (summary_of [] [] [] ≡ record {
+    (summary_of [] [] ≡ record {
       window = None;
       took = 0;
       callers = [];
@@ -322,9 +256,9 @@ other_builds :
       alone = [];
       warned = [];
     })
-    × (summary_of four_logs (node 3 None (Some (pos 1)) 10 0 ∷ node 0 (Some 0) (Some (pos 0)) 20 0 ∷ node 2 (Some 0) (Some (pos 2)) 30 4
+    × (summary_of (node 3 None (Some (pos 1)) 10 0 ∷ node 0 (Some 0) (Some (pos 0)) 20 0 ∷ node 2 (Some 0) (Some (pos 2)) 30 4
     ∷ node 1 (Some 0) None 40 2 ∷ node 9 (Some 2) None 50 0 ∷ [])
-    (ran 1020 1070 ∷ ended_at 1095 ∷ ran 1050 1090 ∷ ran 1010 1100 ∷ ran 1 9999 ∷ []) ≡ record {
+    (ran 1020 1070 ∷ ended_at 1095 ∷ ran 1050 1090 ∷ ran_some 1010 1100 ∷ ran 1 9999 ∷ []) ≡ record {
       window = Some (record { began = 1010; width = 90 });
       took = 90;
       callers = failed 0 1010 1100 ∷ [];
@@ -342,9 +276,9 @@ other_builds = (refl, refl)
 
 -- A requested target ran two others at once: recipes count in `sum` and `most`, and their caller doesn't.
 overlap :
-    summary_of (log 65 (mention Made 66 ∷ mention Made 67 ∷ []) ∷ log 66 [] ∷ log 67 [] ∷ [])
+    summary_of
     (node 0 None (Some (pos 0)) 10 0 ∷ node 1 (Some 0) (Some (pos 0)) 20 0 ∷ node 2 (Some 0) (Some (pos 0)) 30 0 ∷ [])
-    (ran 1000 1100 ∷ ran 1010 1050 ∷ ran 1040 1090 ∷ []) ≡ record {
+    (ran_some 1000 1100 ∷ ran 1010 1050 ∷ ran 1040 1090 ∷ []) ≡ record {
       window = Some (record { began = 1000; width = 100 });
       took = 100;
       callers = span 0 1000 1100 ∷ [];

@@ -4,7 +4,6 @@ use Rattle.std.specs.Prelude.{option_map, option_to_list, unwrap_or}
 use Rattle.std.proofs.lemmas.Bool.{leb-true, leb-false}
 use Rattle.std.proofs.lemmas.Option.{none-some, same_Some}
 use Rattle.redo_timeline.specs.declared.span.Window.{Window}
-use Rattle.redo_logs.specs.Logs.{Log}
 use Rattle.redo_times.specs.declared.times.Times.{Times}
 use Rattle.redo_times.specs.Laws.{IsFirst, IsLast}
 use Rattle.redo_times.specs.Times.{earlier, first_time, last_time, later}
@@ -84,7 +83,7 @@ last_in (one ∷ times) time is = by (last_time times) refl (same_Some (later on
 
 -- ---- times of targets
 
-module _ (logs : List Log) (times : List Times) where
+module _ (times : List Times) where
   one_known : (began ended : Option ℕ) (rest : List ℕ) (time : ℕ) → IsIn ((option_to_list began ++ option_to_list ended) ++ rest) time
       → ((began ≡ Some time) ⊎ (ended ≡ Some time)) ⊎ IsIn rest time
   one_known None None rest time here = inr here
@@ -115,7 +114,7 @@ module _ (logs : List Log) (times : List Times) where
   rest_in (Some began) (Some ended) rest time here = inr (inr here)
 
   abbrev all_times : ℕ → List Node → List ℕ
-  all_times position nodes = known_times (targets_from logs times position nodes)
+  all_times position nodes = known_times (targets_from times position nodes)
 
   known : (position : ℕ) (nodes : List Node) (time : ℕ) → IsIn (all_times position nodes) time → IsKnown nodes times time
   known position [] time here = absurd here
@@ -142,12 +141,12 @@ module _ (logs : List Log) (times : List Times) where
       rest_in (times_of times other.number).began (times_of times other.number).ended (all_times (position + 1) nodes) time
       (is_known (position + 1) nodes time node k (omega (arith, below)) same has)
 
-pub window_is : (logs : List Log) (nodes : List Node) (times : List Times) (window : Window)
-    → (summary_of logs nodes times).window ≡ Some window → IsOverTimes nodes times (summary_of logs nodes times).took window
-window_is logs nodes times window is = by (first_time all) refl (last_time all) refl is
+pub window_is : (nodes : List Node) (times : List Times) (window : Window)
+    → (summary_of nodes times).window ≡ Some window → IsOverTimes nodes times (summary_of nodes times).took window
+window_is nodes times window is = by (first_time all) refl (last_time all) refl is
   where
     all : List ℕ
-    all = known_times (targets_of logs nodes times)
+    all = known_times (targets_of nodes times)
 
     over : ℕ → Window
     over began = record { began = began; width = max 1 (time_over all) }
@@ -166,30 +165,30 @@ window_is logs nodes times window is = by (first_time all) refl (last_time all) 
         let most = last_in all last last_is in
         subst (IsOverTimes nodes times (time_over all)) same (record {
           begins = record {
-            is = known logs times 0 nodes first least.is;
-            none_earlier = λ other has. least.none_earlier other (is_known logs times 0 nodes other has.0 has.1.0 has.1.1 has.1.2 has.2);
+            is = known times 0 nodes first least.is;
+            none_earlier = λ other has. least.none_earlier other (is_known times 0 nodes other has.0 has.1.0 has.1.1 has.1.2 has.2);
           };
           last = last;
           ends = record {
-            is = known logs times 0 nodes last most.is;
-            none_later = λ other has. most.none_later other (is_known logs times 0 nodes other has.0 has.1.0 has.1.1 has.1.2 has.2);
+            is = known times 0 nodes last most.is;
+            none_later = λ other has. most.none_later other (is_known times 0 nodes other has.0 has.1.0 has.1.1 has.1.2 has.2);
           };
           lasts = ap (λ (t : Option ℕ). cut (unwrap_or t 0 - unwrap_or (first_time all) 0)) last_is
               ∙ ap (λ (t : Option ℕ). cut (last - unwrap_or t 0)) first_is;
           width = refl;
         })
 
-pub no_window : (logs : List Log) (nodes : List Node) (times : List Times) (time : ℕ) → (summary_of logs nodes times).window ≡ None
+pub no_window : (nodes : List Node) (times : List Times) (time : ℕ) → (summary_of nodes times).window ≡ None
     → IsKnown nodes times time → ⊥
-no_window logs nodes times time none has =
+no_window nodes times time none has =
     by (first_time all) refl none
   where
     all : List ℕ
-    all = known_times (targets_of logs nodes times)
+    all = known_times (targets_of nodes times)
 
     over : ℕ → Window
     over began = record { began = began; width = max 1 (time_over all) }
 
     by : (first : Option ℕ) → first_time all ≡ first → option_map over first ≡ None → ⊥
-    by None first_is lacks = none_in all first_is time (is_known logs times 0 nodes time has.0 has.1.0 has.1.1 has.1.2 has.2)
+    by None first_is lacks = none_in all first_is time (is_known times 0 nodes time has.0 has.1.0 has.1.1 has.1.2 has.2)
     by (Some first) first_is lacks = none-some (over first) (sym lacks)

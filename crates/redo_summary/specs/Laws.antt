@@ -1,11 +1,7 @@
 -- The statements of the laws.
-use Rattle.std.specs.Prelude.{◌≡◌, ℕ, ◌+◌, ◌-◌, ◌<◌, ◌≤◌, ◌⊎◌, max, min, ltb, List, [], ◌∷◌, ◌++◌, length, filter, Option, None, Some, slice_get, sum_by}
+use Rattle.std.specs.Prelude.{◌≡◌, ℕ, ◌+◌, ◌-◌, ◌<◌, ◌≤◌, ◌⊎◌, max, min, ltb, true, false, List, [], ◌∷◌, ◌++◌, length, filter, Option, None, Some, slice_get, sum_by}
 use Rattle.std.specs.List.{AllByRecursion, Contains}
 use Rattle.std.specs.List.Sorted.{IsPermutation}
-use Rattle.redo_line.specs.declared.entry.Entry.TheVariants.{Mention}
-use Rattle.redo_line.specs.declared.entry.How.{How}
-use Rattle.redo_line.specs.declared.entry.How.TheVariants.{Unchanged}
-use Rattle.redo_logs.specs.Logs.{Log, log_number}
 use Rattle.redo_facts.specs.declared.statement.Usage.{Usage}
 use Rattle.redo_facts.specs.Facts.{RecipeFacts}
 use Rattle.redo_timeline.specs.declared.span.Span.{Span}
@@ -15,7 +11,7 @@ use Rattle.redo_timeline.specs.Parallelism.{most_of}
 use Rattle.redo_times.specs.declared.times.Times.{Times}
 use Rattle.redo_times.specs.Laws.{IsFirst, IsLast}
 use Rattle.redo_outline.specs.declared.node.Node.{Node}
-use Rattle.redo_outline.specs.Facts.{entries_at, is_failure, saturated}
+use Rattle.redo_outline.specs.Facts.{is_failure, saturated}
 use Rattle.redo_summary.specs.declared.rank.Rank.{Rank}
 use Rattle.redo_summary.specs.Spans.{spans_of, targets_of}
 use Rattle.redo_summary.specs.Ranks.{warnings_from}
@@ -52,41 +48,8 @@ pub record AreInOrderOfPosition (facts : Facts) : Type 0 where
   pub marks : AreRisingFrom 0 facts.marks
 
 -- Each span of a shown target is in exactly one of the lists.
-abbrev pub AreSplit : List Log → List Node → List Times → Facts → Type 0
-AreSplit logs nodes times facts = IsPermutation (spans_of (targets_of logs nodes times)) (facts.callers ++ facts.recipes)
-
--- A beginning and an end are known. They are in a span, and the end is after the beginning of the span.
-abbrev pub AreDuring : Span → Option ℕ → Option ℕ → Type 0
-AreDuring span (Some began) (Some ended) = (span.began ≤ began) × (ended ≤ span.ended) × (span.began < ended)
-AreDuring span began ended = ⊥
-
--- An entry of the log with this number mentions the target of another log, and not as unchanged.
-pub record Mentions (logs : List Log) (number other : ℕ) : Type 0 where
-  pub pid : ℕ
-  pub how : How
-  pub name : List ℕ
-  pub is_entry : Contains (entries_at number logs) (Mention pid how name)
-  pub is_other : log_number name logs ≡ Some other
-  pub differs : ¬ (other ≡ number)
-  pub changed : ¬ (how ≡ Unchanged)
-
--- The target of a span, whose log has this number, ran the target of another log: its log mentions that one, which began and ended in
--- the span.
-pub record Ran (logs : List Log) (times : List Times) (span : Span) (number other : ℕ) : Type 0 where
-  pub mentions : Mentions logs number other
-  pub during : AreDuring span (times_of times other).began (times_of times other).ended
-
--- The target of a span ran another one.
-abbrev pub RanOthers : List Log → List Node → List Times → Span → Type 0
-RanOthers logs nodes times span =
-    (node : Node) × (slice_get nodes span.position ≡ Some node) × (other : ℕ) × Ran logs times span node.number other
-
--- The target of each span ran others, or none did.
-abbrev pub AllRanOthers : List Log → List Node → List Times → List Span → Type 0
-AllRanOthers logs nodes times spans = AllByRecursion (RanOthers logs nodes times) spans
-
-abbrev pub NoneRanOthers : List Log → List Node → List Times → List Span → Type 0
-NoneRanOthers logs nodes times spans = AllByRecursion (λ (span : Span). ¬ RanOthers logs nodes times span) spans
+abbrev pub AreSplit : List Node → List Times → Facts → Type 0
+AreSplit nodes times facts = IsPermutation (spans_of (targets_of nodes times)) (facts.callers ++ facts.recipes)
 
 -- A shown target began or ended at this time.
 abbrev pub HasTime : Times → ℕ → Type 0
@@ -106,6 +69,13 @@ pub record IsMarkOf (known : Times) (node : Node) (mark : Span) : Type 0 where
   pub time : HasTime known mark.began
   pub moment : mark.ended ≡ mark.began
   pub failed : mark.failed ≡ is_failure node.status
+
+-- The span of a target that ran others, or of one that ran none.
+abbrev pub RanOthers : Times → Node → Span → Type 0
+RanOthers known node span = known.ran_others ≡ true
+
+abbrev pub RanNone : Times → Node → Span → Type 0
+RanNone known node span = known.ran_others ≡ false
 
 -- A span is of the target at its position.
 abbrev pub IsOfTarget : (Times → Node → Span → Type 0) → List Node → List Times → Span → Type 0

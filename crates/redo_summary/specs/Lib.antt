@@ -1,5 +1,4 @@
 pub mod Laws
-pub mod Callers
 pub mod Private
 pub mod Ranks
 pub mod Spans

@@ -1,32 +1,29 @@
 -- The spans and marks of the shown targets.
 use Rattle.std.specs.Prelude.{ℕ, ◌+◌, List, [], ◌∷◌, Option, None, Some, filter_map, option_map, if◌then◌else◌}
-use Rattle.redo_logs.specs.Logs.{Log}
 use Rattle.redo_timeline.specs.declared.span.Span.{Span}
 use Rattle.redo_times.specs.declared.times.Times.{Times}
 use Rattle.redo_outline.specs.declared.node.Node.{Node}
 use Rattle.redo_outline.specs.Facts.{is_failure}
 use Rattle.redo_summary.specs.declared.target.Target.{Target}
-use Rattle.redo_summary.specs.Callers.{ran_others}
 use Rattle.redo_summary.specs.Targets.{times_of}
 
 -- The target of a node at this position.
-abbrev pub target_of : List Log → List Times → ℕ → Node → Target
-target_of logs times position node = record {
+abbrev pub target_of : List Times → ℕ → Node → Target
+target_of times position node = record {
   position = position;
   parent = node.parent;
   failed = is_failure node.status;
   times = times_of times node.number;
-  ran_others = ran_others logs times node.number;
 }
 
 -- The targets of some nodes. The first node has this position.
-abbrev pub targets_from : List Log → List Times → ℕ → List Node → List Target
-targets_from logs times position [] = []
-targets_from logs times position (node ∷ nodes) = target_of logs times position node ∷ targets_from logs times (position + 1) nodes
+abbrev pub targets_from : List Times → ℕ → List Node → List Target
+targets_from times position [] = []
+targets_from times position (node ∷ nodes) = target_of times position node ∷ targets_from times (position + 1) nodes
 
 -- The shown targets.
-abbrev pub targets_of : List Log → List Node → List Times → List Target
-targets_of logs nodes times = targets_from logs times 0 nodes
+abbrev pub targets_of : List Node → List Times → List Target
+targets_of nodes times = targets_from times 0 nodes
 
 -- The span of a target from one time to another.
 abbrev pub span_between : Target → ℕ → ℕ → Span
@@ -54,10 +51,10 @@ mark_of target = option_map (λ time. span_between target time time) (only_time 
 
 -- The span of a target that ran others, or of one that ran none.
 abbrev pub caller_span : Target → Option Span
-caller_span target = if target.ran_others then span_of target else None
+caller_span target = if target.times.ran_others then span_of target else None
 
 abbrev pub recipe_span : Target → Option Span
-recipe_span target = if target.ran_others then None else span_of target
+recipe_span target = if target.times.ran_others then None else span_of target
 
 -- The spans of targets, in order of position: of all, of those that ran others, and of all others.
 abbrev pub spans_of : List Target → List Span

@@ -1,6 +1,5 @@
 -- The facts about the times of the shown targets.
 use Rattle.std.specs.Prelude.{ℕ, ◌+◌, ◌*◌, Bool, ◌&&◌, leb, ltb, List, Option, length, sum_by}
-use Rattle.redo_logs.specs.Logs.{Log}
 use Rattle.redo_timeline.specs.declared.span.Span.{Span}
 use Rattle.redo_timeline.specs.declared.span.Window.{Window}
 use Rattle.redo_timeline.specs.Parallelism.{most_of}
@@ -64,8 +63,8 @@ facts_of nodes targets = record {
   warned = most_warned nodes;
 }
 
-abbrev pub summary_of : List Log → List Node → List Times → Facts
-summary_of logs nodes times = facts_of nodes (targets_of logs nodes times)
+abbrev pub summary_of : List Node → List Times → Facts
+summary_of nodes times = facts_of nodes (targets_of nodes times)
 
 -- Whether there is a timeline: there is a span, and at most a tenth of the spans and marks are marks.
 abbrev pub is_timed : Facts → Bool

@@ -1,10 +1,10 @@
 -- When the targets of logs ran.
-use Rattle.std.specs.Prelude.{ℕ, ◌-◌, List, Option, None, Some, slice_index_or}
+use Rattle.std.specs.Prelude.{ℕ, ◌-◌, false, List, Option, None, Some, slice_index_or}
 use Rattle.redo_times.specs.declared.times.Times.{Times}
 
 -- The times of a target without any known time.
 abbrev pub no_times : Times
-no_times = record { began = None; ended = None }
+no_times = record { began = None; ended = None; ran_others = false }
 
 -- The times of the target of the log with this number. Nothing is known of a target past the end of the list.
 abbrev pub times_of : List Times → ℕ → Times

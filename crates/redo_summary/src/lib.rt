@@ -9,11 +9,9 @@
 //! - *Shown target*: the target of a node. Its *position* is the node's position.
 //! - *Span*: the time from when a target began to when it ended, if both are known.
 //! - *Mark*: the one time that is known of a target, as a span without length.
-//! - *Caller*: the span of a target that ran another one: its log mentions that one, which began and ended within the span. All other
-//!   spans are *recipes*.
+//! - *Caller*: the span of a target that ran others, as `redo_times` says. All other spans are *recipes*.
 #![tactic(auto)]
 
-mod callers;
 mod laws;
 mod rank;
 mod ranking;

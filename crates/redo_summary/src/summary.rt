@@ -9,7 +9,6 @@ use crate::spans::{list_callers, list_marks, list_recipes};
 use crate::targets::list_targets;
 use crate::totals::{bytes_of, sum_of, warnings_of};
 use crate::window::{time_over, window_over};
-use redo_logs::LogTable;
 use redo_outline::Node;
 use redo_timeline::{Span, Window, most_at_once};
 use redo_times::Times;
@@ -59,19 +58,13 @@ impl Model for Summary {
 }
 
 impl Summary {
-    /// Summarizes the times of the targets of some nodes, whose logs are in the table. The target of a node has the times at the position
-    /// that is the number of its log. Nothing is known of a target past the end of the list. The only error is out of memory.
+    /// Summarizes the times of the targets of some nodes. The target of a node has the times at the position that is the number of its log. Nothing is known of a target past the end of the list. The only error is out of memory.
     ///
-    /// For n nodes, this takes O(n log n) time, and for their logs linear time.
-    pub fn new(
-        alloc: Global,
-        table: &LogTable,
-        nodes: &[Node],
-        times: &[Times],
-    ) -> Result<Summary, AllocError>
-        ensures { IfOk result (λ summary. summary ≡ summary_of table.now nodes.now times.now) }
+    /// For n nodes, this takes O(n log n) time.
+    pub fn new(alloc: Global, nodes: &[Node], times: &[Times]) -> Result<Summary, AllocError>
+        ensures { IfOk result (λ summary. summary ≡ summary_of nodes.now times.now) }
     {
-        let targets = list_targets(alloc, table, nodes, times)?;
+        let targets = list_targets(alloc, nodes, times)?;
         let callers = list_callers(alloc, &targets)?;
         let recipes = list_recipes(alloc, &targets)?;
         let marks = list_marks(alloc, &targets)?;
@@ -112,8 +105,7 @@ impl Summary {
         self.took
     }
 
-    /// Returns the spans of the targets that ran others, in order of position. A target ran another one if its log mentions that one,
-    /// which isn't unchanged, and if its span contains the span of that one, which ended after it began.
+    /// Returns the spans of the targets that ran others, in order of position.
     pub fn callers(&self) -> &[Span]
         ensures { result.now ≡ self.now.callers }
     {

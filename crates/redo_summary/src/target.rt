@@ -13,8 +13,6 @@ pub struct Target {
     pub parent: Option<usize>,
     pub failed: bool,
     pub times: Times,
-    /// Whether it ran others.
-    pub ran_others: bool,
 }
 
 impl Target {
@@ -32,14 +30,22 @@ impl Target {
     pub fn caller_span(&self) -> Option<Span>
         ensures { result ≡ caller_span self.now }
     {
-        if self.ran_others { self.span() } else { None }
+        if self.times.ran_others {
+            self.span()
+        } else {
+            None
+        }
     }
 
     /// Returns the span of the target, if both times are known and it ran no others.
     pub fn recipe_span(&self) -> Option<Span>
         ensures { result ≡ recipe_span self.now }
     {
-        if self.ran_others { None } else { self.span() }
+        if self.times.ran_others {
+            None
+        } else {
+            self.span()
+        }
     }
 
     /// Returns the mark of the target, if one time is known. The log of a run by make is the log of a requested target, and may say

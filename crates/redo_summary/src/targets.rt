@@ -4,9 +4,7 @@ ghost use Rattle.redo_outline.specs.Facts.{is_failure};
 ghost use Rattle.redo_summary.specs.Spans.{target_of, targets_of};
 ghost use Rattle.redo_summary.specs.Targets.{duration_of, times_of};
 
-use crate::callers::ran_others;
 use crate::target::Target;
-use redo_logs::{LogTable, Numbered};
 use redo_outline::Node;
 use redo_times::Times;
 use std::alloc::{AllocError, Global};
@@ -26,30 +24,27 @@ pub fn duration_of(times: &[Times], number: u32) -> Option<u64>
 /// Returns the shown targets.
 pub fn list_targets(
     alloc: Global,
-    table: &LogTable,
     nodes: &[Node],
     times: &[Times],
 ) -> Result<Vec<Target>, AllocError>
-    ensures { IfOk result (λ targets. targets.items ≡ targets_of table.now nodes.now times.now) }
+    ensures { IfOk result (λ targets. targets.items ≡ targets_of nodes.now times.now) }
 {
-    let logs = table.numbered();
     let mut targets = Vec::new(alloc);
     for (position, node) in nodes.iter().enumerate() {
-        targets.push(target_of(&logs, times, position, node))?;
+        targets.push(target_of(times, position, node))?;
     }
     Ok(targets)
 }
 
 // Returns the target of the node at this position.
-fn target_of(logs: &Numbered<'_>, times: &[Times], position: usize, node: &Node) -> Target
-    ensures { result ≡ target_of logs.now.logs times.now position node.now }
+fn target_of(times: &[Times], position: usize, node: &Node) -> Target
+    ensures { result ≡ target_of times.now position node.now }
 {
     Target {
         position,
         parent: node.parent,
         failed: is_failure(node.status),
         times: times_of(times, node.number),
-        ran_others: ran_others(logs, times, node.number),
     }
 }
 
@@ -62,6 +57,7 @@ pub fn times_of(times: &[Times], number: u32) -> Times
         None => Times {
             began: None,
             ended: None,
+            ran_others: false,
         },
     }
 }

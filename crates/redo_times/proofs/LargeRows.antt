@@ -11,9 +11,9 @@ use Rattle.redo_name.specs.Names.{normal, reduce_suffix}
 use Rattle.redo_line.specs.declared.entry.Entry.TheVariants.{Closing, Done, Mention}
 use Rattle.redo_line.specs.declared.entry.How.TheVariants.{Made, Waiting, Locked, Unlocked, Unchanged}
 use Rattle.redo_times.specs.declared.report.Report.{Report}
-use Rattle.redo_times.specs.declared.report.Stage.TheVariants.{BeganInOtherLog, EndedInOtherLog, EndedInOwnLog}
+use Rattle.redo_times.specs.declared.report.Stage.TheVariants.{BeganInOtherLog, EndedInOtherLog, EndedInOwnLog, RunsOther}
 use Rattle.redo_times.specs.Readers.{logs_of, times_of_all}
-use Rattle.redo_times.specs.Report.{report_of, reports_in, stage_of}
+use Rattle.redo_times.specs.Report.{line_reports, reports_in, stages_of}
 use Rattle.redo_times.specs.Time.{time_value}
 use Rattle.redo_times.specs.Times.{before_end, first_time, last_time, times_at}
 
@@ -53,8 +53,8 @@ unfolding time_value split_once number
 fractions = refl
 
 -- Only the mention `do` says that a target began.
-mentions : map (λ how. stage_of (codes "a") (Mention 7 how (codes "b"))) (Waiting ∷ Locked ∷ Unlocked ∷ Unchanged ∷ [])
-    ≡ None ∷ None ∷ None ∷ None ∷ []
+mentions : map (λ how. stages_of (codes "a") (Mention 7 how (codes "b"))) (Waiting ∷ Locked ∷ Unlocked ∷ Unchanged ∷ [])
+    ≡ replicate 3 ((RunsOther, codes "a") ∷ []) ++ [] ∷ []
 mentions = refl
 
 -- A log has all bytes of its stream, however many they are, even if a failed read ends it.
@@ -63,17 +63,17 @@ whole_streams : (target bytes : List ℕ) (fails : Bool)
 whole_streams target bytes fails = refl
 
 -- A `done` record with any status says that a target ended.
-done_records : map (λ status. stage_of (codes "a") (Done 7 status (codes "b")))
-    (pos 0 ∷ pos 1 ∷ pos 2 ∷ pos 130 ∷ negsuc 0 ∷ negsuc 8 ∷ []) ≡ replicate 6 (Some (EndedInOtherLog, codes "b"))
+done_records : map (λ status. stages_of (codes "a") (Done 7 status (codes "b")))
+    (pos 0 ∷ pos 1 ∷ pos 2 ∷ pos 130 ∷ negsuc 0 ∷ negsuc 8 ∷ []) ≡ replicate 6 ((EndedInOtherLog, codes "b") ∷ (RunsOther, codes "a") ∷ [])
 done_records = refl
 
-closing_records : map (λ status. stage_of (codes "a") (Closing 7 status)) (pos 0 ∷ pos 1 ∷ pos 2 ∷ pos 130 ∷ negsuc 0 ∷ negsuc 8 ∷ [])
-    ≡ replicate 6 (Some (EndedInOwnLog, codes "a"))
+closing_records : map (λ status. stages_of (codes "a") (Closing 7 status)) (pos 0 ∷ pos 1 ∷ pos 2 ∷ pos 130 ∷ negsuc 0 ∷ negsuc 8 ∷ [])
+    ≡ replicate 6 ((EndedInOwnLog, codes "a") ∷ [])
 closing_records = refl
 
 -- A `do` record of any process says that a target began.
-do_records : map (λ pid. stage_of (codes "a") (Mention pid Made (codes "b"))) (0 ∷ 1 ∷ 7 ∷ 32768 ∷ 4194304 ∷ [])
-    ≡ replicate 5 (Some (BeganInOtherLog, codes "b"))
+do_records : map (λ pid. stages_of (codes "a") (Mention pid Made (codes "b"))) (0 ∷ 1 ∷ 7 ∷ 32768 ∷ 4194304 ∷ [])
+    ≡ replicate 5 ((BeganInOtherLog, codes "b") ∷ (RunsOther, codes "a") ∷ [])
 do_records = refl
 
 -- The log of the last of 151 targets says when it ended.
@@ -85,10 +85,10 @@ many_logs :
     (times_of_all 1000 (replicate 150 (codes "b") ++ codes "a" ∷ [])
     (replicate 150 (stream []) ++ stream (with_line_feed (codes "@@REDO:done:7:1700000004@@ 2 a")) ∷ []))
     150
-    ≡ Some (record { began = None; ended = Some 1700000004000 })
-unfolding split_lines ended record_fields fields_of status_of split_once after_prefix normal reduce_suffix number time_value entry_of record_entry report_of
+    ≡ Some (record { began = None; ended = Some 1700000004000; ran_others = false })
+unfolding split_lines ended record_fields fields_of status_of split_once after_prefix normal reduce_suffix number time_value entry_of record_entry line_reports
 many_logs = refl
 
 many_lines : length (reports_in (codes "a") (replicate 1500 [] ++ codes "@@REDO:done:7:1700000004@@ 0 a" ∷ [])) ≡ 1
-unfolding split_lines ended record_fields fields_of status_of split_once after_prefix normal reduce_suffix number time_value entry_of record_entry report_of
+unfolding split_lines ended record_fields fields_of status_of split_once after_prefix normal reduce_suffix number time_value entry_of record_entry line_reports
 many_lines = refl

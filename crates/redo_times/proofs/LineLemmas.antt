@@ -1,7 +1,7 @@
 -- The tallies after the lines of some bytes.
 use Rattle.std.proofs.Common.{◌≡◌, ℕ, ◌+◌, ◌-◌, List, [], ◌∷◌, ◌++◌, length, take, drop, take-add, refl, sym, ap, ◌∙◌, subst, arith}
 use Rattle.std.proofs.lemmas.List.{append-nil, append_assoc, length-drop, take_all, take-append-drop}
-use Rattle.std.proofs.lemmas.List.Elements.{filter_map-append}
+use Rattle.std.proofs.lemmas.Grind.{flat_map-append}
 use Rattle.memchr.specs.Find.{Nowhere, NoneBefore, Passes, is_byte}
 use Rattle.redo_line.specs.Lines.{ended, line_feed, rest}
 use Rattle.redo_line.specs.Record.{at_sign}
@@ -9,16 +9,15 @@ use Rattle.redo_line.proofs.CutLemmas.{line_in, none_in}
 use Rattle.redo_line.proofs.LineLemmas.{ended-append, ended-free, rest-append}
 use Rattle.redo_times.proofs.SkipLemmas.{HasNo, no_reports}
 use Rattle.redo_times.specs.declared.report.Report.{Report}
-use Rattle.redo_times.specs.declared.tally.Tally.{Tally}
-use Rattle.redo_times.specs.Report.{report_of, reports_in}
-use Rattle.redo_times.specs.Private.Tally.{AreTallies, AreTalliesAfter}
+use Rattle.redo_times.specs.Report.{line_reports, reports_in}
+use Rattle.redo_times.specs.Private.Tally.{AreTallies, AreTalliesAfter, TallyValue}
 
 reports-append : (log : List ℕ) (lines more : List (List ℕ)) → reports_in log (lines ++ more) ≡ reports_in log lines ++ reports_in log more
-reports-append log lines more = filter_map-append (report_of log) lines more
+reports-append log lines more = flat_map-append (line_reports log) lines more
 
 module _ (targets : List (List ℕ)) (log : List ℕ) (reports : List Report) where
   -- No bytes end no line.
-  pub none_after : (tallies : List Tally) → AreTallies targets reports tallies → AreTalliesAfter targets log reports [] tallies
+  pub none_after : (tallies : List TallyValue) → AreTallies targets reports tallies → AreTalliesAfter targets log reports [] tallies
   none_after tallies are = subst (λ (lines : List (List ℕ)). AreTallies targets (reports ++ reports_in log lines) tallies)
       (sym (ended-free [] tt)) (subst (λ (rs : List Report). AreTallies targets rs tallies) (sym (append-nil reports)) are)
 
@@ -28,7 +27,7 @@ module _ (targets : List (List ℕ)) (log : List ℕ) (reports : List Report) wh
     grown = append_assoc reports (reports_in log (ended taken)) (reports_in log lines)
         ∙ ap (λ rs. reports ++ rs) (sym (ap (reports_in log) cut ∙ reports-append log (ended taken) lines))
 
-    pub after_lines : (tallies : List Tally)
+    pub after_lines : (tallies : List TallyValue)
         → AreTallies targets ((reports ++ reports_in log (ended taken)) ++ reports_in log lines) tallies
         → AreTalliesAfter targets log reports (taken ++ bytes) tallies
     after_lines tallies are = subst (λ (rs : List Report). AreTallies targets rs tallies) grown are
@@ -52,7 +51,7 @@ module _ (bytes hay : List ℕ) (upto : ℕ) (hay_is : hay ≡ drop upto bytes) 
     pub next_rest : rest (take (upto + (at + 1)) bytes) ≡ []
     next_rest = ap rest (sym joined) ∙ cut_there.1
 
-    pub next_lines : (targets : List (List ℕ)) (log : List ℕ) (reports : List Report) (tallies : List Tally) (line : List ℕ)
+    pub next_lines : (targets : List (List ℕ)) (log : List ℕ) (reports : List Report) (tallies : List TallyValue) (line : List ℕ)
         → line ≡ take at hay
         → AreTallies targets ((reports ++ reports_in log (ended (take upto bytes))) ++ reports_in log (line ∷ [])) tallies
         → AreTalliesAfter targets log reports (take (upto + (at + 1)) bytes) tallies
@@ -70,7 +69,7 @@ module _ (bytes hay : List ℕ) (upto : ℕ) (hay_is : hay ≡ drop upto bytes) 
     skipped_rest = ap rest skipped ∙ rest-append (take upto bytes) (take size hay)
         ∙ ap (λ (last : List ℕ). rest (last ++ take size hay)) no_rest ∙ complete
 
-    pub skipped_lines : (targets : List (List ℕ)) (log : List ℕ) (reports : List Report) (tallies : List Tally)
+    pub skipped_lines : (targets : List (List ℕ)) (log : List ℕ) (reports : List Report) (tallies : List TallyValue)
         → AreTalliesAfter targets log reports (take upto bytes) tallies
         → AreTalliesAfter targets log reports (take (upto + size) bytes) tallies
     skipped_lines targets log reports tallies are =
@@ -96,7 +95,7 @@ module _ (bytes hay : List ℕ) (upto : ℕ) (hay_is : hay ≡ drop upto bytes) 
     pub last_rest : drop upto bytes ≡ rest bytes
     last_rest = sym hay_is ∙ sym cut_last.1 ∙ ap rest all_joined
 
-    pub all_lines_after : (targets : List (List ℕ)) (log : List ℕ) (reports : List Report) (tallies : List Tally)
+    pub all_lines_after : (targets : List (List ℕ)) (log : List ℕ) (reports : List Report) (tallies : List TallyValue)
         → AreTalliesAfter targets log reports (take upto bytes) tallies → AreTalliesAfter targets log reports bytes tallies
     all_lines_after targets log reports tallies are =
         subst (λ (lines : List (List ℕ)). AreTallies targets (reports ++ reports_in log lines) tallies)
@@ -110,7 +109,7 @@ module _ (taken partial chunk : List ℕ) (kept : partial ≡ rest taken) where
     pub partial_within : (after : List ℕ) → after ≡ partial ++ chunk → after ≡ rest (taken ++ chunk)
     partial_within after after_is = sym (none_in partial after chunk nowhere after_is taken (sym kept)).1
 
-    pub tallies_within : (targets : List (List ℕ)) (log : List ℕ) (reports : List Report) (tallies : List Tally)
+    pub tallies_within : (targets : List (List ℕ)) (log : List ℕ) (reports : List Report) (tallies : List TallyValue)
         → AreTalliesAfter targets log reports taken tallies → AreTalliesAfter targets log reports (taken ++ chunk) tallies
     tallies_within targets log reports tallies are =
         subst (λ (lines : List (List ℕ)). AreTallies targets (reports ++ reports_in log lines) tallies)
@@ -136,7 +135,7 @@ module _ (taken partial chunk : List ℕ) (kept : partial ≡ rest taken) where
     partial_behind after after_is = after_is ∙ sym (rest-append head others ∙ ap (λ (last : List ℕ). rest (last ++ others)) cut_head.1)
         ∙ ap rest whole
 
-    pub tallies_behind : (targets : List (List ℕ)) (log : List ℕ) (reports : List Report) (before first last : List Tally)
+    pub tallies_behind : (targets : List (List ℕ)) (log : List ℕ) (reports : List Report) (before first last : List TallyValue)
         → AreTalliesAfter targets log reports taken before
         → ((more : List Report) → AreTallies targets more before → AreTallies targets (more ++ reports_in log (line ∷ [])) first)
         → ((more : List Report) → AreTallies targets more first → AreTalliesAfter targets log more others last)

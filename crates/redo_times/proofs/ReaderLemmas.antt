@@ -5,11 +5,10 @@ use Rattle.std.proofs.lemmas.List.{append-nil, length-map, map_push}
 use Rattle.redo_device.specs.Feed.{SomeStream, Stream}
 use Rattle.redo_device.proofs.GaveLemmas.{weaker}
 use Rattle.redo_times.specs.declared.report.Report.{Report}
-use Rattle.redo_times.specs.declared.tally.Tally.{Tally}
 use Rattle.redo_times.specs.Readers.{AreTimesOfReaders, SomeStreams, logs_of, times_of_all}
 use Rattle.redo_times.specs.Report.{TimedLog, log_reports, reports_of}
 use Rattle.redo_times.specs.Times.{times_in}
-use Rattle.redo_times.specs.Private.Tally.{AreTallies, AreTalliesOfReaders, AreTalliesOfStream, tally_of, times_from}
+use Rattle.redo_times.specs.Private.Tally.{AreTallies, AreTalliesOfReaders, AreTalliesOfStream, TallyValue, tally_of, times_from}
 
 -- If `P` holds of some streams, so does a property that follows from it. There are as many streams as readers.
 pub weaker_all : (known : List (Option Stream)) (P Q : List Stream → Type 0)
@@ -51,11 +50,11 @@ module _ (max_bytes : ℕ) (targets : List (List ℕ)) where
   reports-push logs log = sym (flat_map-append (log_reports max_bytes) logs (log ∷ [])
       ∙ ap (λ rs. reports_of max_bytes logs ++ rs) (append-nil (log_reports max_bytes log)))
 
-  pub none_read : (tallies : List Tally) → AreTallies targets [] tallies → AreTalliesOfReaders max_bytes targets [] tallies
+  pub none_read : (tallies : List TallyValue) → AreTallies targets [] tallies → AreTalliesOfReaders max_bytes targets [] tallies
   none_read tallies are = subst (λ (logs : List TimedLog). AreTallies targets (reports_of max_bytes logs) tallies)
       (sym (logs_of-none targets)) are
 
-  pub one_more : (known : List (Option Stream)) (last : Option Stream) (target : List ℕ) (old new : List Tally)
+  pub one_more : (known : List (Option Stream)) (last : Option Stream) (target : List ℕ) (old new : List TallyValue)
       → slice_get targets (length known) ≡ Some target
       → AreTalliesOfReaders max_bytes targets known old
       → ((reports : List Report) → AreTallies targets reports old
@@ -74,7 +73,7 @@ module _ (max_bytes : ℕ) (targets : List (List ℕ)) where
 
 module _ {A : Type 0} (contents : A → Option Stream) (max_bytes : ℕ) (targets : List (List ℕ)) (yielded : List A) where
   -- The stream of one more reader was read.
-  pub one_more_read : (reader : A) (number : ℕ) (target : List ℕ) (old new : List Tally) → number ≡ length yielded
+  pub one_more_read : (reader : A) (number : ℕ) (target : List ℕ) (old new : List TallyValue) → number ≡ length yielded
       → slice_get targets number ≡ Some target
       → AreTalliesOfReaders max_bytes targets (map contents yielded) old
       → ((reports : List Report) → AreTallies targets reports old
@@ -86,7 +85,7 @@ module _ {A : Type 0} (contents : A → Option Stream) (max_bytes : ℕ) (target
       (one_more max_bytes targets (map contents yielded) (contents reader) target old new (ap (slice_get targets) count ∙ here) are adds)
 
   -- No reader is left.
-  pub all_read : (readers rest : List A) (tallies : List Tally) → yielded ++ rest ≡ readers → length rest ≡ 0
+  pub all_read : (readers rest : List A) (tallies : List TallyValue) → yielded ++ rest ≡ readers → length rest ≡ 0
       → AreTalliesOfReaders max_bytes targets (map contents yielded) tallies
       → AreTalliesOfReaders max_bytes targets (map contents readers) tallies
   all_read readers [] tallies all none are =
@@ -100,7 +99,7 @@ times-map : (reports : List Report) (targets : List (List ℕ))
 times-map reports [] = refl
 times-map reports (target ∷ targets) = ap (λ times. times_in reports target ∷ times) (times-map reports targets)
 
-pub times_of_tallies : (max_bytes : ℕ) (targets : List (List ℕ)) (known : List (Option Stream)) (tallies : List Tally)
+pub times_of_tallies : (max_bytes : ℕ) (targets : List (List ℕ)) (known : List (Option Stream)) (tallies : List TallyValue)
     → AreTalliesOfReaders max_bytes targets known tallies → AreTimesOfReaders max_bytes targets known (map times_from tallies)
 times_of_tallies max_bytes targets known tallies =
     weaker_all known _ (λ streams. map times_from tallies ≡ times_of_all max_bytes targets streams)

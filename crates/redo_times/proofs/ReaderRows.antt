@@ -11,7 +11,7 @@ use Rattle.redo_line.specs.Record.{fields_of, record_fields, status_of}
 use Rattle.redo_name.specs.Names.{normal, reduce_suffix}
 use Rattle.redo_times.specs.declared.times.Times.{Times}
 use Rattle.redo_times.specs.Readers.{AreTimesOfReaders, logs_of, times_of_all}
-use Rattle.redo_times.specs.Report.{report_of}
+use Rattle.redo_times.specs.Report.{line_reports}
 use Rattle.redo_times.specs.Time.{time_value}
 
 abbrev stream : List ℕ → Stream
@@ -36,7 +36,7 @@ abbrev streams : List Stream
 streams = stream of_all ∷ record { bytes = of_a; fails = true } ∷ []
 
 abbrev times : Option ℕ → Option ℕ → Times
-times began ended = record { began = began; ended = ended }
+times began ended = record { began = began; ended = ended; ran_others = false }
 
 abbrev both : List Times
 both = times None (Some 1700000005000) ∷ times (Some 1700000001000) (Some 1700000004000) ∷ []
@@ -48,7 +48,7 @@ no_logs : (logs_of [] streams ≡ []) × (logs_of (all ∷ a ∷ []) [] ≡ [])
 no_logs = (refl, refl)
 
 these_times : times_of_all 1000 (all ∷ a ∷ []) streams ≡ both
-unfolding split_lines ended record_fields fields_of status_of split_once after_prefix normal reduce_suffix number time_value entry_of record_entry report_of
+unfolding split_lines ended record_fields fields_of status_of split_once after_prefix normal reduce_suffix number time_value entry_of record_entry line_reports
 these_times = refl
 
 -- The last closing record counts, and lines after it do too. Programs reject such a log.
@@ -60,7 +60,7 @@ after_its_end : times_of_all 1000 (a ∷ codes "b" ∷ []) (
     ∷ stream (with_line_feed (codes "@@REDO:done:7:1700000030@@ 0 a"))
     ∷ [])
     ≡ times None (Some 1700000009000) ∷ times (Some 1700000001000) None ∷ []
-unfolding split_lines ended record_fields fields_of status_of split_once after_prefix normal reduce_suffix number time_value entry_of record_entry report_of
+unfolding split_lines ended record_fields fields_of status_of split_once after_prefix normal reduce_suffix number time_value entry_of record_entry line_reports
 after_its_end = refl
 
 -- Records that are not valid are skipped, and so is the last line, which is unended. Programs reject such a log.
@@ -73,7 +73,7 @@ bad_records : times_of_all 1000 (a ∷ []) (
     ++ codes "@@REDO:do:7:1700000001@@ a")
     ∷ [])
     ≡ times (Some 1700000009000) None ∷ []
-unfolding split_lines ended record_fields fields_of status_of split_once after_prefix normal reduce_suffix number time_value entry_of record_entry report_of
+unfolding split_lines ended record_fields fields_of status_of split_once after_prefix normal reduce_suffix number time_value entry_of record_entry line_reports
 bad_records = refl
 
 -- Each record has 27 bytes with its line feed.
@@ -87,7 +87,7 @@ these_prefixes : (times_of_all 53 (a ∷ []) (stream both_records ∷ []) ≡ ti
     × (times_of_all 54 (a ∷ []) (stream both_records ∷ []) ≡ times (Some 1700000001000) None ∷ [])
     × (times_of_all 26 (a ∷ []) (stream first ∷ []) ≡ times None None ∷ [])
     × (times_of_all 0 (a ∷ []) (stream first ∷ []) ≡ times None None ∷ [])
-unfolding split_lines ended record_fields fields_of status_of split_once after_prefix normal reduce_suffix number time_value entry_of record_entry report_of
+unfolding split_lines ended record_fields fields_of status_of split_once after_prefix normal reduce_suffix number time_value entry_of record_entry line_reports
 these_prefixes = (refl, refl, refl, refl)
 
 -- A failed read ends each stream, and the bytes before it count.
@@ -102,12 +102,12 @@ after_failed_reads : times_of_all 1000 (a ∷ codes "b" ∷ []) (
     }
     ∷ [])
     ≡ times None None ∷ times (Some 1700000005000) (Some 1700000006000) ∷ []
-unfolding split_lines ended record_fields fields_of status_of split_once after_prefix normal reduce_suffix number time_value entry_of record_entry report_of
+unfolding split_lines ended record_fields fields_of status_of split_once after_prefix normal reduce_suffix number time_value entry_of record_entry line_reports
 after_failed_reads = refl
 
 -- Readers whose streams are known have the times of these streams, and no others.
 of_known : AreTimesOfReaders 1000 (all ∷ a ∷ []) (Some (stream of_all) ∷ Some (stream of_a) ∷ []) both
-unfolding split_lines ended record_fields fields_of status_of split_once after_prefix normal reduce_suffix number time_value entry_of record_entry report_of
+unfolding split_lines ended record_fields fields_of status_of split_once after_prefix normal reduce_suffix number time_value entry_of record_entry line_reports
 of_known = refl
 
 of_none : AreTimesOfReaders 1000 [] [] []
@@ -121,7 +121,7 @@ not_of_known is = cc
 
 -- An opaque reader has the times of any stream, such as this one.
 of_opaque : AreTimesOfReaders 1000 (all ∷ a ∷ []) (None ∷ Some (stream of_a) ∷ []) both
-unfolding split_lines ended record_fields fields_of status_of split_once after_prefix normal reduce_suffix number time_value entry_of record_entry report_of
+unfolding split_lines ended record_fields fields_of status_of split_once after_prefix normal reduce_suffix number time_value entry_of record_entry line_reports
 of_opaque = (stream of_all, refl)
 
 not_of_opaque : AreTimesOfReaders 1000 (a ∷ []) (None ∷ []) [] → ⊥

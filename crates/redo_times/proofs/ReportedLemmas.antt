@@ -1,6 +1,6 @@
 -- The times of a target, from the reports of logs.
 use Rattle.std.proofs.Common.{◌≡◌, ℕ, ◌&&◌, ◌⊎◌, inl, inr, Bool, true, false, List, [], ◌∷◌, Option, None, Some, refl, sym, ap, ◌∙◌, subst, arith, leb}
-use Rattle.std.specs.Prelude.{min, max, option_and_then, take}
+use Rattle.std.specs.Prelude.{map, min, max, take}
 use Rattle.std.specs.Cmp.Lexicographic.{same_text}
 use Rattle.std.specs.List.{Contains, cons_option, filter_map, flat_map}
 use Rattle.std.specs.Str.{bytes_eq}
@@ -8,13 +8,12 @@ use Rattle.std.proofs.lemmas.Bool.{and_parts, leb-true, leb-false}
 use Rattle.std.proofs.lemmas.Cmp.{nat_list_eq_equiv}
 use Rattle.std.proofs.lemmas.List.Elements.{Contains-append_cases, Contains-append_left, Contains-append_right, Contains-push_cases}
 use Rattle.std.proofs.lemmas.Option.{cond_some}
-use Rattle.redo_line.specs.Entry.{entry_of}
 use Rattle.redo_line.specs.Lines.{ended}
 use Rattle.redo_times.specs.declared.report.Report.{Report}
 use Rattle.redo_times.specs.declared.report.Stage.{Stage}
-use Rattle.redo_times.specs.declared.report.Stage.TheVariants.{BeganInOwnLog, BeganInOtherLog, EndedInOwnLog, EndedInOtherLog}
+use Rattle.redo_times.specs.declared.report.Stage.TheVariants.{BeganInOwnLog, BeganInOtherLog, EndedInOwnLog, EndedInOtherLog, RunsOther}
 use Rattle.redo_times.specs.Laws.{IsFirst, IsLast, IsReported}
-use Rattle.redo_times.specs.Report.{TimedLog, line_time, log_reports, report_at, report_of, reports_of, stage_of}
+use Rattle.redo_times.specs.Report.{TimedLog, line_reports, line_stages, line_time, log_reports, report_at, reports_at, reports_of}
 use Rattle.redo_times.specs.Times.{earlier, first_time, is_same_stage, last_time, later, time_if, times_at}
 
 min_cases : (a b : ℕ) → (min a b ≡ a) ⊎ (min a b ≡ b)
@@ -33,16 +32,16 @@ max_cases a b = by (leb a b) refl
 
 -- ---- elements of lists
 
-nothing : {X : Type 0} (x : X) → Contains [] x → ⊥
+pub nothing : {X : Type 0} (x : X) → Contains [] x → ⊥
 nothing x here = omega (arith, here.1)
 
-head : {X : Type 0} (x : X) (xs : List X) → Contains (x ∷ xs) x
+pub head : {X : Type 0} (x : X) (xs : List X) → Contains (x ∷ xs) x
 head x xs = (0, omega arith, refl)
 
-tail : {X : Type 0} (x y : X) (xs : List X) → Contains xs y → Contains (x ∷ xs) y
+pub tail : {X : Type 0} (x y : X) (xs : List X) → Contains xs y → Contains (x ∷ xs) y
 tail x y xs there = Contains-append_right (x ∷ []) xs y there
 
-first_or_later : {X : Type 0} (x y : X) (xs : List X) → Contains (x ∷ xs) y → (x ≡ y) ⊎ Contains xs y
+pub first_or_later : {X : Type 0} (x y : X) (xs : List X) → Contains (x ∷ xs) y → (x ≡ y) ⊎ Contains xs y
 first_or_later x y xs here =
     elim (Contains-append_cases (x ∷ []) xs y here) [
       | inl one ↦ elim (Contains-push_cases [] x y one) [ inl none ↦ absurd (nothing y none) | inr same ↦ inl same ]
@@ -101,44 +100,72 @@ same_stage BeganInOwnLog BeganInOwnLog is = refl
 same_stage BeganInOwnLog BeganInOtherLog is = absurd (cc)
 same_stage BeganInOwnLog EndedInOwnLog is = absurd (cc)
 same_stage BeganInOwnLog EndedInOtherLog is = absurd (cc)
+same_stage BeganInOwnLog RunsOther is = absurd (cc)
 same_stage BeganInOtherLog BeganInOwnLog is = absurd (cc)
 same_stage BeganInOtherLog BeganInOtherLog is = refl
 same_stage BeganInOtherLog EndedInOwnLog is = absurd (cc)
 same_stage BeganInOtherLog EndedInOtherLog is = absurd (cc)
+same_stage BeganInOtherLog RunsOther is = absurd (cc)
 same_stage EndedInOwnLog BeganInOwnLog is = absurd (cc)
 same_stage EndedInOwnLog BeganInOtherLog is = absurd (cc)
 same_stage EndedInOwnLog EndedInOwnLog is = refl
 same_stage EndedInOwnLog EndedInOtherLog is = absurd (cc)
+same_stage EndedInOwnLog RunsOther is = absurd (cc)
 same_stage EndedInOtherLog BeganInOwnLog is = absurd (cc)
 same_stage EndedInOtherLog BeganInOtherLog is = absurd (cc)
 same_stage EndedInOtherLog EndedInOwnLog is = absurd (cc)
 same_stage EndedInOtherLog EndedInOtherLog is = refl
+same_stage EndedInOtherLog RunsOther is = absurd (cc)
+same_stage RunsOther BeganInOwnLog is = absurd (cc)
+same_stage RunsOther BeganInOtherLog is = absurd (cc)
+same_stage RunsOther EndedInOwnLog is = absurd (cc)
+same_stage RunsOther EndedInOtherLog is = absurd (cc)
+same_stage RunsOther RunsOther is = refl
 
 own_stage : (stage : Stage) → is_same_stage stage stage ≡ true
 own_stage BeganInOwnLog = refl
 own_stage BeganInOtherLog = refl
 own_stage EndedInOwnLog = refl
 own_stage EndedInOtherLog = refl
+own_stage RunsOther = refl
 
-report_parts : (time : Option ℕ) (said : Option (Stage × List ℕ)) (report : Report) → report_at time said ≡ Some report
-    → (time ≡ Some report.time) × (said ≡ Some (report.stage, report.target))
-report_parts None said report is = absurd (cc)
-report_parts (Some time) None report is = absurd (cc)
-report_parts (Some time) (Some said) report is =
-    let same : record { stage = said.0; target = said.1; time = time } ≡ report = cc in
-    (ap (λ (r : Report). Some r.time) same, ap (λ (r : Report). Some (r.stage, r.target)) same)
+abbrev Said : Type 0
+Said = Stage × List ℕ
 
-line_parts : (target line : List ℕ) (report : Report) → report_of target line ≡ Some report
-    → (line_time line ≡ Some report.time)
-    × (option_and_then (stage_of target) (entry_of target line true) ≡ Some (report.stage, report.target))
-unfolding report_of
-line_parts target line report is = report_parts (line_time line) (option_and_then (stage_of target) (entry_of target line true)) report is
+report_parts : (time : Option ℕ) (said : List Said) (report : Report) → Contains (reports_at time said) report
+    → (time ≡ Some report.time) × Contains said (report.stage, report.target)
+report_parts None said report here = absurd (nothing report here)
+report_parts (Some time) [] report here = absurd (nothing report here)
+report_parts (Some time) (one ∷ said) report here =
+    elim (first_or_later (report_at time one) report (map (report_at time) said) here) [
+      | inl same ↦ (
+        ap (λ (r : Report). Some r.time) same,
+        subst (Contains (one ∷ said)) (ap (λ (r : Report). (r.stage, r.target)) same) (head one said),
+      )
+      | inr there ↦ let found = report_parts (Some time) said report there in
+          (found.0, tail one (report.stage, report.target) said found.1)
+    ]
+
+line_parts : (target line : List ℕ) (report : Report) → Contains (line_reports target line) report
+    → (line_time line ≡ Some report.time) × Contains (line_stages target line) (report.stage, report.target)
+unfolding line_reports
+line_parts target line report here = report_parts (line_time line) (line_stages target line) report here
+
+said_report : (said : List Said) (one : Said) (time : ℕ) → Contains said one → Contains (map (report_at time) said) (report_at time one)
+said_report [] one time here = absurd (nothing one here)
+said_report (first ∷ said) one time here =
+    elim (first_or_later first one said here) [
+      | inl same ↦ subst (Contains (map (report_at time) (first ∷ said))) (ap (report_at time) same)
+          (head (report_at time first) (map (report_at time) said))
+      | inr there ↦ tail (report_at time first) (report_at time one) (map (report_at time) said) (said_report said one time there)
+    ]
 
 line_report : (log line target : List ℕ) (stage : Stage) (time : ℕ) → line_time line ≡ Some time
-    → option_and_then (stage_of log) (entry_of log line true) ≡ Some (stage, target)
-    → report_of log line ≡ Some (record { stage = stage; target = target; time = time })
-unfolding report_of
-line_report log line target stage time at says = λ i. report_at (at i) (says i)
+    → Contains (line_stages log line) (stage, target) → Contains (line_reports log line) (report_at time (stage, target))
+unfolding line_reports
+line_report log line target stage time at says =
+    subst (λ (found : Option ℕ). Contains (reports_at found (line_stages log line)) (report_at time (stage, target))) (sym at)
+    (said_report (line_stages log line) (stage, target) time says)
 
 module _ (stage : Stage) (target : List ℕ) (time : ℕ) where
   timed : (report : Report) → time_if stage target report ≡ Some time
@@ -158,14 +185,14 @@ module _ (stage : Stage) (target : List ℕ) (time : ℕ) where
         let one = mapped_from (time_if stage target) (reports_of max_bytes logs) time here in
         let is = timed one.0 one.2 in
         let from = joined_from (log_reports max_bytes) logs one.0 one.1 in
-        let within = mapped_from (report_of from.0.target) (ended (take max_bytes from.0.bytes)) one.0 from.2 in
+        let within = joined_from (line_reports from.0.target) (ended (take max_bytes from.0.bytes)) one.0 from.2 in
         let parts = line_parts from.0.target within.0 one.0 within.2 in
         record {
           log = from.0;
           is_log = from.1;
           line = within.0;
           is_line = within.1;
-          says = parts.1 ∙ (λ i. Some (is.0 i, is.1 i));
+          says = subst (Contains (line_stages from.0.target within.0)) (λ i. (is.0 i, is.1 i)) parts.1;
           at = parts.0 ∙ ap Some is.2;
         }
 
@@ -174,7 +201,7 @@ module _ (stage : Stage) (target : List ℕ) (time : ℕ) where
         let report : Report = record { stage = stage; target = target; time = time } in
         mapped_to (time_if stage target) (reports_of max_bytes logs) report time
         (joined_to (log_reports max_bytes) logs from.log report from.is_log
-        (mapped_to (report_of from.log.target) (ended (take max_bytes from.log.bytes)) from.line report from.is_line
+        (joined_to (line_reports from.log.target) (ended (take max_bytes from.log.bytes)) from.line report from.is_line
         (line_report from.log.target from.line target stage time from.at from.says)))
         own_time
 

@@ -1,6 +1,6 @@
 -- Lines without an `@` have no reports.
 use Rattle.std.proofs.Common.{◌≡◌, ◌≢◌, ℕ, ◌+◌, ◌<◌, ◌≤◌, List, [], ◌∷◌, ◌++◌, None, get_or, length, take, drop, refl, sym, ap, ◌∙◌, subst, arith}
-use Rattle.std.specs.List.{AllByRecursion, cons_option, flat_map}
+use Rattle.std.specs.List.{AllByRecursion, flat_map}
 use Rattle.std.proofs.lemmas.Bool.{eq-eqb, ne_eqb}
 use Rattle.std.proofs.lemmas.List.{append_assoc, get_or-take, get_or_default, length-take, take-append-drop, take-take}
 use Rattle.std.proofs.lemmas.List.Elements.{recursion_from_All}
@@ -10,8 +10,9 @@ use Rattle.redo_line.specs.Parts.{after_prefix}
 use Rattle.redo_line.specs.Record.{at_sign, record_fields}
 use Rattle.redo_line.proofs.CutLemmas.{upto_feed}
 use Rattle.redo_line.proofs.LineLemmas.{are_lines, rest-append, rest-free, rest-line}
+use Rattle.redo_times.specs.declared.report.Report.{Report}
 use Rattle.redo_times.specs.Report.{reports_in}
-use Rattle.redo_times.proofs.ReportLemmas.{no_record}
+use Rattle.redo_times.proofs.ReportLemmas.{no_line_reports}
 
 -- None of the bytes is this one.
 abbrev pub HasNo : ℕ → List ℕ → Type 0
@@ -50,7 +51,7 @@ module _ (log : List ℕ) where
       let whole : flat_map with_line_feed (line ∷ lines) ++ last ≡ line ++ (line_feed ∷ more) =
       append_assoc (with_line_feed line) (flat_map with_line_feed lines) last ∙ append_assoc line (line_feed ∷ []) more in
       let parts = none_in_parts at_sign line (line_feed ∷ more) (subst (HasNo at_sign) whole none) in
-      ap (λ report. cons_option report (reports_in log lines)) (sym (no_record log line (no_fields line parts.0)))
+      ap (λ (reports : List Report). reports ++ reports_in log lines) (no_line_reports log line (no_fields line parts.0))
       ∙ no_reports_in lines last parts.1.1
 
   pub no_reports : (bytes : List ℕ) → HasNo at_sign bytes → reports_in log (ended bytes) ≡ []

@@ -8,20 +8,19 @@ use Rattle.redo_device.proofs.GaveLemmas.{Gave, Gave-end, Gave-failed, Gave-none
 use Rattle.redo_line.specs.Lines.{rest}
 use Rattle.redo_line.proofs.LineLemmas.{rest-free}
 use Rattle.redo_times.specs.declared.report.Report.{Report}
-use Rattle.redo_times.specs.declared.tally.Tally.{Tally}
-use Rattle.redo_times.specs.Private.Tally.{AreTallies, AreTalliesAfter, AreTalliesOfStream}
+use Rattle.redo_times.specs.Private.Tally.{AreTallies, AreTalliesAfter, AreTalliesOfStream, TallyValue}
 use Rattle.redo_times.proofs.LineLemmas.{none_after}
 
 -- The bytes that a reader gave so far. `left` more count.
 pub record Reading (targets : List (List ℕ)) (log : List ℕ) (max_bytes left : ℕ) (known now : Option Stream) (partial : List ℕ)
-    (first tallies : List Tally) : Type 0 where
+    (first tallies : List TallyValue) : Type 0 where
   pub taken : List ℕ
   pub size : length taken + left ≡ max_bytes
   pub gave : Gave known taken now
   pub kept : partial ≡ rest taken
   pub are : (reports : List Report) → AreTallies targets reports first → AreTalliesAfter targets log reports taken tallies
 
-module _ (targets : List (List ℕ)) (log : List ℕ) (max_bytes : ℕ) (known : Option Stream) (first : List Tally) where
+module _ (targets : List (List ℕ)) (log : List ℕ) (max_bytes : ℕ) (known : Option Stream) (first : List TallyValue) where
   pub none_read : Reading targets log max_bytes max_bytes known known [] first first
   none_read = record {
     taken = [];
@@ -31,7 +30,7 @@ module _ (targets : List (List ℕ)) (log : List ℕ) (max_bytes : ℕ) (known :
     are = λ reports are. none_after targets log reports first are;
   }
 
-  module _ (left : ℕ) (now : Option Stream) (partial : List ℕ) (tallies : List Tally)
+  module _ (left : ℕ) (now : Option Stream) (partial : List ℕ) (tallies : List TallyValue)
       (so_far : Reading targets log max_bytes left known now partial first tallies) where
     -- The bytes that count are the bytes that were taken.
     abbrev AreTaken : Stream → Type 0

@@ -5,7 +5,7 @@ use Rattle.std.specs.Cmp.Lexicographic.{pointwise, same_text}
 use Rattle.std.specs.List.{AllByRecursion, IsDistinct, list_any}
 use Rattle.std.specs.Str.{bytes_eq}
 use Rattle.std.proofs.lemmas.Cmp.{nat_list_eq_equiv}
-use Rattle.std.proofs.lemmas.List.{append-nil, get_or-map}
+use Rattle.std.proofs.lemmas.List.{append-nil, append_assoc, get_or-map}
 use Rattle.std.proofs.lemmas.List.Elements.{filter_map-append}
 use Rattle.std.proofs.lemmas.List.Quantifiers.{position-Some}
 use Rattle.std.proofs.lemmas.Map.Keys.{apart_from_distinct}
@@ -13,10 +13,10 @@ use Rattle.std.proofs.Math.ListN.{set}
 use Rattle.redo_line.proofs.PlaceLemmas.{some_place}
 use Rattle.redo_times.specs.declared.report.Report.{Report}
 use Rattle.redo_times.specs.declared.report.Stage.{Stage}
-use Rattle.redo_times.specs.declared.report.Stage.TheVariants.{BeganInOwnLog, BeganInOtherLog, EndedInOwnLog, EndedInOtherLog}
-use Rattle.redo_times.specs.declared.tally.Tally.{Tally}
+use Rattle.redo_times.specs.declared.report.Stage.TheVariants.{BeganInOwnLog, BeganInOtherLog, EndedInOwnLog, EndedInOtherLog, RunsOther}
 use Rattle.redo_times.specs.Times.{earlier, first_time, is_same_stage, last_time, later, time_if, times_at}
-use Rattle.redo_times.specs.Private.Tally.{AreTallies, tally_of, with_time}
+use Rattle.redo_times.specs.Private.Reporting.{named_reports, owner_reports, with_owner}
+use Rattle.redo_times.specs.Private.Tally.{AreTallies, TallyValue, tally_of, with_time}
 
 -- ---- one more time
 
@@ -66,6 +66,7 @@ module _ (name target : List ℕ) (time : ℕ) (reports : List Report) where
     began_in_other_log = first_time (kept BeganInOtherLog target reports (report BeganInOwnLog name time) refl i);
     ended_in_own_log = last_time (kept EndedInOwnLog target reports (report BeganInOwnLog name time) refl i);
     ended_in_other_log = last_time (kept EndedInOtherLog target reports (report BeganInOwnLog name time) refl i);
+    ran_others_at = kept RunsOther target reports (report BeganInOwnLog name time) refl i;
   }
   tally-pushed same BeganInOtherLog = λ i. record {
     began_in_own_log = first_time (kept BeganInOwnLog target reports (report BeganInOtherLog name time) refl i);
@@ -73,6 +74,7 @@ module _ (name target : List ℕ) (time : ℕ) (reports : List Report) where
         ∙ first-push (times_at BeganInOtherLog target reports) time) i;
     ended_in_own_log = last_time (kept EndedInOwnLog target reports (report BeganInOtherLog name time) refl i);
     ended_in_other_log = last_time (kept EndedInOtherLog target reports (report BeganInOtherLog name time) refl i);
+    ran_others_at = kept RunsOther target reports (report BeganInOtherLog name time) refl i;
   }
   tally-pushed same EndedInOwnLog = λ i. record {
     began_in_own_log = first_time (kept BeganInOwnLog target reports (report EndedInOwnLog name time) refl i);
@@ -80,6 +82,7 @@ module _ (name target : List ℕ) (time : ℕ) (reports : List Report) where
     ended_in_own_log = (ap last_time (pushed EndedInOwnLog target reports (report EndedInOwnLog name time) time (rw same refl))
         ∙ last-push (times_at EndedInOwnLog target reports) time) i;
     ended_in_other_log = last_time (kept EndedInOtherLog target reports (report EndedInOwnLog name time) refl i);
+    ran_others_at = kept RunsOther target reports (report EndedInOwnLog name time) refl i;
   }
   tally-pushed same EndedInOtherLog = λ i. record {
     began_in_own_log = first_time (kept BeganInOwnLog target reports (report EndedInOtherLog name time) refl i);
@@ -87,6 +90,14 @@ module _ (name target : List ℕ) (time : ℕ) (reports : List Report) where
     ended_in_own_log = last_time (kept EndedInOwnLog target reports (report EndedInOtherLog name time) refl i);
     ended_in_other_log = (ap last_time (pushed EndedInOtherLog target reports (report EndedInOtherLog name time) time (rw same refl))
         ∙ last-push (times_at EndedInOtherLog target reports) time) i;
+    ran_others_at = kept RunsOther target reports (report EndedInOtherLog name time) refl i;
+  }
+  tally-pushed same RunsOther = λ i. record {
+    began_in_own_log = first_time (kept BeganInOwnLog target reports (report RunsOther name time) refl i);
+    began_in_other_log = first_time (kept BeganInOtherLog target reports (report RunsOther name time) refl i);
+    ended_in_own_log = last_time (kept EndedInOwnLog target reports (report RunsOther name time) refl i);
+    ended_in_other_log = last_time (kept EndedInOtherLog target reports (report RunsOther name time) refl i);
+    ran_others_at = pushed RunsOther target reports (report RunsOther name time) time (rw same refl) i;
   }
 
   -- A report about another target.
@@ -96,6 +107,7 @@ module _ (name target : List ℕ) (time : ℕ) (reports : List Report) where
     began_in_other_log = first_time (kept BeganInOtherLog target reports (report stage name time) (unsaid BeganInOtherLog stage) i);
     ended_in_own_log = last_time (kept EndedInOwnLog target reports (report stage name time) (unsaid EndedInOwnLog stage) i);
     ended_in_other_log = last_time (kept EndedInOtherLog target reports (report stage name time) (unsaid EndedInOtherLog stage) i);
+    ran_others_at = kept RunsOther target reports (report stage name time) (unsaid RunsOther stage) i;
   }
     where
       nothing : (same : Bool) → (if same && false then Some time else None) ≡ None
@@ -118,10 +130,10 @@ each_fails test (x ∷ xs) none = by (test x) refl none (each_fails test xs)
     by false is none others = (is, others none)
 
 module _ (stage : Stage) (name : List ℕ) (time : ℕ) (reports : List Report) where
-  abbrev before : List ℕ → Tally
+  abbrev before : List ℕ → TallyValue
   before = tally_of reports
 
-  abbrev after : List ℕ → Tally
+  abbrev after : List ℕ → TallyValue
   after = tally_of (reports ++ report stage name time ∷ [])
 
   -- No target is this one.
@@ -150,14 +162,14 @@ module _ (stage : Stage) (name : List ℕ) (time : ℕ) (reports : List Report) 
       λ i. sym (tally-kept name target time reports apart stage) i ∷ at_place targets place (omega (arith, below)) is distinct.1 i
 
   -- The tallies after the report, if a target was found at this position or none was.
-  module _ (targets : List (List ℕ)) (tallies : List Tally) (are : AreTallies targets reports tallies) where
-    pub found : (place : ℕ) (empty : Tally) → position (pointwise nat_eq name) targets ≡ Some place → IsDistinct (pointwise nat_eq) targets
-        → AreTallies targets (reports ++ report stage name time ∷ [])
+  module _ (targets : List (List ℕ)) (tallies : List TallyValue) (are : AreTallies targets reports tallies) where
+    pub found : (place : ℕ) (empty : TallyValue) → position (pointwise nat_eq name) targets ≡ Some place
+        → IsDistinct (pointwise nat_eq) targets → AreTallies targets (reports ++ report stage name time ∷ [])
         (set tallies place (with_time stage time (get_or tallies place empty)))
     found place empty is distinct =
         let at = position-Some (pointwise nat_eq name) targets place [] is in
         let old : get_or tallies place empty ≡ before (get_or targets place []) =
-        ap (λ (ts : List Tally). get_or ts place empty) are ∙ get_or-map before targets place [] empty at.0 in
+        ap (λ (ts : List TallyValue). get_or ts place empty) are ∙ get_or-map before targets place [] empty at.0 in
         (λ i. set (are i) place (with_time stage time (old i))) ∙ at_place targets place at.0 at.1 distinct
 
     pub missing : position (pointwise nat_eq name) targets ≡ None → AreTallies targets (reports ++ report stage name time ∷ []) tallies
@@ -165,7 +177,20 @@ module _ (stage : Stage) (name : List ℕ) (time : ℕ) (reports : List Report) 
         (each_fails (pointwise nat_eq name) targets (sym (some_place (pointwise nat_eq name) targets) ∙ ap is_some none))
 
 -- Tallies without any report.
-pub all_empty : (empty : Tally) → ((target : List ℕ) → empty ≡ tally_of [] target) → (targets : List (List ℕ))
-    → AreTallies targets [] (replicate (length targets) empty)
-all_empty empty is [] = refl
-all_empty empty is (target ∷ targets) = λ i. is target i ∷ all_empty empty is targets i
+pub all_empty : (targets : List (List ℕ)) → AreTallies targets [] (replicate (length targets) (tally_of [] []))
+all_empty [] = refl
+all_empty (target ∷ targets) = ap (λ tallies. tally_of [] [] ∷ tallies) (all_empty targets)
+
+-- ---- a report in a log, and what it says of the log's own target
+
+pub with_own : (log : List ℕ) (reports : List Report) (report : Report)
+    → (reports ++ named_reports report report.stage) ++ owner_reports log report.time report.stage ≡ reports ++ with_owner log report
+with_own log reports report = append_assoc reports (named_reports report report.stage) (owner_reports log report.time report.stage)
+
+-- A report of any other stage is about the target that it names.
+pub names_target : (report : Report) (stage : Stage) → ¬ (stage ≡ RunsOther) → named_reports report stage ≡ report ∷ []
+names_target report BeganInOwnLog differs = refl
+names_target report BeganInOtherLog differs = refl
+names_target report EndedInOwnLog differs = refl
+names_target report EndedInOtherLog differs = refl
+names_target report RunsOther differs = absurd (differs refl)

@@ -1,17 +1,18 @@
 -- The laws about times.
-use Rattle.std.proofs.Common.{◌≡◌, ℕ, ◌<◌, ◌≤◌, ◌⊎◌, inl, inr, Bool, true, false, List, Option, None, Some, IfSome, IfNone, refl, ap, arith, leb}
-use Rattle.std.specs.Prelude.{if◌then◌else◌}
-use Rattle.std.specs.List.{Contains}
+use Rattle.std.proofs.Common.{◌≡◌, ℕ, ◌<◌, ◌≤◌, ◌⊎◌, inl, inr, ◌&&◌, ◌||◌, Bool, true, false, List, [], ◌∷◌, Option, None, Some, IfSome, IfNone, refl, ap, ◌∙◌, arith, leb, ltb}
+use Rattle.std.specs.Prelude.{IsSomeAnd, if◌then◌else◌}
+use Rattle.std.specs.List.{Contains, list_any}
 use Rattle.std.specs.List.Sorted.{IsPermutation}
 use Rattle.std.specs.Option.{option_or}
-use Rattle.std.proofs.lemmas.Bool.{leb-true, leb-false}
+use Rattle.std.proofs.Math.Bool.{or-true}
+use Rattle.std.proofs.lemmas.Bool.{and_parts, le-leb, leb-true, leb-false, lt-ltb, ltb-true}
 use Rattle.std.proofs.lemmas.List.Sorted.{Contains-permutation, IsPermutation-sym}
 use Rattle.redo_times.specs.declared.report.Stage.{Stage}
-use Rattle.redo_times.specs.declared.report.Stage.TheVariants.{BeganInOwnLog, BeganInOtherLog, EndedInOwnLog, EndedInOtherLog}
-use Rattle.redo_times.specs.Laws.{BeginsAfter, BeginsInOwnLog, IsBeginning, IsEnd, IsFirst, IsLast, IsReported, Never, NeverBegins}
+use Rattle.redo_times.specs.declared.report.Stage.TheVariants.{BeganInOwnLog, BeganInOtherLog, EndedInOwnLog, EndedInOtherLog, RunsOther}
+use Rattle.redo_times.specs.Laws.{BeginsAfter, BeginsInOwnLog, IsBeginning, IsEnd, IsFirst, IsLast, IsReported, Never, NeverBegins, RanOthers}
 use Rattle.redo_times.specs.Report.{TimedLog, reports_of}
-use Rattle.redo_times.specs.Times.{before_end, begin_in, end_in, first_time, last_time, times_at, times_of, unless_begun}
-use Rattle.redo_times.proofs.ReportedLemmas.{first-none, first-some, last-none, last-some, listed, reported}
+use Rattle.redo_times.specs.Times.{before_end, begin_in, end_in, first_time, is_within, last_time, times_at, times_of, unless_begun}
+use Rattle.redo_times.proofs.ReportedLemmas.{first-none, first-some, first_or_later, head, last-none, last-some, listed, nothing, reported, tail}
 
 if_some : {X : Type 0} (found : Option X) (P : X → Type 0) → ((x : X) → found ≡ Some x → P x) → IfSome found P
 if_some None P holds = tt
@@ -142,7 +143,92 @@ module _ (max_bytes : ℕ) (logs : List TimedLog) (target : List ℕ) where
         | inr none ↦ inr (never-last EndedInOtherLog none)
       ])
 
+-- ---- which targets ran others
+
+any-some : (test : ℕ → Bool) (times : List ℕ) → list_any test times ≡ true → (time : ℕ) × Contains times time × (test time ≡ true)
+any-some test [] is = absurd (cc)
+any-some test (one ∷ times) is = by (test one) refl is (any-some test times)
+  where
+    by : (passes : Bool) → test one ≡ passes → (passes || list_any test times) ≡ true
+        → (list_any test times ≡ true → (time : ℕ) × Contains times time × (test time ≡ true))
+        → (time : ℕ) × Contains (one ∷ times) time × (test time ≡ true)
+    by true here is behind = (one, head one times, here)
+    by false here is behind = let found = behind is in (found.0, tail one found.0 times found.1, found.2)
+
+any-true : (test : ℕ → Bool) (times : List ℕ) (time : ℕ) → Contains times time → test time ≡ true → list_any test times ≡ true
+any-true test [] time here is = absurd (nothing time here)
+any-true test (one ∷ times) time here is =
+    elim (first_or_later one time times here) [
+      | inl same ↦ rw (ap test same ∙ is) refl
+      | inr there ↦ rw (any-true test times time there is) (or-true (test one))
+    ]
+
+within-parts : (began ended : Option ℕ) (time : ℕ) → is_within began ended time ≡ true
+    → IsSomeAnd (before_end began ended) (λ first. first < time) × IsSomeAnd ended (λ last. time ≤ last)
+within-parts None ended time is = absurd (cc)
+within-parts (Some began) None time is = absurd (cc)
+within-parts (Some began) (Some ended) time is =
+    let both = and_parts (ltb began time) (leb time ended) is in
+    let after = ltb-true began time both.0 in
+    let until = leb-true time ended both.1 in
+    (rw (le-leb began ended (omega (arith, after, until))) after, until)
+
+within-from : (began ended : Option ℕ) (time : ℕ) → IsSomeAnd (before_end began ended) (λ first. first < time)
+    → IsSomeAnd ended (λ last. time ≤ last) → is_within began ended time ≡ true
+within-from None ended time after until = absurd after
+within-from (Some began) None time after until = absurd until
+within-from (Some began) (Some ended) time after until = by (leb began ended) refl after
+  where
+    by : (order : Bool) → leb began ended ≡ order → IsSomeAnd (if order then Some began else None) (λ first. first < time)
+        → (ltb began time && leb time ended) ≡ true
+    by true order after = rw (lt-ltb began time after, le-leb time ended until) refl
+    by false order after = absurd after
+
+module _ (max_bytes : ℕ) (logs : List TimedLog) (target : List ℕ) where
+  abbrev ends : List ℕ
+  ends = times_at RunsOther target (reports_of max_bytes logs)
+
+  abbrev first : Option ℕ
+  first = begin_in (reports_of max_bytes logs) target
+
+  abbrev last : Option ℕ
+  last = end_in (reports_of max_bytes logs) target
+
+  pub ran-one : (times_of max_bytes logs target).ran_others ≡ true
+      → (time : ℕ) × RanOthers max_bytes logs target (times_of max_bytes logs target) time
+  ran-one is =
+      let found = any-some (is_within first last) ends is in
+      let parts = within-parts first last found.0 found.2 in (
+        found.0,
+        record {
+          is_reported = reported RunsOther target found.0 max_bytes logs found.1;
+          after = parts.0;
+          until = parts.1;
+        },
+      )
+
+  pub ran-none : (times_of max_bytes logs target).ran_others ≡ false
+      → Never (RanOthers max_bytes logs target (times_of max_bytes logs target))
+  ran-none none time ran =
+      let is = any-true (is_within first last) ends time (listed RunsOther target time max_bytes logs ran.is_reported)
+      (within-from first last time ran.after ran.until) in
+      absurd (cc)
+
 -- ---- the order of the logs
+
+same-any : (test : ℕ → Bool) (times others : List ℕ) → ((time : ℕ) → Contains times time → Contains others time)
+    → ((time : ℕ) → Contains others time → Contains times time) → list_any test times ≡ list_any test others
+same-any test times others to from = by (list_any test times) (list_any test others) refl refl
+  where
+    by : (is other : Bool) → list_any test times ≡ is → list_any test others ≡ other → is ≡ other
+    by true true is other_is = refl
+    by false false is other_is = refl
+    by true false is other_is =
+        let found = any-some test times is in
+        let too = any-true test others found.0 (to found.0 found.1) found.2 in absurd (cc)
+    by false true is other_is =
+        let found = any-some test others other_is in
+        let too = any-true test times found.0 (from found.0 found.1) found.2 in absurd (cc)
 
 same-first : (times others : List ℕ) → ((time : ℕ) → Contains times time → Contains others time)
     → ((time : ℕ) → Contains others time → Contains times time) → first_time times ≡ first_time others
@@ -206,7 +292,12 @@ order-irrelevant max_bytes logs others target order =
     (listed-moved max_bytes others logs back EndedInOwnLog target) in
     let other = same-last _ _ (listed-moved max_bytes logs others order EndedInOtherLog target)
     (listed-moved max_bytes others logs back EndedInOtherLog target) in
+    let any = λ (test : ℕ → Bool). same-any test _ _ (listed-moved max_bytes logs others order RunsOther target)
+    (listed-moved max_bytes others logs back RunsOther target) in
     λ i. record {
       began = before_end (option_or (begun i) (first i)) (option_or (own i) (unless_begun (begun i) (other i)));
       ended = option_or (own i) (unless_begun (begun i) (other i));
+      ran_others = (ap (λ (test : ℕ → Bool). list_any test (times_at RunsOther target (reports_of max_bytes logs)))
+          (λ j. is_within (option_or (begun j) (first j)) (option_or (own j) (unless_begun (begun j) (other j))))
+          ∙ any (is_within (begin_in (reports_of max_bytes others) target) (end_in (reports_of max_bytes others) target))) i;
     }

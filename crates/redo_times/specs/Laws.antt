@@ -1,11 +1,11 @@
 -- Definitions that state the laws about times.
-use Rattle.std.specs.Prelude.{◌≡◌, ℕ, ◌<◌, ◌≤◌, ◌⊎◌, true, List, Option, Some, option_and_then, take}
+use Rattle.std.specs.Prelude.{◌≡◌, ℕ, ◌<◌, ◌≤◌, ◌⊎◌, List, Option, Some, IsSomeAnd, take}
 use Rattle.std.specs.List.{Contains}
-use Rattle.redo_line.specs.Entry.{entry_of}
 use Rattle.redo_line.specs.Lines.{ended}
 use Rattle.redo_times.specs.declared.report.Stage.{Stage}
-use Rattle.redo_times.specs.declared.report.Stage.TheVariants.{BeganInOwnLog, BeganInOtherLog, EndedInOwnLog, EndedInOtherLog}
-use Rattle.redo_times.specs.Report.{TimedLog, line_time, stage_of}
+use Rattle.redo_times.specs.declared.report.Stage.TheVariants.{BeganInOwnLog, BeganInOtherLog, EndedInOwnLog, EndedInOtherLog, RunsOther}
+use Rattle.redo_times.specs.declared.times.Times.{Times}
+use Rattle.redo_times.specs.Report.{TimedLog, line_stages, line_time}
 
 -- A record that ends within the first `max_bytes` bytes of one of these logs says that the target reached this stage at this time.
 pub record IsReported (max_bytes : ℕ) (logs : List TimedLog) (stage : Stage) (target : List ℕ) (time : ℕ) : Type 0 where
@@ -13,7 +13,7 @@ pub record IsReported (max_bytes : ℕ) (logs : List TimedLog) (stage : Stage) (
   pub is_log : Contains logs log
   pub line : List ℕ
   pub is_line : Contains (ended (take max_bytes log.bytes)) line
-  pub says : option_and_then (stage_of log.target) (entry_of log.target line true) ≡ Some (stage, target)
+  pub says : Contains (line_stages log.target line) (stage, target)
   pub at : line_time line ≡ Some time
 
 -- `Is` holds of this time, and of no earlier or later one.
@@ -55,3 +55,9 @@ module _ (max_bytes : ℕ) (logs : List TimedLog) (target : List ℕ) where
   -- The target's own log reports a beginning.
   abbrev pub BeginsInOwnLog : Type 0
   BeginsInOwnLog = (time : ℕ) × IsReported max_bytes logs BeganInOwnLog target time
+
+-- A target with these times ran others: its own log reports this at a time after the target began, and not after it ended.
+pub record RanOthers (max_bytes : ℕ) (logs : List TimedLog) (target : List ℕ) (times : Times) (time : ℕ) : Type 0 where
+  pub is_reported : IsReported max_bytes logs RunsOther target time
+  pub after : IsSomeAnd times.began (λ began. began < time)
+  pub until : IsSomeAnd times.ended (λ ended. time ≤ ended)

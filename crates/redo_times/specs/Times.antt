@@ -1,10 +1,11 @@
 -- When a target began and ended.
-use Rattle.std.specs.Prelude.{ℕ, nat_le, Bool, true, false, ◌&&◌, List, [], ◌∷◌, Option, None, Some, IfSome, min, max, filter_map, if◌then◌else◌}
+use Rattle.std.specs.Prelude.{ℕ, nat_le, nat_lt, Bool, true, false, ◌&&◌, List, [], ◌∷◌, Option, None, Some, IfSome, min, max, filter_map, if◌then◌else◌}
+use Rattle.std.specs.List.{list_any}
 use Rattle.std.specs.Option.{option_or}
 use Rattle.std.specs.Str.{bytes_eq}
 use Rattle.redo_times.specs.declared.report.Report.{Report}
 use Rattle.redo_times.specs.declared.report.Stage.{Stage}
-use Rattle.redo_times.specs.declared.report.Stage.TheVariants.{BeganInOwnLog, BeganInOtherLog, EndedInOwnLog, EndedInOtherLog}
+use Rattle.redo_times.specs.declared.report.Stage.TheVariants.{BeganInOwnLog, BeganInOtherLog, EndedInOwnLog, EndedInOtherLog, RunsOther}
 use Rattle.redo_times.specs.declared.times.Times.{Times}
 use Rattle.redo_times.specs.Report.{TimedLog, reports_of}
 use Rattle.redo_times.specs.Time.{IsInRange}
@@ -31,6 +32,7 @@ is_same_stage BeganInOwnLog BeganInOwnLog = true
 is_same_stage BeganInOtherLog BeganInOtherLog = true
 is_same_stage EndedInOwnLog EndedInOwnLog = true
 is_same_stage EndedInOtherLog EndedInOtherLog = true
+is_same_stage RunsOther RunsOther = true
 is_same_stage stage other = false
 
 -- The time of a report, if it says that this target reached this stage.
@@ -63,11 +65,24 @@ end_in reports target =
     option_or (last_time (times_at EndedInOwnLog target reports))
     (unless_begun (first_time (times_at BeganInOwnLog target reports)) (last_time (times_at EndedInOtherLog target reports)))
 
--- When a target began and ended, by these reports.
-abbrev pub times_in : List Report → List ℕ → Times
-times_in reports target = record { began = before_end (begin_in reports target) (end_in reports target); ended = end_in reports target }
+-- Whether a time is after a beginning, and not after an end. Both must be known.
+abbrev pub is_within : Option ℕ → Option ℕ → ℕ → Bool
+is_within (Some began) (Some ended) time = nat_lt began time && nat_le time ended
+is_within began ended time = false
 
--- When a target began and ended, by these logs.
+-- Whether a target ran others, or waited for them, while it ran, as its own log says.
+abbrev pub ran_others_in : List Report → List ℕ → Bool
+ran_others_in reports target = list_any (is_within (begin_in reports target) (end_in reports target)) (times_at RunsOther target reports)
+
+-- When a target began and ended, and whether it ran others, by these reports.
+abbrev pub times_in : List Report → List ℕ → Times
+times_in reports target = record {
+  began = before_end (begin_in reports target) (end_in reports target);
+  ended = end_in reports target;
+  ran_others = ran_others_in reports target;
+}
+
+-- When a target began and ended, and whether it ran others, by these logs.
 abbrev pub times_of : ℕ → List TimedLog → List ℕ → Times
 times_of max_bytes logs target = times_in (reports_of max_bytes logs) target
 

@@ -1,4 +1,4 @@
-//! When targets began and ended, by the records `do` and `done` of all logs.
+//! When targets began and ended, and which ran others, by the records of all logs.
 //!
 //! [`read_times`] reads the streams of an index's targets by itself, on one thread, and returns the [`Times`] of each
 //! target. Laws state that they don't depend on the order of the logs, and which records they come from.
@@ -12,5 +12,8 @@ mod tally;
 mod time;
 mod times;
 
-pub use laws::{beginning_is_first_report, end_is_last_report, order_of_logs_is_irrelevant};
+pub use laws::{
+    beginning_is_first_report, end_is_last_report, order_of_logs_is_irrelevant,
+    ran_others_by_own_log,
+};
 pub use times::{Times, read_times};

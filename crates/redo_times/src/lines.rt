@@ -1,7 +1,7 @@
 //! The reports of the lines of a chunk of a log.
 //!
-//! A line is skipped unless it begins with `@@REDO:`. Most lines have no `@`, and these are skipped many at once. Only `do` and
-//! `done` records are resolved and looked up. A record that is not valid is skipped, because a run reports it. A stream with a fault
+//! A line is skipped unless it begins with `@@REDO:`. Most lines have no `@`, and these are skipped many at once. Only records that
+//! report something are resolved and looked up. A record that is not valid is skipped, because a run reports it. A stream with a fault
 //! has times too.
 ghost use Rattle.std.specs.Prelude.{◌≡◌, ◌≢◌, ◌≤◌, ℕ, List, ◌++◌, ◌∷◌, [], drop, length, take, IfOk, OnOk};
 ghost use Rattle.std.specs.List.{AllByRecursion};
@@ -98,7 +98,7 @@ fn find_at(bytes: &[u8]) -> usize
     }
 }
 
-// Adds the report of an ended line.
+// Adds the reports of an ended line.
 fn add_line(
     alloc: Global,
     index: &Index,
@@ -112,7 +112,7 @@ fn add_line(
         → OnOk result (AreTallies (listed_targets index.now) (reports ++ reports_in log.now (line.now ∷ [])) tallies.new) }
 {
     if let Some(report) = read_report(alloc, log, line)? {
-        add_report(index, tallies, report);
+        add_report(index, tallies, log, report)?;
     }
     Ok(())
 }

@@ -4,17 +4,22 @@ ghost use Rattle.redo_line.specs.Entry.{done_entry, entry_of_fields};
 ghost use Rattle.redo_line.specs.Parts.{split_once};
 ghost use Rattle.redo_line.specs.Record.{kind_of, space};
 ghost use Rattle.redo_name.specs.Names.{normal};
-ghost use Rattle.redo_times.specs.Report.{report_of, stage_of};
-ghost use Rattle.redo_times.specs.Private.Reporting.{begin_of};
+ghost use Rattle.redo_times.specs.Private.Reporting.{begin_of, report_of, stage_of, wait_of};
 
 use crate::time::time_value;
 use redo_line::{NameFault, TargetName, read_status, read_timed, split_at_first};
 use std::alloc::{AllocError, Global};
 
-// The kinds of records from which times are read.
+// The kinds of records that report something.
 const DO: &[u8] = b"do";
 
 const DONE: &[u8] = b"done";
+
+const WAITING: &[u8] = b"waiting";
+
+const LOCKED: &[u8] = b"locked";
+
+const UNLOCKED: &[u8] = b"unlocked";
 
 /// The stage that a record reports of a target.
 #[derive(Clone, Copy)]
@@ -23,9 +28,11 @@ pub enum Stage {
     BeganInOtherLog,
     EndedInOwnLog,
     EndedInOtherLog,
+    /// The target runs another one, or waits for it, as its own log says.
+    RunsOther,
 }
 
-/// A target that reached a stage, and when, in milliseconds since 1970.
+/// The stage that a record reports, the target that the record names, and when this was, in milliseconds since 1970.
 #[derive(Drop)]
 pub struct Report {
     pub stage: Stage,
@@ -73,6 +80,15 @@ fn read_stage(
     if kind == DONE {
         return read_end(alloc, log, text);
     }
+    if kind == WAITING {
+        return read_wait(alloc, log, text);
+    }
+    if kind == LOCKED {
+        return read_wait(alloc, log, text);
+    }
+    if kind == UNLOCKED {
+        return read_wait(alloc, log, text);
+    }
     Ok(None)
 }
 
@@ -109,6 +125,21 @@ fn read_end(
     match resolve(alloc, log, name)? {
         Some(target) if target.same(log) => Ok(Some((Stage::EndedInOwnLog, target))),
         Some(target) => Ok(Some((Stage::EndedInOtherLog, target))),
+        None => Ok(None),
+    }
+}
+
+// Returns what a record says that mentions a target to wait for, and the target. The log's own target doesn't wait for itself.
+fn read_wait(
+    alloc: Global,
+    log: &TargetName,
+    text: &[u8],
+) -> Result<Option<(Stage, TargetName)>, AllocError>
+    ensures { IfOk result (λ said. said ≡ wait_of log.now (normal (Some log.now) text.now)) }
+{
+    match resolve(alloc, log, text)? {
+        Some(target) if target.same(log) => Ok(None),
+        Some(target) => Ok(Some((Stage::RunsOther, target))),
         None => Ok(None),
     }
 }

@@ -17,8 +17,8 @@ use std::alloc::{AllocError, Global};
 // How many bytes are read at once, at most.
 const READ_BYTES: usize = 64 * 1024;
 
-/// When a target began and ended, in milliseconds since 1970. Decimals after the third are dropped. A time is `None` if
-/// no record has it. Records with less than 1,000,000,000 or more than 9,999,999,999 seconds don't count, because a clock
+/// When a target began and ended, in milliseconds since 1970, and whether it ran others. Decimals after the third are dropped. A time is
+/// `None` if no record has it. Records with less than 1,000,000,000 or more than 9,999,999,999 seconds don't count, because a clock
 /// was not set.
 #[derive(Clone, Copy, Debug, PartialEq, Eq)]
 pub struct Times {
@@ -28,6 +28,9 @@ pub struct Times {
     /// The last time of a `done` record of the target in its own log; if this has neither a `do` nor a `done` record of it, in another
     /// log.
     pub ended: Option<u64>,
+    /// Whether it ran others, or waited for them: its own log has a record of another target, of the kind `do`, `done`, `waiting`, `locked`
+    /// or `unlocked`, at a time after `began`, and not after `ended`.
+    pub ran_others: bool,
 }
 
 /// Reads the streams of the targets of an index, and returns the times of each target, in the order of the index, and then the readers.
@@ -39,8 +42,8 @@ pub struct Times {
 ///
 /// Each time is from 1,000,000,000,000 to 9,999,999,999,999. The only error is that an allocation failed.
 ///
-/// It stores a chunk of 64 KiB, the longest line that chunks divide, and 80 bytes for each target. It allocates for each
-/// `do` and `done` record, but not for other lines.
+/// It stores a chunk of 64 KiB, the longest line that chunks divide, some 140 bytes for each target, and a time for each record of
+/// another target. It allocates for records that name targets, and not for other lines.
 pub fn read_times<R: Feed>(
     alloc: Global,
     index: &Index,
@@ -96,7 +99,10 @@ fn empty_tallies(alloc: Global, index: &Index) -> Result<Vec<Tally>, AllocError>
     ensures tallies { IfOk result (λ tallies. AreTallies (listed_targets index.now) [] tallies.items) }
     ensures index { IsIndex index.now }
 {
-    let tallies = vec![in alloc; Tally::empty(); index.len() as usize]?;
+    let mut tallies = Vec::with_capacity(alloc, index.len() as usize)?;
+    for _ in 0..index.len() {
+        tallies.push(Tally::empty(alloc))?;
+    }
     Ok(tallies)
 }
 

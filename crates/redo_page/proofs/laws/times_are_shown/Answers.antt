@@ -17,11 +17,11 @@ returns-clause-no_chart c = page_has_no_chart c.positions_are_of_nodes.ensures.t
 
 pub returns-clause-window : goal.returns-clause-window
 returns-clause-window c = λ request logs requested window has.
-    c.window_is_over_known_times.ensures.window logs (page_outline request logs requested) request.times window has.0
+    c.window_is_over_known_times.ensures.window (page_outline request logs requested) request.times window has.0
 
 pub returns-clause-spans : goal.returns-clause-spans
 returns-clause-spans c = λ request logs requested.
-    c.spans_are_callers_or_recipes.ensures logs (page_outline request logs requested) request.times
+    c.spans_are_callers_or_recipes.ensures (page_outline request logs requested) request.times
 
 pub returns-clause-callers : goal.returns-clause-callers
 returns-clause-callers c = λ request logs requested window has.

@@ -1,4 +1,4 @@
-use Rattle.redo_summary.proofs.RanOthersLemmas.{all_callers_ran, no_recipe_ran}
+use Rattle.redo_summary.proofs.LawLemmas.{all_callers_ran, no_recipe_ran}
 use Rattle.redo_summary.proofs.laws.callers_ran_others.Goals as goal
 
 pub returns-clause-callers : goal.returns-clause-callers

@@ -1,7 +1,7 @@
 use Rattle.std.proofs.Common.{Option, sym, subst}
 use Rattle.std.specs.Prelude.{◌≡◌, IfOk, option_and_then}
 use Rattle.redo_line.specs.declared.entry.Entry.{Entry}
-use Rattle.redo_times.specs.Report.{stage_of}
+use Rattle.redo_times.specs.Private.Reporting.{stage_of}
 use Rattle.redo_times.proofs.ReportLemmas.{end_entry}
 use Rattle.redo_times.proofs.report.read_stage.Goals as goal
 
