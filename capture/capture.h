@@ -141,20 +141,19 @@ struct making {
   int status;                 /* as target_run has it */
   struct making *next;
 };
-/* The line of a recipe that runs a make. */
+/* The line of a recipe that runs a sub-make. */
 struct caller {
   struct target *target; /* the target of the recipe; may be NULL */
   unsigned line;         /* the number of the line; 0 if it is not known */
 };
-/* That a line of a target failed. */
+/* That a line of a target failed, and its make did not go on with the recipe. */
 struct failure {
   const struct make *make;
   uint32_t recipe;      /* the number of the line's recipe in that make */
   unsigned line;        /* the number of the line */
   int status;           /* as a shell reports it */
   struct caller caller; /* of the make */
-  int is_followed;      /* the make went on with the next line of the recipe, so the recipe did not fail */
-  int is_ignored;       /* the make is known to have gone on, with the next line or after the recipe */
+  int is_ignored;       /* the make is known to have ignored it */
   int is_interrupted;   /* it failed after a signal had stopped the build */
   int has_cause;        /* set by report.c: a line that a sub-make ran meanwhile failed */
   struct failure *next; /* the target's failure before this one */
@@ -445,7 +444,7 @@ struct line_end {
 /* Returns the line, or NULL if the process is no line. */
 struct line *find_line(const struct make *make, pid_t process);
 void end_line(struct line *line, struct line_end end, int is_shown);
-/* Records that a make ignores all failures of its lines so far. */
+/* Records that the make ignores all failures of its lines so far. */
 void ignore_failures(struct make *make);
 /* Records that a line runs this make. */
 void add_sub_make(const struct make *make);

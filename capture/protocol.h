@@ -33,7 +33,7 @@ enum message_kind {
   STARTED = 'S', /* struct started: the line that was announced last has started */
   FAILED = 'F',  /* struct failed, and names: make could not start a line, and has not announced it */
   ENDED = 'E',   /* struct ended: a child of make ended; reply, if it is asked for: struct reply */
-  WENT_ON = 'W', /* struct went_on: make has ignored each failure of a line so far */
+  WENT_ON = 'W', /* struct went_on: make has ignored each failure of a line so far: it succeeds, or executes itself again */
 };
 
 /* What the server sends through the first socket. */

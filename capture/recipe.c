@@ -176,12 +176,12 @@ static void ignore_failure(struct failure *failure) {
   failure->is_ignored = 1;
 }
 
-/* If make goes on with the recipe, it ignores what failed before. */
-static void ignore_earlier_lines(const struct line *line) {
-  for (struct failure *failure = line->target->run.failures; failure; failure = failure->next) {
-    if (failure->make != line->make || failure->recipe != line->recipe) continue;
-    ignore_failure(failure);
-    failure->is_followed = 1;
+/* If make goes on with the recipe, it ignores what failed before, and the recipe has not failed. */
+static void forget_earlier_lines(const struct line *line) {
+  for (struct failure **link = &line->target->run.failures, *failure; (failure = *link);) {
+    int is_earlier = failure->make == line->make && failure->recipe == line->recipe;
+    if (is_earlier) ignore_failure(failure), *link = failure->next;
+    else link = &failure->next;
   }
 }
 
@@ -200,7 +200,7 @@ static void set_up_line(struct line *line) {
   line->caller.line = outer ? outer->number : 0;
   line->is_nested = enclosing != NULL;
   line->making = run->last_making = run->has_begun ? making_of(line, enclosing) : NULL;
-  ignore_earlier_lines(line);
+  forget_earlier_lines(line);
 }
 
 void begin_line(struct make *make, uint32_t recipe, struct target *target, struct command command, int64_t time, pid_t process,
@@ -241,7 +241,7 @@ static void add_failure(const struct line *line) {
    that failed in the make of the line, or 0. */
 static int failed_status(const struct line *line) {
   const struct failure *failure = line->target->run.failures;
-  while (failure && (failure->make != line->make || failure->is_followed)) failure = failure->next;
+  while (failure && failure->make != line->make) failure = failure->next;
   return failure ? failure->status : 0;
 }
 

@@ -113,13 +113,20 @@ static struct failure *failure_of(const struct target *target, unsigned line) {
   return failure;
 }
 
-/* Whether nobody ignored a failure: not the make, nor the recipe that ran it, nor one above. A recipe whose line still ran ignored none. */
-static int is_final(const struct failure *failure) {
-  while (failure && !failure->is_ignored) {
+/* Whether the make ignored a failure of the target, or the target succeeded later in another sub-make of the same recipe. */
+static int is_settled(const struct target *target, const struct failure *failure) {
+  const struct making *making = making_for(target, log_parent(target, failure->caller.target));
+  return failure->is_ignored || (making && making->status == 0);
+}
+
+/* Whether nobody ignored a failure of the target: not the make, nor the recipe that ran it, nor one above. A recipe whose line still ran
+   ignored none. */
+static int is_final(const struct target *target, const struct failure *failure) {
+  while (failure && !is_settled(target, failure)) {
     struct caller caller = failure->caller;
     if (!caller.target) return 1;
     if (caller.target->run.status < 0 && caller.target->run.last_line == caller.line) return 1;
-    failure = failure_of(caller.target, caller.line);
+    target = caller.target, failure = failure_of(caller.target, caller.line);
   }
   return 0;
 }
@@ -127,20 +134,20 @@ static int is_final(const struct failure *failure) {
 /* Whether a line of the target failed, nobody ignored that, and no line of a sub-make was the cause. */
 static int is_cause(const struct target *target) {
   for (const struct failure *failure = target->run.failures; failure; failure = failure->next)
-    if (!failure->is_interrupted && !failure->has_cause && is_final(failure)) return 1;
+    if (!failure->is_interrupted && !failure->has_cause && is_final(target, failure)) return 1;
   return 0;
 }
 
 static int has_final_failure(const struct target *target) {
   const struct failure *failure = target->run.failures;
-  while (failure && (failure->is_interrupted || !is_final(failure))) failure = failure->next;
+  while (failure && (failure->is_interrupted || !is_final(target, failure))) failure = failure->next;
   return failure != NULL;
 }
 
 static void find_causes(const struct target *target) {
   for (const struct failure *failure = target->run.failures; failure; failure = failure->next) {
     struct failure *outer = failure->caller.target ? failure_of(failure->caller.target, failure->caller.line) : NULL;
-    if (outer && !failure->is_ignored && !failure->is_interrupted) outer->has_cause = 1;
+    if (outer && !is_settled(target, failure) && !failure->is_interrupted) outer->has_cause = 1;
   }
 }
 
@@ -159,8 +166,10 @@ static void group_targets(struct groups *groups) {
     if (target->run.is_interrupted || target->run.status < 0 || target->running_lines > 0) add_to_group(&groups->running, target);
     else if (is_cause(target)) add_to_group(&groups->failed, target);
     else if (has_final_failure(target)) continue;
-    else if (has_failed(target)) add_to_group(&groups->ignored, target);
-    else if (target->log.has_unshown_text) add_to_group(&groups->texts, target);
+    else {
+      if (target->run.failures) add_to_group(&groups->ignored, target);
+      if (!has_failed(target) && target->log.has_unshown_text) add_to_group(&groups->texts, target);
+    }
   }
   free(sorted);
 }

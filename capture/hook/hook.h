@@ -88,12 +88,8 @@ char **build_environment(char *const *environment, long recipe, int pipe);
 
 /* A child has failed, or could not be started. */
 void note_failure(void);
-/* make begins a recipe. */
-void note_recipe(void);
 /* Tells the server that make ignores all failures so far, unless there is none since the last call. */
 void report_going_on(void);
-/* make's own variable: whether it goes on with other recipes after one has failed (-k). NULL if make doesn't export it. */
-extern volatile int *keep_going_flag;
 
 /* spawn.c, exec.c, wait.c, failure.c: what make calls instead of the C library */
 struct import {

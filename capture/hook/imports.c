@@ -115,7 +115,6 @@ static int visit_slots(int is_replaced) {
 int find_imports(void) {
   for (int i = 0; i < IMPORT_COUNT; i++) imports[i].original = find_function(imports[i].name);
   handling_fatal_signal = find_function("handling_fatal_signal");
-  keep_going_flag = find_function("keep_going_flag");
   return imports[WAIT4].original ? visit_slots(0) : -1;
 }
 

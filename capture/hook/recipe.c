@@ -51,7 +51,6 @@ char *announce_recipe(const char *function, unsigned argument_count, char **argu
   if (!number) return NULL;
   *number = 0;
   if (argument_count < 2 || !*arguments[0]) return number;
-  note_recipe();
   if (is_connected() && add_names(arguments[0], arguments[1]) == 0) append_number(number, ++recipe_count, 0);
   return number;
 }

@@ -174,7 +174,7 @@ def double_colons(checks, at):
     folder = project(at("retried"), "x: ; @test -e there\n")
     status = ran(folder, [TOOL, "--summary", "summary", "sh", "-c", "make x || { touch there; make x; }"])[0]
     checks.expect("another make succeeds", (status, summary_of(folder)), (0, {"x": "0"}))
-    # A recipe of `x` runs a make that makes `x`. What failed there counts if this recipe fails, and what failed before does in any case.
+    # A recipe of `x` runs a sub-make that makes `x`. What failed there counts if this recipe fails, and what failed before does in any case.
     for name, above, below, words, wanted in (
         ("fails there, and that is ignored", "x:: ; @$(MAKE) -s -i -f below.mk x\n", "x:: ; @false\nx:: ; @true\n", [], (0, "0")),
         ("fails there", "x:: ; @$(MAKE) -s -k -f below.mk x\n", "x:: ; @exit 4\nx:: ; @true\n", [], (2, "2")),

@@ -209,8 +209,8 @@ def ignored_failures(checks, at):
     checks.expect("double-colon rules of a build that succeeds", ran(folder, [TOOL, "make", "-is"]), (0, "", said("x", 1, "echo one >&2; false", "one\n")))
 
 
-# Makefiles with a failure that ends no recipe early, because the line is the last one, and the targets that failed. `clean` and `gen.mk`
-# fail, but their make goes on.
+# Makefiles with a failure that ends no recipe early, because the line is the last one, and the targets that are named. `clean`, `gen.mk` and
+# `dep` fail, but their make goes on. This is known if it succeeds, or executes itself again.
 BELOW = "rebuild: ; @$(MAKE) -s%s && { echo bad.c >&2; exit 3; }\n"
 INCLUDED = "gen.mk: ; @echo gen.mk >&2; false\n"
 GOING_ON = {
@@ -222,11 +222,12 @@ GOING_ON = {
     "a command that isn't there": (BELOW % " clean" + "clean: ; -@./nosuch\n", ["rebuild"]),
     "two levels": (BELOW % " mid" + "mid: ; @$(MAKE) -s clean\nclean: ; -@false\n", ["rebuild"]),
     "-include": (BELOW % " CLEAN=1 mid" + "mid: ;\nifdef CLEAN\n-include gen.mk\nendif\n" + INCLUDED, ["rebuild"]),
-    "another recipe": ("all: clean x\nclean: ; -@false\nx: clean ; @exit 3\n", ["x"]),
-    "another recipe of a sub-make": ("all: ; @$(MAKE) -s x\nclean: ; -@false\nx: clean ; @exit 3\n", ["x"]),
-    "another recipe, after -include": ("-include gen.mk\nall: ; @exit 3\n" + INCLUDED, ["all"]),
-    "a makefile that is remade before": ("include a.mk\n-include gen.mk\nall: ; @exit 3\na.mk: ; @touch a.mk\n" + INCLUDED, ["all"]),
-    "a makefile that is remade after it": ("-include gen.mk\ninclude a.mk\nall: ; @exit 3\na.mk: ; @touch a.mk\n" + INCLUDED, ["all"]),
+    "another recipe": ("all: clean x\nclean: ; -@false\nx: clean ; @exit 3\n", ["clean", "x"]),
+    "another recipe, after -include": ("-include gen.mk\nall: ; @exit 3\n" + INCLUDED, ["all", "gen.mk"]),
+    "another recipe, and a goal needs what -include did without": ("all: x dep\n-include gen.mk\ngen.mk: dep ; @touch $@\ndep: ; @false\nx: ;\n", ["dep"]),
+    "the same in a sub-make": ("sub: ; @$(MAKE) -s all\nall: x dep\nifdef MAKELEVEL\nifneq (0,$(MAKELEVEL))\n-include gen.mk\nendif\nendif\ngen.mk: dep ; @touch $@\ndep: ; @false\nx: ; @:\n", ["dep"]),
+    "a makefile that is remade, and gen.mk again": ("-include gen.mk\ninclude a.mk\nall: ; @exit 3\na.mk: ; @touch a.mk\n" + INCLUDED, ["all", "gen.mk"]),
+    "a makefile that is remade": ("ifndef MAKE_RESTARTS\n-include gen.mk\nendif\ninclude a.mk\nall: ; @exit 3\na.mk: ; @touch a.mk\n" + INCLUDED, ["all"]),
     "a makefile that is remade, and -k": ("MAKEFLAGS += -k\ninclude a.mk\n-include gen.mk\nall: ; @$(MAKE) -s x\nx: ; @exit 3\na.mk: ; @touch a.mk\n" + INCLUDED, ["gen.mk", "x"]),
     "-k": ("MAKEFLAGS += -k\nall: clean x\nclean: ; -@false\nx: ; @exit 3\n", ["clean", "x"]),
     "-k, and nothing is ignored": ("MAKEFLAGS += -k\nall: clean x\nclean: ; @false\nx: ; @exit 3\n", ["clean", "x"]),
@@ -245,6 +246,16 @@ def ignored_last_lines(checks, at):
     script = "make -s clean; make -s x"
     told = ran(project(at("script"), "clean: ; -@false\nx: ; @exit 3\n"), [TOOL, "sh", "-c", script])[2]
     checks.expect("a make that succeeded, and another one", last_lines(3, told), failed("x", is_empty=True))
+    # `a` fails in the first make, and succeeds in the second one.
+    twice = "all: a b\na: ; @mkdir once 2>/dev/null && exit 1; echo a >&2\nb: ; @echo b >&2; exit 3\n"
+    told = ran(project(at("again"), twice), [TOOL, "sh", "-c", "make -s; make -sk"])[2]
+    checks.expect("a target that succeeds in the next make", last_lines(3, told), failed("b", printed=["a"]))
+    told = ran(project(at("nothing"), twice), [TOOL, "sh", "-c", "make -s; make -s a nothing"])[2]
+    line = "only failures that seem to be ignored: redo-log a; see sh's own message"
+    checks.expect("a target that succeeds in the next make, which fails without a recipe", line in told, True)
+    until = "all: ; @until $(MAKE) -s a; do :; done; echo all >&2; exit 9\n" + twice.partition("\n")[2]
+    told = make(project(at("until"), until), "-s")[2]
+    checks.expect("a target that succeeds in the next make of its recipe, which fails", last_lines(2, told), failed("all"))
 
     # `b` begins its second line when make knows that `a` has failed, and fails then. make ends each recipe that has begun.
     wait = "until [ -e begun ]; do sleep 0.01; done"
