@@ -105,6 +105,15 @@ static void report_uncaptured(void) {
   free(names);
 }
 
+/* A sub-make may be killed, and the build go on. Then what it interrupted has failed. */
+static void end_interruptions(void) {
+  if (stop_signal || command_signal) return;
+  for (size_t i = 0; i < target_count; i++) {
+    targets[i]->run.is_interrupted = 0;
+    for (struct failure *failure = targets[i]->run.failures; failure; failure = failure->next) failure->is_interrupted = 0;
+  }
+}
+
 static int has_failed(const struct target *target) { return target->run.status > 0 && !target->run.is_interrupted; }
 
 static struct failure *failure_of(const struct target *target, unsigned line) {
@@ -177,6 +186,7 @@ static void group_targets(struct groups *groups) {
 void report(const char *command, int is_quiet) {
   static struct groups groups;
   if (!is_capturing()) return report_uncaptured();
+  end_interruptions();
   group_targets(&groups);
   /* The build may have ignored the signal. */
   int is_stopped = command_status != 0 && (command_signal || (stop_signal && (was_stopped || groups.failed.count == 0)));

@@ -256,6 +256,9 @@ def ignored_last_lines(checks, at):
     until = "all: ; @until $(MAKE) -s a; do :; done; echo all >&2; exit 9\n" + twice.partition("\n")[2]
     told = make(project(at("until"), until), "-s")[2]
     checks.expect("a target that succeeds in the next make of its recipe, which fails", last_lines(2, told), failed("all"))
+    # The sub-make is killed, and the build isn't.
+    told = make(project(at("killed"), "all: ; @$(MAKE) -s t\nt: ; @echo t >&2; kill $$PPID; exec sleep 60\n"), "-s")[2]
+    checks.expect("a target whose make is killed", last_lines(2, told), failed("t"))
 
     # `b` begins its second line when make knows that `a` has failed, and fails then. make ends each recipe that has begun.
     wait = "until [ -e begun ]; do sleep 0.01; done"
