@@ -1,6 +1,5 @@
 -- The targets that the outline of a baseline shows.
-use Rattle.std.proofs.Common.{◌≡◌, ℕ, zero, suc, ◌+◌, take, slice_get, cond, Bool, true, false, not, List, [], ◌∷◌, ◌++◌, Option, None, Some, is_some, nat_eq, refl, sym, ap, ◌∙◌, append_assoc, arith}
-use Rattle.std.specs.Prelude.{filter}
+use Rattle.std.proofs.Common.{◌≡◌, ℕ, zero, suc, ◌+◌, take, slice_get, cond, Bool, true, false, not, List, [], ◌∷◌, ◌++◌, None, Some, is_some, nat_eq, refl, sym, ap, ◌∙◌, append_assoc, arith}
 use Rattle.std.specs.Cmp.Lexicographic.{pointwise}
 use Rattle.std.specs.List.{position_from}
 use Rattle.std.proofs.lemmas.Iterator.Adapters.{position_from-zero}

@@ -1,6 +1,7 @@
 mod BaselineLemmas
 mod BaselineRows
 mod ChangeRows
+pub mod DiagnosticLemmas
 pub mod FindingLemmas
 mod FindingRows
 pub mod KindLemmas

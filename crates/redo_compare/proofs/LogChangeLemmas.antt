@@ -8,7 +8,7 @@ use Rattle.std.proofs.lemmas.Cmp.{nat_list_eq_equiv}
 use Rattle.std.proofs.lemmas.Iterator.Adapters.{position_from-zero}
 use Rattle.std.proofs.lemmas.List.Sums.{sum_by-cons}
 use Rattle.std.proofs.lemmas.Option.{none-some, same_Some}
-use Rattle.redo_diagnostics.specs.Diagnostic.{DiagnosticValue, diagnostic_of}
+use Rattle.redo_diagnostics.specs.Diagnostic.{PartsValue, parts_of}
 use Rattle.redo_line.specs.declared.entry.Entry.{Entry}
 use Rattle.redo_logs.specs.Logs.{IsTable, Log, log_number, targets_of}
 use Rattle.redo_outline.specs.Facts.{entries_at, texts_of}
@@ -32,9 +32,9 @@ lower low high (one ∷ others) below ascend = let first = ascend.0 in (omega (a
 
 pub lines-ascend : (position : ℕ) (lines : List (List ℕ)) → Ascend position (occurrences_from position lines)
 lines-ascend position [] = tt
-lines-ascend position (line ∷ lines) = by (diagnostic_of line) (lines-ascend (suc position) lines)
+lines-ascend position (line ∷ lines) = by (parts_of line) (lines-ascend (suc position) lines)
   where
-    by : (found : Option DiagnosticValue) → Ascend (suc position) (occurrences_from (suc position) lines)
+    by : (found : Option PartsValue) → Ascend (suc position) (occurrences_from (suc position) lines)
         → Ascend position (occurrence_if position found (first_source lines) (occurrences_from (suc position) lines))
     by None rest = lower position (suc position) (occurrences_from (suc position) lines) (omega arith) rest
     by (Some value) rest = (omega arith, rest)

@@ -4,7 +4,7 @@ use Rattle.std.specs.Prelude.{false, is_some}
 use Rattle.std.specs.List.{AllByRecursion, cons_option, flat_map}
 use Rattle.std.proofs.lemmas.List.{append-nil, append_assoc, length-append, length-drop, take-append-drop, take_all}
 use Rattle.memchr.specs.Find.{NoneBefore, Nowhere, Passes, is_byte}
-use Rattle.redo_diagnostics.specs.Diagnostic.{DiagnosticValue, diagnostic_of}
+use Rattle.redo_diagnostics.specs.Diagnostic.{PartsValue, diagnostic_of}
 use Rattle.redo_line.proofs.CutLemmas.{free_before, holds_none, upto_feed}
 use Rattle.redo_line.proofs.LineLemmas.{ended-free, ended-line, only_lines, rest-line}
 use Rattle.redo_line.specs.Lines.{HasNoLineFeed, ended, line_feed, rest, with_line_feed}
@@ -17,6 +17,7 @@ use Rattle.redo_outline.specs.Facts.{entries_at, text_of, texts_of}
 use Rattle.redo_compare.specs.Occurrences.{FoundValue, IsFoundIn, occurrence_if, occurrences_of}
 use Rattle.redo_compare.specs.Private.Finding.{IsFirstLine, with_source_if}
 use Rattle.redo_compare.specs.Source.{source_of}
+use Rattle.redo_compare.proofs.DiagnosticLemmas.{no_parts}
 use Rattle.redo_compare.proofs.FindingLemmas.{ends-push, occurrences-push}
 
 -- ---- lines without diagnostics
@@ -24,13 +25,13 @@ use Rattle.redo_compare.proofs.FindingLemmas.{ends-push, occurrences-push}
 -- A line that is no diagnostic, after another one.
 skip-line : (lines : List (List ℕ)) (line : List ℕ) (found : FoundValue) → IsFoundIn lines found → found.is_last ≡ false
     → diagnostic_of line ≡ None → IsFoundIn (lines ++ line ∷ []) found
-skip-line lines line found is not_last none = record {
+skip-line lines line found is not_last no_diagnostic = record {
   occurrences = is.occurrences
       ∙ sym (occurrences-push 0 lines line
       ∙ (λ i. with_source_if ((sym is.is_last ∙ not_last) i) (source_of line) (occurrences_of lines)
-      ++ occurrence_if (0 + length lines) (none i) [] [])
+      ++ occurrence_if (0 + length lines) (no_parts line no_diagnostic i) [] [])
       ∙ append-nil (occurrences_of lines));
-  is_last = not_last ∙ sym (ends-push lines line ∙ ap (λ (value : Option DiagnosticValue). is_some value) none);
+  is_last = not_last ∙ sym (ends-push lines line ∙ ap (λ (parts : Option PartsValue). is_some parts) (no_parts line no_diagnostic));
 }
 
 pub skip-lines : (lines more : List (List ℕ)) (found : FoundValue) → IsFoundIn lines found → found.is_last ≡ false

@@ -1,6 +1,6 @@
 //! The diagnostics of a log.
 ghost use Rattle.std.specs.Prelude.{◌≡◌, ◌∷◌, ◌++◌, ℕ, List, [], length, is_some, IfOk, OnOk};
-ghost use Rattle.redo_diagnostics.specs.Diagnostic.{diagnostic_of};
+ghost use Rattle.redo_diagnostics.specs.Diagnostic.{parts_of};
 ghost use Rattle.redo_compare.specs.Occurrences.{IsFoundIn, occurrence_if};
 ghost use Rattle.redo_compare.specs.Private.Finding.{with_last_source, with_source_if};
 ghost use Rattle.redo_compare.specs.Source as spec;
@@ -148,8 +148,8 @@ fn push_if_diagnostic(
     line: &[u8],
 ) -> Result<bool, AllocError>
     ensures occurrences { OnOk result (occurrences.new.items
-        ≡ occurrences.old.items ++ occurrence_if position (diagnostic_of line.now) [] []) }
-    ensures is { IfOk result (λ is. is ≡ is_some (diagnostic_of line.now)) }
+        ≡ occurrences.old.items ++ occurrence_if position (parts_of line.now) [] []) }
+    ensures is { IfOk result (λ is. is ≡ is_some (parts_of line.now)) }
 {
     let mut plain = Vec::new(alloc);
     let Some(diagnostic) = read_diagnostic(line, &mut plain)? else {

@@ -27,7 +27,7 @@ use Rattle.redo_compare.specs.Changes.{all_or_none}
 use Rattle.redo_compare.specs.LogChanges.{diagnostics_in, earlier_number}
 use Rattle.redo_compare.specs.Occurrences.{OccurrenceValue, first_source, occurrence_if, occurrences_from}
 use Rattle.redo_compare.specs.Rounds.{left_after, new_since, occurs, same_key, same_source, unknown_in, without}
-use Rattle.redo_diagnostics.specs.Diagnostic.{DiagnosticValue, diagnostic_of}
+use Rattle.redo_diagnostics.specs.Diagnostic.{PartsValue, parts_of}
 use Rattle.redo_json.specs.Build.{Request, build_events, build_values, changes_in, cpu_time, log_values, options_of, unknown_times, values_in}
 use Rattle.redo_json.specs.Laws.{HasExactEntries, HasExactInputs, HasExactNumbers, HasExactUsage, HasFewEntries, IsExact, IsExactEntry, IsExactSigned, gone_count}
 
@@ -235,9 +235,9 @@ new_few earlier now =
 
 occurrences_few : (position : ℕ) (lines : List (List ℕ)) → length (occurrences_from position lines) ≤ length lines
 occurrences_few position [] = omega arith
-occurrences_few position (line ∷ lines) = by (diagnostic_of line) (occurrences_few (suc position) lines)
+occurrences_few position (line ∷ lines) = by (parts_of line) (occurrences_few (suc position) lines)
   where
-    by : (found : Option DiagnosticValue) → length (occurrences_from (suc position) lines) ≤ length lines
+    by : (found : Option PartsValue) → length (occurrences_from (suc position) lines) ≤ length lines
         → length (occurrence_if position found (first_source lines) (occurrences_from (suc position) lines)) ≤ suc (length lines)
     by None few = omega (arith, few)
     by (Some value) few = omega (arith, few)

@@ -12,7 +12,7 @@ use Rattle.redo_compare.specs.Baseline.{BaselineValue, target_changes}
 use Rattle.redo_compare.specs.LogChanges.{are_new, diagnostics_in, is_new, new_in_log}
 use Rattle.redo_compare.specs.Occurrences.{OccurrenceValue, first_source, occurrence_if, occurrences_from}
 use Rattle.redo_diagnostics.specs.Counts.{times_of}
-use Rattle.redo_diagnostics.specs.Diagnostic.{DiagnosticValue, diagnostic_of}
+use Rattle.redo_diagnostics.specs.Diagnostic.{PartsValue, diagnostic_from, diagnostic_of, key_of, parts_of}
 use Rattle.redo_json.specs.Build.{Request, build_events, build_values, values_in}
 use Rattle.redo_json.specs.Diagnostics.{FlaggedDiagnostic, LogDiagnostic, diagnostics_of, flagged, numbered_from, placed_from, placed_if}
 use Rattle.redo_json.specs.Laws.{flagged_by_line, is_new_line, unflagged}
@@ -38,18 +38,19 @@ none_flagged (one ∷ others) = ap (λ (l : List FlaggedDiagnostic). unflagged o
 
 both_found : (keys : List (List ℕ)) (position : ℕ) (lines : List (List ℕ))
     → length (occurrences_from position lines) ≡ length (numbered_from keys (placed_from position lines))
+unfolding diagnostic_of
 both_found keys position [] = refl
 both_found keys position (line ∷ lines) =
-    by (diagnostic_of line) (both_found keys (suc position) lines) (λ key. both_found (keys ++ key ∷ []) (suc position) lines)
+    by (parts_of line) (both_found keys (suc position) lines) (λ key. both_found (keys ++ key ∷ []) (suc position) lines)
   where
-    by : (found : Option DiagnosticValue)
+    by : (found : Option PartsValue)
         → length (occurrences_from (suc position) lines) ≡ length (numbered_from keys (placed_from (suc position) lines))
         → ((key : List ℕ) → length (occurrences_from (suc position) lines)
         ≡ length (numbered_from (keys ++ key ∷ []) (placed_from (suc position) lines)))
         → length (occurrence_if position found (first_source lines) (occurrences_from (suc position) lines))
-        ≡ length (numbered_from keys (placed_if position found (placed_from (suc position) lines)))
+        ≡ length (numbered_from keys (placed_if position (option_map diagnostic_from found) (placed_from (suc position) lines)))
     by None others after = others
-    by (Some value) others after = ap suc (after value.key)
+    by (Some parts) others after = ap suc (after (key_of parts))
 
 -- There is a flag for each diagnostic.
 pub as_many : (earlier logs : List Log) (number : ℕ)
@@ -65,23 +66,26 @@ module _ (new : List OccurrenceValue) where
   by_lines : (keys : List (List ℕ)) (position : ℕ) (lines : List (List ℕ))
       → flagged (Some (map in_new_line (occurrences_from position lines))) (numbered_from keys (placed_from position lines))
       ≡ map (flagged_by_line new) (numbered_from keys (placed_from position lines))
+  unfolding diagnostic_of
   by_lines keys position [] = refl
   by_lines keys position (line ∷ lines) =
-      by (diagnostic_of line) (by_lines keys (suc position) lines) (λ key. by_lines (keys ++ key ∷ []) (suc position) lines)
+      by (parts_of line) (by_lines keys (suc position) lines) (λ key. by_lines (keys ++ key ∷ []) (suc position) lines)
     where
-      by : (found : Option DiagnosticValue)
+      by : (found : Option PartsValue)
           → flagged (Some (map in_new_line (occurrences_from (suc position) lines))) (numbered_from keys (placed_from (suc position) lines))
           ≡ map (flagged_by_line new) (numbered_from keys (placed_from (suc position) lines))
           → ((key : List ℕ) → flagged (Some (map in_new_line (occurrences_from (suc position) lines)))
           (numbered_from (keys ++ key ∷ []) (placed_from (suc position) lines))
           ≡ map (flagged_by_line new) (numbered_from (keys ++ key ∷ []) (placed_from (suc position) lines)))
           → flagged (Some (map in_new_line (occurrence_if position found (first_source lines) (occurrences_from (suc position) lines))))
-          (numbered_from keys (placed_if position found (placed_from (suc position) lines)))
-          ≡ map (flagged_by_line new) (numbered_from keys (placed_if position found (placed_from (suc position) lines)))
+          (numbered_from keys (placed_if position (option_map diagnostic_from found) (placed_from (suc position) lines)))
+          ≡ map (flagged_by_line new)
+          (numbered_from keys (placed_if position (option_map diagnostic_from found) (placed_from (suc position) lines)))
       by None others after = others
-      by (Some value) others after =
-          let one : LogDiagnostic = record { line = position; value = value; nth = times_of value.key keys } in
-          ap (λ (l : List FlaggedDiagnostic). flagged_by_line new one ∷ l) (after value.key)
+      by (Some parts) others after =
+          let key = key_of parts in
+          let one : LogDiagnostic = record { line = position; value = diagnostic_from parts; nth = times_of key keys } in
+          ap (λ (l : List FlaggedDiagnostic). flagged_by_line new one ∷ l) (after key)
 
 pub in_new_lines : (earlier logs : List Log) (number : ℕ)
     → flagged (Some (are_new earlier logs number)) (diagnostics_of (texts_of (entries_at number logs)))

@@ -1,9 +1,9 @@
 -- Which lines the text has, and how it begins.
 use Rattle.std.proofs.Common.{◌≡◌, ◌∙◌, ℕ, suc, nat_eq, Bool, true, false, ◌||◌, List, [], ◌∷◌, ◌++◌, Option, None, Some, filter, get_or, is_some, length, map, codes, refl, sym, ap, ap₂, arith, append_assoc}
-use Rattle.std.specs.Prelude.{if◌then◌else◌}
+use Rattle.std.specs.Prelude.{if◌then◌else◌, option_map}
 use Rattle.std.specs.List.{flat_map, list_any, starts_with}
 use Rattle.std.proofs.lemmas.List.{append-nil, length-append}
-use Rattle.redo_diagnostics.specs.Diagnostic.{DiagnosticValue, diagnostic_of}
+use Rattle.redo_diagnostics.specs.Diagnostic.{PartsValue, diagnostic_from, diagnostic_of, parts_of}
 use Rattle.redo_line.specs.Lines.{with_line_feed}
 use Rattle.redo_logs.specs.Logs.{Log}
 use Rattle.redo_outline.specs.Facts.{entries_at, target_at, texts_of}
@@ -31,22 +31,23 @@ module _ (all : List (List ℕ)) where
   -- `front` are the lines before these, which are `n`.
   lines_from : (front lines : List (List ℕ)) (n : ℕ) → all ≡ front ++ lines → n ≡ length front
       → map line_at (occurrences_from n lines) ≡ filter is_diagnostic lines
+  unfolding diagnostic_of
   lines_from front [] n whole counted = refl
   lines_from front (line ∷ lines) n whole counted =
       let size = length-append front (line ∷ []) in
       let more : all ≡ (front ++ line ∷ []) ++ lines = whole ∙ sym (append_assoc front (line ∷ []) lines) in
       let longer : suc n ≡ length (front ++ line ∷ []) = omega (arith, counted, size) in
-      by (lines_from (front ++ line ∷ []) lines (suc n) more longer) (diagnostic_of line)
+      by (lines_from (front ++ line ∷ []) lines (suc n) more longer) (parts_of line)
     where
       here : get_or all n [] ≡ line
       here = ap (λ (l : List (List ℕ)). get_or l n []) whole ∙ ap (λ (k : ℕ). get_or (front ++ line ∷ lines) k []) counted
           ∙ line_after front line lines
 
-      by : map line_at (occurrences_from (suc n) lines) ≡ filter is_diagnostic lines → (found : Option DiagnosticValue)
+      by : map line_at (occurrences_from (suc n) lines) ≡ filter is_diagnostic lines → (found : Option PartsValue)
           → map line_at (occurrence_if n found (first_source lines) (occurrences_from (suc n) lines))
-          ≡ (if is_some found then line ∷ filter is_diagnostic lines else filter is_diagnostic lines)
+          ≡ (if is_some (option_map diagnostic_from found) then line ∷ filter is_diagnostic lines else filter is_diagnostic lines)
       by others None = others
-      by others (Some value) = ap₂ (λ (l : List ℕ) (ls : List (List ℕ)). l ∷ ls) here others
+      by others (Some parts) = ap₂ (λ (l : List ℕ) (ls : List (List ℕ)). l ∷ ls) here others
 
 picked-map : {X Y : Type 0} (f : X → Y) (flags : List Bool) (items : List X) → picked flags (map f items) ≡ map f (picked flags items)
 picked-map f [] items = refl

@@ -10,7 +10,7 @@ use Rattle.redo_compare.specs.Baseline.{BaselineValue, target_changes}
 use Rattle.redo_compare.specs.LogChanges.{diagnostics_in, is_new}
 use Rattle.redo_compare.specs.Occurrences.{OccurrenceValue, first_source, occurrence_if, occurrences_from}
 use Rattle.redo_compare.specs.Rounds.{picked}
-use Rattle.redo_diagnostics.specs.Diagnostic.{DiagnosticValue, diagnostic_of}
+use Rattle.redo_diagnostics.specs.Diagnostic.{PartsValue, parts_of}
 use Rattle.redo_logs.specs.Logs.{Log}
 use Rattle.redo_outline.specs.declared.node.Node.{Node}
 use Rattle.redo_outline.specs.Facts.{saturated}
@@ -155,12 +155,12 @@ found_from : (before lines : List (List ℕ)) → AllByRecursion (Found (before 
 found_from before [] = tt
 found_from before (line ∷ lines) =
     let size : length (before ++ line ∷ []) ≡ suc (length before) = length-append before (line ∷ []) ∙ (omega arith) in
-    by (diagnostic_of line) refl
+    by (parts_of line) refl
     (subst (λ (position : ℕ). AllByRecursion (Found (before ++ line ∷ lines)) (occurrences_from position lines)) size
     (subst (λ (all : List (List ℕ)). AllByRecursion (Found all) (occurrences_from (length (before ++ line ∷ [])) lines))
     (append_assoc before (line ∷ []) lines) (found_from (before ++ line ∷ []) lines)))
   where
-    by : (value : Option DiagnosticValue) → diagnostic_of line ≡ value
+    by : (value : Option PartsValue) → parts_of line ≡ value
         → AllByRecursion (Found (before ++ line ∷ lines)) (occurrences_from (suc (length before)) lines)
         → AllByRecursion (Found (before ++ line ∷ lines))
         (occurrence_if (length before) value (first_source lines) (occurrences_from (suc (length before)) lines))

@@ -4,7 +4,7 @@ use Rattle.std.specs.List.{AllByRecursion, Contains, filter, flat_map, list_any,
 use Rattle.std.specs.Option.{option_eq}
 use Rattle.redo_compare.specs.Baseline.{BaselineValue}
 use Rattle.redo_compare.specs.Occurrences.{OccurrenceValue}
-use Rattle.redo_diagnostics.specs.Diagnostic.{diagnostic_of}
+use Rattle.redo_diagnostics.specs.Diagnostic.{parts_of}
 use Rattle.redo_facts.specs.declared.statement.Usage.{Usage}
 use Rattle.redo_facts.specs.Facts.{RecipeCommand, RecipeFacts}
 use Rattle.redo_line.specs.declared.entry.Entry.TheVariants.{Text, Done, Note}
@@ -375,7 +375,7 @@ values_at position ranks = map (λ (rank : Rank). rank.value) (filter (λ (rank 
 
 -- Whether the line at a position is a warning or an error.
 abbrev pub IsDiagnosticAt : List (List ℕ) → ℕ → Type 0
-IsDiagnosticAt lines position = (line : List ℕ) × (slice_get lines position ≡ Some line) × (is_some (diagnostic_of line) ≡ true)
+IsDiagnosticAt lines position = (line : List ℕ) × (slice_get lines position ≡ Some line) × (is_some (parts_of line) ≡ true)
 
 module _ (baseline : BaselineValue) (logs : List Log) (nodes : List Node) where
   -- Whether a rank is the line of a warning or an error in the log of a node.

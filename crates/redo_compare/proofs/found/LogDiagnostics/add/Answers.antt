@@ -1,5 +1,5 @@
 use Rattle.std.proofs.Common.{◌≡◌, ◌+◌, List, [], ◌++◌, length, ap, sym, ◌∙◌, arith}
-use Rattle.redo_diagnostics.specs.Diagnostic.{diagnostic_of}
+use Rattle.redo_diagnostics.specs.Diagnostic.{parts_of}
 use Rattle.redo_compare.specs.Occurrences.{FoundValue, OccurrenceValue, ends_with_diagnostic, occurrence_if, occurrences_of}
 use Rattle.redo_compare.specs.Private.Finding.{with_source_if}
 use Rattle.redo_compare.specs.Source.{source_of}
@@ -16,8 +16,8 @@ returns c = λ lines here found.
     let position : c.args.position ≡ 0 + length lines = omega (arith, here) in
     record {
       occurrences = c.in_ok-self-inside.ensures.occurrences
-          ∙ ap (λ (l : List OccurrenceValue). l ++ occurrence_if c.args.position (diagnostic_of line) [] []) c.in_ok-set_source_if.ensures
-          ∙ (λ i. with_source_if (is_last i) (source_of line) (occurrences i) ++ occurrence_if (position i) (diagnostic_of line) [] [])
+          ∙ ap (λ (l : List OccurrenceValue). l ++ occurrence_if c.args.position (parts_of line) [] []) c.in_ok-set_source_if.ensures
+          ∙ (λ i. with_source_if (is_last i) (source_of line) (occurrences i) ++ occurrence_if (position i) (parts_of line) [] [])
           ∙ sym (occurrences-push 0 lines line);
       is_last = c.in_ok-self-inside.ensures.is ∙ sym (ends-push lines line);
     }
