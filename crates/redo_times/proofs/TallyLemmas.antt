@@ -1,6 +1,6 @@
 -- The tallies of targets, with one more report.
 use Rattle.std.proofs.Common.{◌≡◌, ℕ, zero, suc, ◌<◌, Bool, true, false, ◌&&◌, ◌||◌, List, [], ◌∷◌, ◌++◌, Option, None, Some, is_some, length, map, replicate, get_or, refl, sym, ap, ◌∙◌, subst, arith}
-use Rattle.std.specs.Prelude.{min, max, nat_eq, position, if◌then◌else◌}
+use Rattle.std.specs.Prelude.{min, max, nat_eq, position, slice_get, if◌then◌else◌}
 use Rattle.std.specs.Cmp.Lexicographic.{pointwise, same_text}
 use Rattle.std.specs.List.{AllByRecursion, IsDistinct, list_any}
 use Rattle.std.specs.Str.{bytes_eq}
@@ -9,6 +9,7 @@ use Rattle.std.proofs.lemmas.List.{append-nil, append_assoc, get_or-map}
 use Rattle.std.proofs.lemmas.List.Elements.{filter_map-append}
 use Rattle.std.proofs.lemmas.List.Quantifiers.{position-Some}
 use Rattle.std.proofs.lemmas.Map.Keys.{apart_from_distinct}
+use Rattle.std.proofs.lemmas.Option.{get_or_from_slice_get, slice_get_within}
 use Rattle.std.proofs.Math.ListN.{set}
 use Rattle.redo_line.proofs.PlaceLemmas.{some_place}
 use Rattle.redo_times.specs.declared.report.Report.{Report}
@@ -143,7 +144,7 @@ module _ (stage : Stage) (name : List ℕ) (time : ℕ) (reports : List Report) 
   others_kept (target ∷ targets) none = λ i. sym (tally-kept name target time reports none.0 stage) i ∷ others_kept targets none.1 i
 
   -- The target at this position is this one, and no other is.
-  pub at_place : (targets : List (List ℕ)) (place : ℕ) → place < length targets → pointwise nat_eq name (get_or targets place []) ≡ true
+  at_place : (targets : List (List ℕ)) (place : ℕ) → place < length targets → pointwise nat_eq name (get_or targets place []) ≡ true
       → IsDistinct (pointwise nat_eq) targets
       → set (map before targets) place (with_time stage time (before (get_or targets place []))) ≡ map after targets
   unfolding IsDistinct
@@ -161,16 +162,27 @@ module _ (stage : Stage) (name : List ℕ) (time : ℕ) (reports : List Report) 
       ∙ apart_from_distinct (pointwise nat_eq) (target ∷ targets) 0 (suc place) [] distinct (omega arith) below) in
       λ i. sym (tally-kept name target time reports apart stage) i ∷ at_place targets place (omega (arith, below)) is distinct.1 i
 
-  -- The tallies after the report, if a target was found at this position or none was.
+  -- The tallies after the report, if the target was found at this position, is known to be there, or was not found.
   module _ (targets : List (List ℕ)) (tallies : List TallyValue) (are : AreTallies targets reports tallies) where
+    set_at : (place : ℕ) (empty : TallyValue) → place < length targets → pointwise nat_eq name (get_or targets place []) ≡ true
+        → IsDistinct (pointwise nat_eq) targets → AreTallies targets (reports ++ report stage name time ∷ [])
+        (set tallies place (with_time stage time (get_or tallies place empty)))
+    set_at place empty below is distinct =
+        let old : get_or tallies place empty ≡ before (get_or targets place []) =
+        ap (λ (ts : List TallyValue). get_or ts place empty) are ∙ get_or-map before targets place [] empty below in
+        (λ i. set (are i) place (with_time stage time (old i))) ∙ at_place targets place below is distinct
+
     pub found : (place : ℕ) (empty : TallyValue) → position (pointwise nat_eq name) targets ≡ Some place
         → IsDistinct (pointwise nat_eq) targets → AreTallies targets (reports ++ report stage name time ∷ [])
         (set tallies place (with_time stage time (get_or tallies place empty)))
-    found place empty is distinct =
-        let at = position-Some (pointwise nat_eq name) targets place [] is in
-        let old : get_or tallies place empty ≡ before (get_or targets place []) =
-        ap (λ (ts : List TallyValue). get_or ts place empty) are ∙ get_or-map before targets place [] empty at.0 in
-        (λ i. set (are i) place (with_time stage time (old i))) ∙ at_place targets place at.0 at.1 distinct
+    found place empty is = let at = position-Some (pointwise nat_eq name) targets place [] is in set_at place empty at.0 at.1
+
+    pub known : (place : ℕ) (empty : TallyValue) → slice_get targets place ≡ Some name
+        → IsDistinct (pointwise nat_eq) targets → AreTallies targets (reports ++ report stage name time ∷ [])
+        (set tallies place (with_time stage time (get_or tallies place empty)))
+    known place empty is =
+        set_at place empty (slice_get_within targets place name is)
+        (ap (pointwise nat_eq name) (get_or_from_slice_get targets place name [] is) ∙ nat_list_eq_equiv.refl name)
 
     pub missing : position (pointwise nat_eq name) targets ≡ None → AreTallies targets (reports ++ report stage name time ∷ []) tallies
     missing none = are ∙ others_kept targets

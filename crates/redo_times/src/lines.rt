@@ -3,7 +3,7 @@
 //! A line is skipped unless it begins with `@@REDO:`. Most lines have no `@`, and these are skipped many at once. Only records that
 //! report something are resolved and looked up. A record that is not valid is skipped, because a run reports it. A stream with a fault
 //! has times too.
-ghost use Rattle.std.specs.Prelude.{◌≡◌, ◌≢◌, ◌≤◌, ℕ, List, ◌++◌, ◌∷◌, [], drop, length, take, IfOk, OnOk};
+ghost use Rattle.std.specs.Prelude.{◌≡◌, ◌≢◌, ◌≤◌, ℕ, List, ◌++◌, ◌∷◌, [], Some, drop, length, slice_get, take, IfOk, OnOk};
 ghost use Rattle.std.specs.List.{AllByRecursion};
 ghost use Rattle.redo_index.specs.Index.{listed_targets, IsIndex};
 ghost use Rattle.redo_line.specs.Lines.{ended, rest};
@@ -13,10 +13,9 @@ ghost use Rattle.redo_times.specs.Private.Tally.{AreTallies, AreTalliesAfter};
 ghost use Rattle.redo_times.specs.Report.{reports_in};
 
 use crate::report::read_report;
-use crate::tally::{Tally, add_report};
+use crate::tally::{Log, Tally, add_report};
 use memchr::{memchr, memrchr};
 use redo_index::Index;
-use redo_line::TargetName;
 use std::alloc::{AllocError, Global};
 
 /// Adds the reports of the lines that end in a chunk. `partial` has the bytes after the last line feed so far.
@@ -24,16 +23,17 @@ pub fn add_chunk(
     alloc: Global,
     index: &Index,
     tallies: &mut [Tally],
-    log: &TargetName,
+    log: Log<'_>,
     partial: &mut Vec<u8>,
     chunk: &[u8],
 ) -> Result<(), AllocError>
     requires index { IsIndex index.now }
     requires count { length tallies.old ≡ length index.now }
+    requires log { slice_get (listed_targets index.now) log.position ≡ Some log.target.now }
     ensures partial { (taken : List ℕ) → partial.old.items ≡ rest taken → OnOk result (partial.new.items ≡ rest (taken ++ chunk.now)) }
     ensures tallies { (reports : List Report) (taken : List ℕ) → partial.old.items ≡ rest taken
-        → AreTalliesAfter (listed_targets index.now) log.now reports taken tallies.old
-        → OnOk result (AreTalliesAfter (listed_targets index.now) log.now reports (taken ++ chunk.now) tallies.new) }
+        → AreTalliesAfter (listed_targets index.now) log.entry.target.now reports taken tallies.old
+        → OnOk result (AreTalliesAfter (listed_targets index.now) log.entry.target.now reports (taken ++ chunk.now) tallies.new) }
 {
     let Some(at) = memchr(b'\n', chunk) else {
         partial.extend_from_slice(chunk)?;
@@ -53,15 +53,16 @@ fn add_lines(
     alloc: Global,
     index: &Index,
     tallies: &mut [Tally],
-    log: &TargetName,
+    log: Log<'_>,
     bytes: &[u8],
 ) -> Result<usize, AllocError>
     requires index { IsIndex index.now }
     requires count { length tallies.old ≡ length index.now }
+    requires log { slice_get (listed_targets index.now) log.position ≡ Some log.target.now }
     ensures range { IfOk result (λ upto. upto ≤ length bytes.now) }
     ensures rest { IfOk result (λ upto. drop upto bytes.now ≡ rest bytes.now) }
     ensures tallies { (reports : List Report) → AreTallies (listed_targets index.now) reports tallies.old
-        → OnOk result (AreTalliesAfter (listed_targets index.now) log.now reports bytes.now tallies.new) }
+        → OnOk result (AreTalliesAfter (listed_targets index.now) log.entry.target.now reports bytes.now tallies.new) }
 {
     let mut upto = 0;
     'lines: loop {
@@ -103,15 +104,16 @@ fn add_line(
     alloc: Global,
     index: &Index,
     tallies: &mut [Tally],
-    log: &TargetName,
+    log: Log<'_>,
     line: &[u8],
 ) -> Result<(), AllocError>
     requires index { IsIndex index.now }
     requires count { length tallies.old ≡ length index.now }
+    requires log { slice_get (listed_targets index.now) log.position ≡ Some log.target.now }
     ensures { (reports : List Report) → AreTallies (listed_targets index.now) reports tallies.old
-        → OnOk result (AreTallies (listed_targets index.now) (reports ++ reports_in log.now (line.now ∷ [])) tallies.new) }
+        → OnOk result (AreTallies (listed_targets index.now) (reports ++ reports_in log.entry.target.now (line.now ∷ [])) tallies.new) }
 {
-    if let Some(report) = read_report(alloc, log, line)? {
+    if let Some(report) = read_report(alloc, log.target, line)? {
         add_report(index, tallies, log, report)?;
     }
     Ok(())

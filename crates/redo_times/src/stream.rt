@@ -1,17 +1,16 @@
 //! Reads the stream of one log.
 //!
 //! The line that a chunk ends in is stored until it ends, even if it is text, so the longest line determines the memory.
-ghost use Rattle.std.specs.Prelude.{◌≡◌, ◌<◌, List, ◌++◌, [], IsOk, OnOk, Some, length};
+ghost use Rattle.std.specs.Prelude.{◌≡◌, ◌<◌, List, ◌++◌, [], IsOk, OnOk, Some, length, slice_get};
 ghost use Rattle.redo_device.specs.Feed.{SomeStream, Stream};
 ghost use Rattle.redo_index.specs.Index.{listed_targets, IsIndex};
 ghost use Rattle.redo_times.specs.declared.report.Report.{Report};
 ghost use Rattle.redo_times.specs.Private.Tally.{AreTallies, AreTalliesOfStream};
 
 use crate::lines::add_chunk;
-use crate::tally::Tally;
+use crate::tally::{Log, Tally};
 use redo_device::{Broken, Feed};
 use redo_index::Index;
-use redo_line::TargetName;
 use std::alloc::{AllocError, Global};
 
 /// Adds the reports of a log. It reads at most `max_bytes` bytes of the stream, and nothing after its end or a failed read. None of these
@@ -20,7 +19,7 @@ pub fn add_stream<R: Feed>(
     alloc: Global,
     index: &Index,
     tallies: &mut [Tally],
-    log: &TargetName,
+    log: Log<'_>,
     reader: &mut R,
     max_bytes: u64,
     chunk: &mut [u8],
@@ -28,10 +27,11 @@ pub fn add_stream<R: Feed>(
 ) -> Result<(), AllocError>
     requires index { IsIndex index.now }
     requires count { length tallies.old ≡ length index.now }
+    requires log { slice_get (listed_targets index.now) log.position ≡ Some log.target.now }
     requires room { 0 < length chunk.old }
     ensures tallies { (reports : List Report) → AreTallies (listed_targets index.now) reports tallies.old
         → OnOk result (SomeStream (R.contents reader.old) (λ stream.
-        AreTalliesOfStream (listed_targets index.now) log.now reports max_bytes stream tallies.new)) }
+        AreTalliesOfStream (listed_targets index.now) log.entry.target.now reports max_bytes stream tallies.new)) }
     ensures no_bytes { (stream : Stream) → R.contents reader.old ≡ Some stream → stream.bytes ≡ [] → IsOk result }
     ensures chunk { length chunk.new ≡ length chunk.old }
 {

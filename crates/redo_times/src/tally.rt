@@ -1,6 +1,7 @@
 //! The times of targets, as they were found so far.
-ghost use Rattle.std.specs.Prelude.{◌≡◌, List, ◌++◌, ◌∷◌, [], OnOk, length};
-ghost use Rattle.std.specs.List.{list_any};
+ghost use Rattle.std.specs.Prelude.{◌≡◌, ◌<◌, ℕ, List, ◌++◌, ◌∷◌, [], OnOk, Some, length, nat_eq, slice_get};
+ghost use Rattle.std.specs.Cmp.Lexicographic.{pointwise};
+ghost use Rattle.std.specs.List.{IsDistinct, list_any};
 ghost use Rattle.redo_index.specs.Index.{listed_targets, IsIndex};
 ghost use Rattle.redo_times.specs.declared.report.Report.{Report};
 ghost use Rattle.redo_times.specs.Report.{report_at};
@@ -143,21 +144,29 @@ fn before_end(began: Option<u64>, ended: Option<u64>) -> Option<u64>
     }
 }
 
-/// Adds what a report in the log of `log` says of the target that it names, and of the log's own target. A target that the index doesn't
-/// list has no tally.
+/// The log that is read: its target, and the position of the target in the index.
+#[derive(Clone, Copy)]
+pub struct Log<'a> {
+    pub target: &'a TargetName,
+    pub position: u32,
+}
+
+/// Adds what a report in a log says of the target that it names, and of the log's own target. A target that the index doesn't list has no
+/// tally.
 pub fn add_report(
     index: &Index,
     tallies: &mut [Tally],
-    log: &TargetName,
+    log: Log<'_>,
     report: Report,
 ) -> Result<(), AllocError>
     requires index { IsIndex index.now }
     requires count { length tallies.old ≡ length index.now }
+    requires log { slice_get (listed_targets index.now) log.position ≡ Some log.target.now }
     ensures { (reports : List Report) → AreTallies (listed_targets index.now) reports tallies.old
-        → OnOk result (AreTallies (listed_targets index.now) (reports ++ with_owner log.now report) tallies.new) }
+        → OnOk result (AreTallies (listed_targets index.now) (reports ++ with_owner log.entry.target.now report) tallies.new) }
 {
     add_named(index, tallies, &report)?;
-    add_owner(index, tallies, log, report.stage, report.time)
+    add_owner(tallies, log, report.stage, report.time)
 }
 
 // Adds what a report says of the target that it names.
@@ -173,23 +182,17 @@ fn add_named(index: &Index, tallies: &mut [Tally], report: &Report) -> Result<()
     add_stage(index, tallies, &report.target, report.stage, report.time)
 }
 
-// Adds what a report of this stage says of the log's own target.
-fn add_owner(
-    index: &Index,
-    tallies: &mut [Tally],
-    log: &TargetName,
-    stage: Stage,
-    time: u64,
-) -> Result<(), AllocError>
-    requires index { IsIndex index.now }
-    requires count { length tallies.old ≡ length index.now }
-    ensures { (reports : List Report) → AreTallies (listed_targets index.now) reports tallies.old
-        → OnOk result (AreTallies (listed_targets index.now) (reports ++ owner_reports log.now time stage) tallies.new) }
+// Adds what a report of this stage says of the log's own target. Its position is known, so that no record needs a second look-up.
+fn add_owner(tallies: &mut [Tally], log: Log<'_>, stage: Stage, time: u64) -> Result<(), AllocError>
+    requires position { log.position < length tallies.old }
+    ensures { (targets : List (List ℕ)) (reports : List Report) → IsDistinct (pointwise nat_eq) targets
+        → slice_get targets log.entry.position ≡ Some log.entry.target.now → AreTallies targets reports tallies.old
+        → OnOk result (AreTallies targets (reports ++ owner_reports log.entry.target.now time stage) tallies.new) }
 {
     match stage {
         Stage::BeganInOwnLog | Stage::EndedInOwnLog => Ok(()),
         Stage::BeganInOtherLog | Stage::EndedInOtherLog | Stage::RunsOther => {
-            add_stage(index, tallies, log, Stage::RunsOther, time)
+            tallies[log.position as usize].add(Stage::RunsOther, time)
         }
     }
 }

@@ -9,7 +9,7 @@ ghost use Rattle.redo_times.specs.Times.{AreInRange};
 ghost use Rattle.redo_times.specs.Private.Tally.{AreTallies, AreTalliesOfReaders, times_from};
 
 use crate::stream::add_stream;
-use crate::tally::Tally;
+use crate::tally::{Log, Tally};
 use redo_device::Feed;
 use redo_index::Index;
 use std::alloc::{AllocError, Global};
@@ -127,7 +127,10 @@ fn add_streams<R: Feed>(
     let mut partial = Vec::new(alloc);
     let mut i = 0;
     for mut reader in readers {
-        let log = index.name(i);
+        let log = Log {
+            target: index.name(i),
+            position: i,
+        };
         add_stream(
             alloc,
             index,

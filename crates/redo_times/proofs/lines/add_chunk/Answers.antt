@@ -11,7 +11,7 @@ returns-in_default-clause-partial c taken kept =
 pub returns-in_default-clause-tallies : goal.returns-in_default-clause-tallies
 returns-in_default-clause-tallies c reports taken kept are =
     tallies_within taken c.args.partial.now.items c.args.chunk.now kept c.in_default.ensures
-    (listed_targets c.args.index.now) c.args.log.now reports c.args.tallies.now are
+    (listed_targets c.args.index.now) c.args.log.target.now reports c.args.tallies.now are
 
 pub returns-clause-partial : goal.returns-clause-partial
 returns-clause-partial c taken kept =
@@ -36,5 +36,5 @@ returns-clause-tallies c reports taken kept are =
     let others = take (length chunk - (at + 1)) (drop (at + 1) chunk) in
     let line_is : c.deref.result.now ≡ partial ++ take at chunk = c.deref.ensures.value ∙ c.in_ok-extend_from_slice-2.ensures.items in
     tallies_behind taken partial chunk kept at c.in-Some.ensures c.deref.result.now others line_is (left_is chunk (at + 1))
-    (listed_targets c.args.index.now) c.args.log.now reports c.args.tallies.now c.add_line.new.tallies c.add_lines.new.tallies are
+    (listed_targets c.args.index.now) c.args.log.target.now reports c.args.tallies.now c.add_line.new.tallies c.add_lines.new.tallies are
     c.in_ok-add_line.ensures c.in_ok-upto.ensures.tallies

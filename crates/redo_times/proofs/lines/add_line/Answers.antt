@@ -9,7 +9,7 @@ use Rattle.redo_times.proofs.lines.add_line.Goals as goal
 
 pub returns-in_ok-add_report : goal.returns-in_ok-add_report
 returns-in_ok-add_report c reports are =
-    let log = c.args.log.now in
+    let log = c.args.log.target.now in
     let found = reports_are log c.args.line.now
     ∙ ap (all_from log) (sym c.in_ok-report.ensures ∙ c.in-Some.is) in
     subst (λ (more : List Report). AreTallies (listed_targets c.args.index.now) (reports ++ more) c.add_report.new.tallies)
@@ -17,7 +17,7 @@ returns-in_ok-add_report c reports are =
 
 pub returns-in_default : goal.returns-in_default
 returns-in_default c reports are =
-    let log = c.args.log.now in
+    let log = c.args.log.target.now in
     let none = reports_are log c.args.line.now
     ∙ ap (all_from log) (sym c.in_ok-report.ensures ∙ c.in_default.is) in
     subst (λ (more : List Report). AreTallies (listed_targets c.args.index.now) more c.args.tallies.now)

@@ -12,7 +12,7 @@ lines-init c = record {
   range = zero-le;
   no_rest = rest-free [] tt;
   count = refl;
-  tallies = λ reports are. none_after (listed_targets c.args.index.now) c.args.log.now reports c.args.tallies.now are;
+  tallies = λ reports are. none_after (listed_targets c.args.index.now) c.args.log.target.now reports c.args.tallies.now are;
 }
 
 pub lines-preserved : goal.lines-preserved
@@ -33,10 +33,10 @@ lines-preserved c =
       no_rest = next_rest bytes _ start hay no_rest at found;
       count = c.add_line.auto.tallies ∙ kept.count;
       tallies = λ reports are. next_lines bytes _ start hay no_rest at found
-          (listed_targets c.args.index.now) c.args.log.now reports c.add_line.new.tallies _ line_is
-          (c.in_ok-add_line.ensures (reports ++ reports_in c.args.log.now (ended (take start bytes)))
+          (listed_targets c.args.index.now) c.args.log.target.now reports c.add_line.new.tallies _ line_is
+          (c.in_ok-add_line.ensures (reports ++ reports_in c.args.log.target.now (ended (take start bytes)))
           (skipped_lines bytes _ upto (left_is bytes upto) kept.no_rest size skipped.complete skipped.none
-          (listed_targets c.args.index.now) c.args.log.now reports c.lines.tallies (kept.tallies reports are)));
+          (listed_targets c.args.index.now) c.args.log.target.now reports c.lines.tallies (kept.tallies reports are)));
     }
 
 pub returns-in_default-clause-rest : goal.returns-in_default-clause-rest
@@ -58,6 +58,6 @@ returns-in_default-clause-tallies c reports are =
     let targets = listed_targets c.args.index.now in
     all_lines_after bytes _ (upto + size) (left_is bytes (upto + size))
     (skipped_rest bytes _ upto (left_is bytes upto) kept.no_rest size skipped.complete skipped.none) c.in_default.ensures
-    targets c.args.log.now reports c.lines.tallies
+    targets c.args.log.target.now reports c.lines.tallies
     (skipped_lines bytes _ upto (left_is bytes upto) kept.no_rest size skipped.complete skipped.none
-    targets c.args.log.now reports c.lines.tallies (kept.tallies reports are))
+    targets c.args.log.target.now reports c.lines.tallies (kept.tallies reports are))

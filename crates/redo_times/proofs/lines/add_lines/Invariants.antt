@@ -12,7 +12,7 @@ invariant-lines l = record {
   no_rest : rest (take l.upto l.bytes) ≡ [];
   count : length l.tallies ≡ length l.initial.tallies;
   tallies : (reports : List Report) → AreTallies (listed_targets l.index) reports l.initial.tallies
-      → AreTalliesAfter (listed_targets l.index) l.log reports (take l.upto l.bytes) l.tallies;
+      → AreTalliesAfter (listed_targets l.index) l.log.target.now reports (take l.upto l.bytes) l.tallies;
 }
 
 abbrev pub decreases-lines : goal.decreases-lines

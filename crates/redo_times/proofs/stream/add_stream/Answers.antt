@@ -10,24 +10,24 @@ reads-init g c =
       chunk = refl;
       tallies = refl;
       reading =
-          subst (λ (partial : List ℕ). Reading targets c.args.log.now c.args.max_bytes c.args.max_bytes known known partial
+          subst (λ (partial : List ℕ). Reading targets c.args.log.target.now c.args.max_bytes c.args.max_bytes known known partial
           c.args.tallies.now c.args.tallies.now) (sym {A = List ℕ} c.clear.ensures.items)
-          (none_read targets c.args.log.now c.args.max_bytes known c.args.tallies.now);
+          (none_read targets c.args.log.target.now c.args.max_bytes known c.args.tallies.now);
     }
 
 pub returns-in-Err-clause-tallies : goal.returns-in-Err-clause-tallies
 returns-in-Err-clause-tallies g c =
-    at_failure (listed_targets c.args.index.now) c.args.log.now c.args.max_bytes
+    at_failure (listed_targets c.args.index.now) c.args.log.target.now c.args.max_bytes
     (g.R.Feed.contents c.args.reader.now) c.args.tallies.now _ _ _ c.reads.tallies c.reads.invariant.reading _ _ _ c.in-Err.ensures.gives
 
 pub returns-in-Ok-eq0-clause-tallies : goal.returns-in-Ok-eq0-clause-tallies
 returns-in-Ok-eq0-clause-tallies g c =
-    at_end (listed_targets c.args.index.now) c.args.log.now c.args.max_bytes
+    at_end (listed_targets c.args.index.now) c.args.log.target.now c.args.max_bytes
     (g.R.Feed.contents c.args.reader.now) c.args.tallies.now _ _ _ c.reads.tallies c.reads.invariant.reading _ c.pull.new.buf
     (rw c.in-Ok-eq0.field-0-test at c.in-Ok-eq0.ensures.gives)
 
 pub returns-clause-tallies : goal.returns-clause-tallies
 returns-clause-tallies g c =
     let none : c.reads.left ≡ 0 = let test = c.reads-test.false in omega (arith, test) in
-    at_limit (listed_targets c.args.index.now) c.args.log.now c.args.max_bytes
+    at_limit (listed_targets c.args.index.now) c.args.log.target.now c.args.max_bytes
     (g.R.Feed.contents c.args.reader.now) c.args.tallies.now _ _ _ c.reads.tallies c.reads.invariant.reading none

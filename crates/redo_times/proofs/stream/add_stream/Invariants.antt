@@ -8,7 +8,7 @@ invariant-reads g l = record {
   chunk : length l.chunk ≡ length l.initial.chunk;
   tallies : length l.tallies ≡ length l.initial.tallies;
   reading :
-      Reading (listed_targets l.index) l.log l.max_bytes l.left (g.R.Feed.contents l.initial.reader)
+      Reading (listed_targets l.index) l.log.target.now l.max_bytes l.left (g.R.Feed.contents l.initial.reader)
       (g.R.Feed.contents l.reader) l.partial.items l.initial.tallies l.tallies;
 }
 

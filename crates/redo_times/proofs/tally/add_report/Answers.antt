@@ -12,5 +12,6 @@ returns c reports are =
     let report = c.args.report in
     let targets = listed_targets c.args.index.now in
     subst (λ (more : List Report). OnOk c.add_owner.result (AreTallies targets more c.add_owner.new.tallies))
-    (with_own c.args.log.now reports report)
-    (c.add_owner.ensures (reports ++ named_reports report report.stage) (c.in_ok-add_named.ensures reports are))
+    (with_own c.args.log.target.now reports report)
+    (c.add_owner.ensures targets (reports ++ named_reports report report.stage) c.requires.index.names_differ c.requires.log
+    (c.in_ok-add_named.ensures reports are))

@@ -31,8 +31,8 @@ loop-reader-preserved g c =
       read = ap length c.in_ok-push.ensures.items ∙ search (arith, kept.read, length-append);
       tallies =
           one_more_read g.R.Feed.contents c.args.max_bytes
-          (listed_targets c.args.index.now) yielded reader c.loop-reader.i c.name-log.result.now c.loop-reader.tallies
-          c.add_stream.new.tallies kept.number c.name-log.ensures
+          (listed_targets c.args.index.now) yielded reader c.loop-reader.i c.name.result.now c.loop-reader.tallies
+          c.add_stream.new.tallies kept.number c.name.ensures
           kept.tallies c.in_ok-add_stream.ensures.tallies;
     }
 
