@@ -1,20 +1,15 @@
 -- All times are in range.
-use Rattle.std.proofs.Common.{◌≡◌, ℕ, inl, inr, List, [], ◌∷◌, Option, None, Some, IfSome, map, sym, subst}
+use Rattle.std.proofs.Common.{◌≡◌, ℕ, inl, inr, List, [], ◌∷◌, Option, None, Some, map, sym, subst}
 use Rattle.std.specs.List.{AllByRecursion}
+use Rattle.std.proofs.lemmas.Option.{IfSome_then}
 use Rattle.redo_device.specs.Feed.{Stream}
 use Rattle.redo_times.specs.declared.times.Times.{Times}
-use Rattle.redo_times.specs.Laws.{IsBeginning, IsEnd}
 use Rattle.redo_times.specs.Readers.{AreTimesOfReaders, SomeStreams, logs_of, times_of_all}
 use Rattle.redo_times.specs.Report.{TimedLog}
-use Rattle.redo_times.specs.Time.{IsInRange}
 use Rattle.redo_times.specs.Times.{AreInRange, times_of}
 use Rattle.redo_times.proofs.RangeLemmas.{line-in-range}
 use Rattle.redo_times.proofs.ReaderLemmas.{weaker_all}
 use Rattle.redo_times.proofs.TimesLaws.{beginning-first, end-last}
-
-weaker_some : (found : Option ℕ) (P Q : ℕ → Type 0) → ((x : ℕ) → P x → Q x) → IfSome found P → IfSome found Q
-weaker_some None P Q follows holds = tt
-weaker_some (Some x) P Q follows holds = follows x holds
 
 -- A property that doesn't depend on the streams.
 in_any_case : (known : List (Option Stream)) (P : Type 0) → SomeStreams known (λ streams. P) → P
@@ -25,18 +20,14 @@ in_any_case (Some stream ∷ known) P holds = in_any_case known P holds
 module _ (max_bytes : ℕ) (logs : List TimedLog) where
   times-in-range : (target : List ℕ) → AreInRange (times_of max_bytes logs target)
   times-in-range target = (
-    weaker_some (times_of max_bytes logs target).began (IsBeginning max_bytes logs target) IsInRange
-        (λ time first. elim first [
-          | inl own ↦ line-in-range own.is.line time own.is.at
-          | inr other ↦ line-in-range other.1.is.line time
-              other.1.is.at
-        ]) (beginning-first max_bytes logs target),
-    weaker_some (times_of max_bytes logs target).ended (IsEnd max_bytes logs target) IsInRange
-        (λ time end. elim end [
-          | inl own ↦ line-in-range own.is.line time own.is.at
-          | inr other ↦ line-in-range other.2.is.line time
-              other.2.is.at
-        ]) (end-last max_bytes logs target),
+    IfSome_then (times_of max_bytes logs target).began (beginning-first max_bytes logs target) (λ time first. elim first [
+      | inl own ↦ line-in-range own.is.line time own.is.at
+      | inr other ↦ line-in-range other.1.is.line time other.1.is.at
+    ]),
+    IfSome_then (times_of max_bytes logs target).ended (end-last max_bytes logs target) (λ time last. elim last [
+      | inl own ↦ line-in-range own.is.line time own.is.at
+      | inr other ↦ line-in-range other.2.is.line time other.2.is.at
+    ]),
   )
 
   each-in-range : (targets : List (List ℕ)) → AllByRecursion AreInRange (map (times_of max_bytes logs) targets)

@@ -32,16 +32,16 @@ max_cases a b = by (leb a b) refl
 
 -- ---- elements of lists
 
-pub nothing : {X : Type 0} (x : X) → Contains [] x → ⊥
+nothing : {X : Type 0} (x : X) → Contains [] x → ⊥
 nothing x here = omega (arith, here.1)
 
-pub head : {X : Type 0} (x : X) (xs : List X) → Contains (x ∷ xs) x
+head : {X : Type 0} (x : X) (xs : List X) → Contains (x ∷ xs) x
 head x xs = (0, omega arith, refl)
 
-pub tail : {X : Type 0} (x y : X) (xs : List X) → Contains xs y → Contains (x ∷ xs) y
+tail : {X : Type 0} (x y : X) (xs : List X) → Contains xs y → Contains (x ∷ xs) y
 tail x y xs there = Contains-append_right (x ∷ []) xs y there
 
-pub first_or_later : {X : Type 0} (x y : X) (xs : List X) → Contains (x ∷ xs) y → (x ≡ y) ⊎ Contains xs y
+first_or_later : {X : Type 0} (x y : X) (xs : List X) → Contains (x ∷ xs) y → (x ≡ y) ⊎ Contains xs y
 first_or_later x y xs here =
     elim (Contains-append_cases (x ∷ []) xs y here) [
       | inl one ↦ elim (Contains-push_cases [] x y one) [ inl none ↦ absurd (nothing y none) | inr same ↦ inl same ]
@@ -97,30 +97,11 @@ joined_to {X} {Y} f (first ∷ xs) x y here one =
 
 same_stage : (one other : Stage) → is_same_stage one other ≡ true → one ≡ other
 same_stage BeganInOwnLog BeganInOwnLog is = refl
-same_stage BeganInOwnLog BeganInOtherLog is = absurd (cc)
-same_stage BeganInOwnLog EndedInOwnLog is = absurd (cc)
-same_stage BeganInOwnLog EndedInOtherLog is = absurd (cc)
-same_stage BeganInOwnLog RunsOther is = absurd (cc)
-same_stage BeganInOtherLog BeganInOwnLog is = absurd (cc)
 same_stage BeganInOtherLog BeganInOtherLog is = refl
-same_stage BeganInOtherLog EndedInOwnLog is = absurd (cc)
-same_stage BeganInOtherLog EndedInOtherLog is = absurd (cc)
-same_stage BeganInOtherLog RunsOther is = absurd (cc)
-same_stage EndedInOwnLog BeganInOwnLog is = absurd (cc)
-same_stage EndedInOwnLog BeganInOtherLog is = absurd (cc)
 same_stage EndedInOwnLog EndedInOwnLog is = refl
-same_stage EndedInOwnLog EndedInOtherLog is = absurd (cc)
-same_stage EndedInOwnLog RunsOther is = absurd (cc)
-same_stage EndedInOtherLog BeganInOwnLog is = absurd (cc)
-same_stage EndedInOtherLog BeganInOtherLog is = absurd (cc)
-same_stage EndedInOtherLog EndedInOwnLog is = absurd (cc)
 same_stage EndedInOtherLog EndedInOtherLog is = refl
-same_stage EndedInOtherLog RunsOther is = absurd (cc)
-same_stage RunsOther BeganInOwnLog is = absurd (cc)
-same_stage RunsOther BeganInOtherLog is = absurd (cc)
-same_stage RunsOther EndedInOwnLog is = absurd (cc)
-same_stage RunsOther EndedInOtherLog is = absurd (cc)
 same_stage RunsOther RunsOther is = refl
+same_stage one other is = absurd (cc)
 
 own_stage : (stage : Stage) → is_same_stage stage stage ≡ true
 own_stage BeganInOwnLog = refl

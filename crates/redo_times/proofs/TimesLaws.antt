@@ -1,18 +1,18 @@
 -- The laws about times.
-use Rattle.std.proofs.Common.{◌≡◌, ℕ, ◌<◌, ◌≤◌, ◌⊎◌, inl, inr, ◌&&◌, ◌||◌, Bool, true, false, List, [], ◌∷◌, Option, None, Some, IfSome, IfNone, refl, ap, ◌∙◌, arith, leb, ltb}
+use Rattle.std.proofs.Common.{◌≡◌, ℕ, ◌<◌, ◌≤◌, ◌⊎◌, inl, inr, ◌&&◌, Bool, true, false, List, Option, None, Some, IfSome, IfNone, refl, ap, ◌∙◌, arith, leb, ltb}
 use Rattle.std.specs.Prelude.{IsSomeAnd, if◌then◌else◌}
 use Rattle.std.specs.List.{Contains, list_any}
 use Rattle.std.specs.List.Sorted.{IsPermutation}
 use Rattle.std.specs.Option.{option_or}
-use Rattle.std.proofs.Math.Bool.{or-true}
 use Rattle.std.proofs.lemmas.Bool.{and_parts, le-leb, leb-true, leb-false, lt-ltb, ltb-true}
+use Rattle.std.proofs.lemmas.List.Folds.{Any-from_list_any, list_any-from_Any}
 use Rattle.std.proofs.lemmas.List.Sorted.{Contains-permutation, IsPermutation-sym}
 use Rattle.redo_times.specs.declared.report.Stage.{Stage}
 use Rattle.redo_times.specs.declared.report.Stage.TheVariants.{BeganInOwnLog, BeganInOtherLog, EndedInOwnLog, EndedInOtherLog, RunsOther}
 use Rattle.redo_times.specs.Laws.{BeginsAfter, BeginsInOwnLog, IsBeginning, IsEnd, IsFirst, IsLast, IsReported, Never, NeverBegins, RanOthers}
 use Rattle.redo_times.specs.Report.{TimedLog, reports_of}
 use Rattle.redo_times.specs.Times.{before_end, begin_in, end_in, first_time, is_within, last_time, times_at, times_of, unless_begun}
-use Rattle.redo_times.proofs.ReportedLemmas.{first-none, first-some, first_or_later, head, last-none, last-some, listed, nothing, reported, tail}
+use Rattle.redo_times.proofs.ReportedLemmas.{first-none, first-some, last-none, last-some, listed, reported}
 
 if_some : {X : Type 0} (found : Option X) (P : X → Type 0) → ((x : X) → found ≡ Some x → P x) → IfSome found P
 if_some None P holds = tt
@@ -145,24 +145,6 @@ module _ (max_bytes : ℕ) (logs : List TimedLog) (target : List ℕ) where
 
 -- ---- which targets ran others
 
-any-some : (test : ℕ → Bool) (times : List ℕ) → list_any test times ≡ true → (time : ℕ) × Contains times time × (test time ≡ true)
-any-some test [] is = absurd (cc)
-any-some test (one ∷ times) is = by (test one) refl is (any-some test times)
-  where
-    by : (passes : Bool) → test one ≡ passes → (passes || list_any test times) ≡ true
-        → (list_any test times ≡ true → (time : ℕ) × Contains times time × (test time ≡ true))
-        → (time : ℕ) × Contains (one ∷ times) time × (test time ≡ true)
-    by true here is behind = (one, head one times, here)
-    by false here is behind = let found = behind is in (found.0, tail one found.0 times found.1, found.2)
-
-any-true : (test : ℕ → Bool) (times : List ℕ) (time : ℕ) → Contains times time → test time ≡ true → list_any test times ≡ true
-any-true test [] time here is = absurd (nothing time here)
-any-true test (one ∷ times) time here is =
-    elim (first_or_later one time times here) [
-      | inl same ↦ rw (ap test same ∙ is) refl
-      | inr there ↦ rw (any-true test times time there is) (or-true (test one))
-    ]
-
 within-parts : (began ended : Option ℕ) (time : ℕ) → is_within began ended time ≡ true
     → IsSomeAnd (before_end began ended) (λ first. first < time) × IsSomeAnd ended (λ last. time ≤ last)
 within-parts None ended time is = absurd (cc)
@@ -197,11 +179,11 @@ module _ (max_bytes : ℕ) (logs : List TimedLog) (target : List ℕ) where
   pub ran-one : (times_of max_bytes logs target).ran_others ≡ true
       → (time : ℕ) × RanOthers max_bytes logs target (times_of max_bytes logs target) time
   ran-one is =
-      let found = any-some (is_within first last) ends is in
-      let parts = within-parts first last found.0 found.2 in (
-        found.0,
+      let found = Any-from_list_any (is_within first last) ends is in
+      let parts = within-parts first last found.1 found.4 in (
+        found.1,
         record {
-          is_reported = reported RunsOther target found.0 max_bytes logs found.1;
+          is_reported = reported RunsOther target found.1 max_bytes logs (found.0, found.2, found.3);
           after = parts.0;
           until = parts.1;
         },
@@ -210,8 +192,9 @@ module _ (max_bytes : ℕ) (logs : List TimedLog) (target : List ℕ) where
   pub ran-none : (times_of max_bytes logs target).ran_others ≡ false
       → Never (RanOthers max_bytes logs target (times_of max_bytes logs target))
   ran-none none time ran =
-      let is = any-true (is_within first last) ends time (listed RunsOther target time max_bytes logs ran.is_reported)
-      (within-from first last time ran.after ran.until) in
+      let here = listed RunsOther target time max_bytes logs ran.is_reported in
+      let is = list_any-from_Any (is_within first last) ends
+      (here.0, time, here.1, here.2, within-from first last time ran.after ran.until) in
       absurd (cc)
 
 -- ---- the order of the logs
@@ -224,11 +207,13 @@ same-any test times others to from = by (list_any test times) (list_any test oth
     by true true is other_is = refl
     by false false is other_is = refl
     by true false is other_is =
-        let found = any-some test times is in
-        let too = any-true test others found.0 (to found.0 found.1) found.2 in absurd (cc)
+        let found = Any-from_list_any test times is in
+        let there = to found.1 (found.0, found.2, found.3) in
+        let too = list_any-from_Any test others (there.0, found.1, there.1, there.2, found.4) in absurd (cc)
     by false true is other_is =
-        let found = any-some test others other_is in
-        let too = any-true test times found.0 (from found.0 found.1) found.2 in absurd (cc)
+        let found = Any-from_list_any test others other_is in
+        let there = from found.1 (found.0, found.2, found.3) in
+        let too = list_any-from_Any test times (there.0, found.1, there.1, there.2, found.4) in absurd (cc)
 
 same-first : (times others : List ℕ) → ((time : ℕ) → Contains times time → Contains others time)
     → ((time : ℕ) → Contains others time → Contains times time) → first_time times ≡ first_time others
