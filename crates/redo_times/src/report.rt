@@ -80,13 +80,7 @@ fn read_stage(
     if kind == DONE {
         return read_end(alloc, log, text);
     }
-    if kind == WAITING {
-        return read_wait(alloc, log, text);
-    }
-    if kind == LOCKED {
-        return read_wait(alloc, log, text);
-    }
-    if kind == UNLOCKED {
+    if kind == WAITING || kind == LOCKED || kind == UNLOCKED {
         return read_wait(alloc, log, text);
     }
     Ok(None)
