@@ -2,6 +2,8 @@
 use Rattle.std.proofs.Common.{◌≡◌, ℕ, List, [], ◌∷◌, ◌++◌, Option, None, Some, refl}
 use Rattle.std.specs.Prelude.{codes}
 use Rattle.std.specs.List.{AllByRecursion}
+use Rattle.redo_html.specs.Symbols.{is_sequence, sequence_len}
+use Rattle.redo_diagnostics.specs.Plain.{plain_after}
 use Rattle.redo_page.specs.Errors.{begins_with, cause_of}
 
 record Row : Type 0 where
@@ -66,13 +68,13 @@ others =
     ∷ found (codes "first" ∷ codes "  last" ∷ []) (codes "  last")
     ∷ found (codes "an error" ∷ codes "last" ∷ []) (codes "an error")
     ∷ found (esc (codes "[1merror") ∷ codes "last" ∷ []) (esc (codes "[1merror"))
-    ∷ found (esc (codes "error") ∷ codes "last" ∷ []) (codes "last")
+    ∷ found (esc (codes "error") ∷ codes "last" ∷ []) (esc (codes "error"))
     ∷ record { lines = []; cause = None }
     ∷ record { lines = (32 ∷ []) ∷ []; cause = None }
     ∷ []
 
 causes_are : AllByRecursion (λ row. cause_of row.lines ≡ row.cause) (compilers ++ (linkers ++ (shells ++ (tests ++ others))))
-unfolding begins_with
+unfolding begins_with is_sequence plain_after sequence_len
 causes_are = (
   refl,
   (

@@ -1,61 +1,15 @@
 -- Rows of the bytes, words and lines by which errors are found.
-use Rattle.std.proofs.Common.{◌≡◌, ℕ, Bool, true, false, List, [], ◌∷◌, ◌++◌, None, Some, map, refl}
+use Rattle.std.proofs.Common.{◌≡◌, ℕ, true, false, List, [], ◌∷◌, ◌++◌, None, Some, map, refl}
 use Rattle.std.specs.List.{filter, range_with_len}
 use Rattle.std.specs.Prelude.{codes}
-use Rattle.redo_page.specs.declared.cause.WordState.TheVariants.{Outside, InWord, InSequence, InLink}
-use Rattle.redo_page.specs.Errors.{begins_with, begins_with_error, cause_of, has_text, is_blank, is_digit, is_error, is_escape, is_hidden, is_in_link, is_in_sequence, is_letter, is_outside, is_parameter, is_visible, is_word_byte, is_word_end, last_filled, lower, state_after, unless_blank}
-
--- ---- bytes
-
-abbrev bytes_that : (ℕ → Bool) → List ℕ
-bytes_that holds = filter holds (range_with_len 0 256)
-
-digits_are : bytes_that is_digit ≡ codes "0123456789"
-digits_are = refl
-
-lower_are : map lower (codes "AZaz@[`{09") ≡ codes "azaz@[`{09"
-lower_are = refl
-
-word_bytes_are : bytes_that is_word_byte ≡ codes "0123456789ABCDEFGHIJKLMNOPQRSTUVWXYZ_abcdefghijklmnopqrstuvwxyz"
-word_bytes_are = refl
-
-parameters_are : bytes_that is_parameter ≡ codes "0123456789;["
-parameters_are = refl
-
-escapes_are : bytes_that is_escape ≡ 27 ∷ []
-escapes_are = refl
-
--- ---- states
-
-kinds_are :
-    (is_outside Outside ≡ true) × (is_outside InWord ≡ false) × (is_outside InSequence ≡ false) × (is_in_sequence Outside ≡ false)
-    × (is_in_sequence InWord ≡ false)
-    × (is_in_sequence InSequence ≡ true)
-kinds_are = (refl, refl, refl, refl, refl, refl)
-
-links_are :
-    (is_outside InLink ≡ false) × (is_in_sequence InLink ≡ false)
-    × (map is_in_link (Outside ∷ InWord ∷ InSequence ∷ InLink ∷ []) ≡ false ∷ false ∷ false ∷ true ∷ [])
-    × (map is_hidden (Outside ∷ InWord ∷ InSequence ∷ InLink ∷ []) ≡ false ∷ false ∷ true ∷ true ∷ [])
-links_are = (refl, refl, refl, refl)
-
--- `a`, a space, an escape, `[` and `m`. The byte that ends a sequence belongs to no word.
-states_are :
-    (map (state_after Outside) (codes "a [m") ≡ InWord ∷ Outside ∷ Outside ∷ InWord ∷ [])
-    × (map (state_after InWord) (codes "a [m") ≡ InWord ∷ Outside ∷ Outside ∷ InWord ∷ [])
-    × (map (state_after InSequence) (codes "a [m") ≡ Outside ∷ Outside ∷ InSequence ∷ Outside ∷ [])
-    × (state_after Outside 27 ≡ InSequence) × (state_after InWord 27 ≡ InSequence) × (state_after InSequence 27 ≡ InSequence)
-states_are = (refl, refl, refl, refl, refl, refl)
-
--- `]` after an escape begins a link, and a space, a control character or a byte that is not ASCII ends it.
-links_end :
-    (map (state_after Outside) (codes "]") ≡ Outside ∷ []) × (map (state_after InWord) (codes "]") ≡ Outside ∷ [])
-    × (map (state_after InSequence) (93 ∷ 92 ∷ []) ≡ InLink ∷ Outside ∷ [])
-    × (map (state_after InLink) (33 ∷ 91 ∷ 93 ∷ 97 ∷ 126 ∷ []) ≡ InLink ∷ InLink ∷ InLink ∷ InLink ∷ InLink ∷ [])
-    × (map (state_after InLink) (27 ∷ 32 ∷ 7 ∷ 127 ∷ 0xC3 ∷ []) ≡ InSequence ∷ Outside ∷ Outside ∷ Outside ∷ Outside ∷ [])
-links_end = (refl, refl, refl, refl, refl)
+use Rattle.redo_html.specs.Symbols.{is_sequence, sequence_len}
+use Rattle.redo_diagnostics.specs.Plain.{plain_after}
+use Rattle.redo_page.specs.Errors.{begins_with, begins_with_error, cause_of, has_error, is_blank, is_error, is_letter, is_word_byte, is_word_end, last_filled, unless_blank}
 
 -- ---- words
+
+word_bytes_are : filter is_word_byte (range_with_len 0 256) ≡ codes "0123456789ABCDEFGHIJKLMNOPQRSTUVWXYZ_abcdefghijklmnopqrstuvwxyz"
+word_bytes_are = refl
 
 word_ends_are : (is_word_end [] ≡ true) × (is_word_end (codes ":a") ≡ true) × (is_word_end (codes "s:") ≡ false)
 word_ends_are = (refl, refl, refl)
@@ -89,48 +43,82 @@ no_errors_begin :
 unfolding begins_with
 no_errors_begin = refl
 
-abbrev linked : List ℕ → List ℕ → List ℕ
-linked text rest = 27 ∷ codes "]8;;" ++ (text ++ rest)
+-- ---- lines that report errors
 
--- An error after a space, after a sequence, and without words for an error where a word begins.
+abbrev esc : List ℕ → List ℕ
+esc text = 27 ∷ text
+
+abbrev linked : List ℕ → List ℕ → List ℕ
+linked text rest = esc (codes "]8;;" ++ (text ++ rest))
+
+-- Skipped bytes begin no words and end none. A word that continues does not begin.
+skipped_are :
+    map (has_error 2 false) (codes "xxerror" ∷ codes "xerror" ∷ codes "error" ∷ codes "x" ∷ []) ≡ true ∷ false ∷ false ∷ false ∷ []
+    × (map (has_error 0 true) (codes "error" ∷ codes " error" ∷ []) ≡ false ∷ true ∷ [])
+    × (map (has_error 1 true) (codes " error" ∷ codes "x error" ∷ []) ≡ false ∷ true ∷ [])
+unfolding begins_with sequence_len
+skipped_are = (refl, refl, refl)
+
+-- An error at the start, after a space, after a sequence, and without words for an error where a word begins.
 lines_are :
-    map is_error (codes "an error" ∷ codes "a: Error: b" ∷ (27 ∷ codes "[1merror") ∷ codes "terror" ∷ codes "error_1" ∷ (27 ∷ codes "error")
-    ∷ [] ∷ [])
-    ≡ true ∷ true ∷ true ∷ false ∷ false ∷ false ∷ false ∷ []
-unfolding begins_with
+    map is_error
+    (codes "error" ∷ codes "an error" ∷ codes "a: Error: b" ∷ esc (codes "[1merror") ∷ codes "terror" ∷ codes "error_1" ∷ [] ∷ [])
+    ≡ true ∷ true ∷ true ∷ true ∷ false ∷ false ∷ false ∷ []
+unfolding begins_with sequence_len
 lines_are = refl
+
+-- A sequence ends a word, and one begins after it.
+coloured_lines_are :
+    map is_error
+    (esc (codes "[01;31m" ++ esc (codes "[Kerror")) ∷ (codes "no" ++ esc (codes "[31merror")) ∷ (codes "error" ++ esc (codes "[m"))
+    ∷ (codes "error" ++ esc (codes "[mx")) ∷ (codes "err" ++ esc (codes "[1mor")) ∷ (codes "no such" ++ esc (codes "[1m file"))
+    ∷ esc (codes "[31mterror") ∷ []) ≡ true ∷ true ∷ true ∷ true ∷ false ∷ false ∷ false ∷ []
+unfolding begins_with sequence_len
+coloured_lines_are = refl
 
 -- The text of a link reports none, and the words after it do. BEL ends a link, and so does `ESC \`.
 linked_lines_are :
-    map is_error (linked (codes "http://error") (7 ∷ codes "x") ∷ linked (codes "u") (7 ∷ codes "error") ∷ linked (codes "u") (27 ∷ 92 ∷ codes "error")
-    ∷ linked (codes "a;error;") (7 ∷ codes ": terror") ∷ []) ≡ false ∷ true ∷ true ∷ false ∷ []
-unfolding begins_with
+    map is_error (linked (codes "http://error") (7 ∷ codes "x") ∷ linked (codes "u") (7 ∷ codes "error")
+    ∷ linked (codes "u") (esc (92 ∷ codes "error")) ∷ (codes "no" ++ linked (codes "u") (7 ∷ codes "error"))
+    ∷ linked (codes "a;error;") (7 ∷ codes ": terror") ∷ []) ≡ false ∷ true ∷ true ∷ true ∷ false ∷ []
+unfolding begins_with sequence_len
 linked_lines_are = refl
 
--- ---- lines without text
-
-visible_are : (map (is_visible Outside) (codes "a! \t") ≡ true ∷ true ∷ false ∷ false ∷ []) × (is_visible InWord 97 ≡ true)
-    × (is_visible InSequence 97 ≡ false) × (is_visible InLink 97 ≡ false)
-visible_are = (refl, refl, refl, refl)
-
-text_are : (has_text Outside (codes "  a") ≡ true) × (has_text Outside (codes " ") ≡ false) × (has_text Outside (27 ∷ codes "[0m") ≡ false)
-    × (has_text InSequence (codes "a") ≡ false) × (has_text Outside (27 ∷ codes "[0ma") ≡ true)
-    × (has_text Outside (linked (codes "u") (7 ∷ [])) ≡ false) × (has_text Outside (linked [] (7 ∷ codes "a")) ≡ true)
-text_are = (refl, refl, refl, refl, refl, refl, refl)
-
-blank_are : (is_blank [] ≡ true) × (is_blank (codes " \t") ≡ true) × (is_blank (codes " a") ≡ false)
-blank_are = (refl, refl, refl)
+-- Any other ESC is text, and so are the bytes after it: other sequences, the title of a terminal, a link without its URL or its end.
+texts_with_escapes_are :
+    map is_error
+    (esc (codes "error") ∷ esc (codes "[1Aerror") ∷ esc (codes "[1A error") ∷ esc (codes "[31 error") ∷ esc (codes "]0;error" ++ 7 ∷ [])
+    ∷ esc (codes "]8;error" ++ 7 ∷ []) ∷ linked (codes "error") [] ∷ (codes "error" ++ esc []) ∷ (codes "an " ++ esc []) ∷ esc (codes "[")
+    ∷ [])
+    ≡ true ∷ false ∷ true ∷ true ∷ true ∷ true ∷ true ∷ true ∷ false ∷ false ∷ []
+unfolding begins_with sequence_len
+texts_with_escapes_are = refl
 
 -- ---- causes
+
+blank_are :
+    map is_blank
+    ([] ∷ codes " \t" ∷ (13 ∷ 7 ∷ []) ∷ esc (codes "[0m") ∷ (codes " " ++ esc (codes "[1m" ++ esc (codes "[K ")))
+    ∷ linked (codes "u") (7 ∷ []) ∷ esc [] ∷ []) ≡ true ∷ true ∷ true ∷ true ∷ true ∷ true ∷ true ∷ []
+unfolding is_sequence plain_after sequence_len
+blank_are = refl
+
+-- Other sequences are text, and so is a link without an end.
+filled_lines_are :
+    map is_blank (codes " a" ∷ codes "a " ∷ esc (codes "[0ma") ∷ linked [] (7 ∷ codes "a") ∷ esc (codes "[1A") ∷ linked (codes "u") [] ∷ [])
+    ≡ false ∷ false ∷ false ∷ false ∷ false ∷ false ∷ []
+unfolding is_sequence plain_after sequence_len
+filled_lines_are = refl
 
 filled_are :
     (unless_blank (codes " ") ≡ None) × (unless_blank (codes "a") ≡ Some (codes "a")) × (last_filled [] ≡ None)
     × (last_filled (codes "a" ∷ codes "b" ∷ codes " " ∷ []) ≡ Some (codes "b"))
+unfolding is_sequence plain_after sequence_len
 filled_are = (refl, refl, refl, refl)
 
 causes_are :
     (cause_of (codes "a" ∷ codes "error 1" ∷ codes "error 2" ∷ codes "b" ∷ []) ≡ Some (codes "error 1"))
     × (cause_of (codes "a" ∷ codes "b" ∷ codes " " ∷ []) ≡ Some (codes "b"))
     × (cause_of (codes " " ∷ []) ≡ None)
-unfolding begins_with
+unfolding begins_with is_sequence plain_after sequence_len
 causes_are = (refl, refl, refl)

@@ -124,14 +124,14 @@ abbrev words : List ℕ → Part
 words text = TextPart text
 
 line_is : excerpt_line_parts (codes "x") ≡ LogPart plain_style (codes "x") ∷ words (codes "\n") ∷ []
-unfolding excerpt_line_parts excerpt_line_end cut_to begins_with
+unfolding excerpt_line_parts excerpt_line_end cut_to begins_with sequence_len
 line_is = refl
 
 -- A line that reports an error, with its line feed.
 error_line_is :
     excerpt_line_parts (codes "an error") ≡ tag markup.Emphasis ∷ LogPart plain_style (codes "an error") ∷ words (codes "\n")
     ∷ tag markup.EndEmphasis ∷ []
-unfolding excerpt_line_parts excerpt_line_end cut_to begins_with
+unfolding excerpt_line_parts excerpt_line_end cut_to begins_with sequence_len
 error_line_is = refl
 
 -- The word is after what is shown.
@@ -171,7 +171,7 @@ shown_stretch_is :
     stretch_parts 7 (Stretch.Shown (codes "x" ∷ codes "y" ∷ []))
     ≡ tag markup.Pre ∷ LogPart plain_style (codes "x") ∷ words (codes "\n") ∷ LogPart plain_style (codes "y") ∷ words (codes "\n")
     ∷ tag markup.EndPre ∷ []
-unfolding excerpt_line_parts excerpt_line_end cut_to begins_with
+unfolding excerpt_line_parts excerpt_line_end cut_to begins_with sequence_len
 shown_stretch_is = refl
 
 left_out_stretch_is : stretch_parts 7 (Stretch.LeftOut 1) ≡ left_out_parts 7 1
@@ -179,7 +179,7 @@ left_out_stretch_is = refl
 
 short_excerpt_is : excerpt_parts 7 (codes "x" ∷ [])
     ≡ tag markup.Pre ∷ LogPart plain_style (codes "x") ∷ words (codes "\n") ∷ tag markup.EndPre ∷ []
-unfolding excerpt_parts excerpt_line_parts excerpt_line_end cut_to begins_with
+unfolding excerpt_parts excerpt_line_parts excerpt_line_end cut_to begins_with sequence_len
 short_excerpt_is = refl
 
 -- ---- an excerpt
@@ -213,9 +213,9 @@ unfolding excerpt_parts excerpt_line_parts excerpt_line_end cut_to begins_at beg
 errors_in_excerpt = refl
 
 no_error : error_position (a_lines 3) ≡ 3
-unfolding begins_with
+unfolding begins_with sequence_len
 no_error = refl
 
 first_error : error_position (codes "a" ∷ codes "error" ∷ codes "error" ∷ []) ≡ 1
-unfolding begins_with
+unfolding begins_with sequence_len
 first_error = refl

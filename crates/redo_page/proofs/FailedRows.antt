@@ -16,6 +16,7 @@ use Rattle.redo_html.specs.Parts.{Part, part_html}
 use Rattle.redo_html.specs.Parts.Part.{MarkupPart, TextPart, NumberPart}
 use Rattle.redo_html.specs.Shown.{is_unprintable, number_text, unprintable_text, notation}
 use Rattle.redo_html.specs.Symbols.{first_code_point, first_symbol, is_sequence, code_point_len, sequence_len, sequence_numbers, symbol_len, symbols_after}
+use Rattle.redo_diagnostics.specs.Plain.{plain_after}
 use Rattle.redo_outline.specs.declared.node.Node.{Node}
 use Rattle.redo_page.specs.Laws.{target_link}
 use Rattle.redo_page.specs.Errors.{begins_with}
@@ -118,7 +119,7 @@ one_failure :
     (codes "<section id=\"failed\" aria-labelledby=\"h-failed\"><h2 id=\"h-failed\">What failed</h2><article id=\"f1\"><h3><bdi>b</bdi> <strong class=\"x\">exit 1</strong></h3><p class=\"meta\"><bdi>all</bdi>"
     ++ then (codes "<a href=\"#t1\">its place in the tree</a></p><pre>\ncc b.c\n<em>b.c:1: error: x\n</em></pre></article><details class=\"more\"><summary>1 failed because of these</summary><ol class=\"list\"><li><a href=\"#t0\"><bdi>all</bdi></a> <strong class=\"x\">exit 3</strong></li></ol></details></section>"))
     ≡ true
-unfolding failed_parts cause_of_node cause_parts cut_to begins_with article_parts article_of recipe_parts commands_parts path_parts output_parts whole_parts in_tree_parts symbols_after first_symbol symbol_len is_sequence sequence_len sequence_numbers first_code_point code_point_len is_unprintable notation unprintable_text number_text encode_utf8 digits passage_html
+unfolding failed_parts cause_of_node cause_parts cut_to begins_with plain_after article_parts article_of recipe_parts commands_parts path_parts output_parts whole_parts in_tree_parts symbols_after first_symbol symbol_len is_sequence sequence_len sequence_numbers first_code_point code_point_len is_unprintable notation unprintable_text number_text encode_utf8 digits passage_html
 one_failure = refl
 
 -- Below the article, there is a list of those above, and then one of unfinished targets.
@@ -127,7 +128,7 @@ one_unclosed :
     (codes "<section id=\"failed\" aria-labelledby=\"h-failed\"><h2 id=\"h-failed\">What failed</h2><article id=\"f1\"><h3><bdi>b</bdi> <strong class=\"x\">exit 1</strong></h3><p class=\"meta\"><bdi>all</bdi>"
     ++ then (codes "<a href=\"#t1\">its place in the tree</a></p><pre>\ncc b.c\n<em>b.c:1: error: x\n</em></pre></article><details class=\"more\"><summary>1 failed because of these</summary><ol class=\"list\"><li><a href=\"#t0\"><bdi>all</bdi></a> <strong class=\"x\">exit 3</strong></li></ol></details><details class=\"more\"><summary>1 unfinished</summary><ol class=\"list\"><li><a href=\"#t2\"><bdi>d</bdi></a> <strong class=\"o\">unfinished</strong></li></ol></details></section>"))
     ≡ true
-unfolding failed_parts cause_of_node cause_parts cut_to begins_with article_parts article_of recipe_parts commands_parts path_parts output_parts whole_parts in_tree_parts symbols_after first_symbol symbol_len is_sequence sequence_len sequence_numbers first_code_point code_point_len is_unprintable notation unprintable_text number_text encode_utf8 digits passage_html
+unfolding failed_parts cause_of_node cause_parts cut_to begins_with plain_after article_parts article_of recipe_parts commands_parts path_parts output_parts whole_parts in_tree_parts symbols_after first_symbol symbol_len is_sequence sequence_len sequence_numbers first_code_point code_point_len is_unprintable notation unprintable_text number_text encode_utf8 digits passage_html
 one_unclosed = refl
 
 -- ---- lists
@@ -137,21 +138,21 @@ two_failures :
     bytes_eq (html (take 32 (drop 4 (failed logs (node 0 None None 0 2 true ∷ b ∷ c ∷ [])))))
     (codes "<ol class=\"list\"><li><a href=\"#f1\"><bdi>b</bdi></a> <strong class=\"x\">exit 1</strong> <code>b.c:1: error: x</code></li><li><a href=\"#f2\"><bdi>c</bdi></a> <strong class=\"x\">exit 2</strong></li></ol>")
     ≡ true
-unfolding failed_parts cause_of_node cause_parts cut_to begins_with symbols_after first_symbol symbol_len is_sequence sequence_len sequence_numbers first_code_point code_point_len is_unprintable notation unprintable_text number_text encode_utf8 digits passage_html
+unfolding failed_parts cause_of_node cause_parts cut_to begins_with plain_after symbols_after first_symbol symbol_len is_sequence sequence_len sequence_numbers first_code_point code_point_len is_unprintable notation unprintable_text number_text encode_utf8 digits passage_html
 two_failures = refl
 
 more_with_causes :
     bytes_eq (html (in_list OTHERS (record (view logs (b ∷ [])) { roots = replicate 11 0 })))
     (codes "<details class=\"more\"><summary>1 more that failed</summary><ol class=\"list\" start=\"11\"><li><a href=\"#t0\"><bdi>b</bdi></a> <strong class=\"x\">exit 1</strong> <code>b.c:1: error: x</code></li></ol></details>")
     ≡ true
-unfolding cause_of_node cause_parts cut_to begins_with symbols_after first_symbol symbol_len is_sequence sequence_len sequence_numbers first_code_point code_point_len is_unprintable notation unprintable_text number_text encode_utf8 digits passage_html
+unfolding cause_of_node cause_parts cut_to begins_with plain_after symbols_after first_symbol symbol_len is_sequence sequence_len sequence_numbers first_code_point code_point_len is_unprintable notation unprintable_text number_text encode_utf8 digits passage_html
 more_with_causes = refl
 
 more_without_causes :
     bytes_eq (html (in_list DEPENDENTS (record (view logs (b ∷ [])) { dependents = 0 ∷ [] })))
     (codes "<details class=\"more\"><summary>1 failed because of these</summary><ol class=\"list\"><li><a href=\"#t0\"><bdi>b</bdi></a> <strong class=\"x\">exit 1</strong></li></ol></details>")
     ≡ true
-unfolding cause_of_node cause_parts cut_to begins_with symbols_after first_symbol symbol_len is_sequence sequence_len sequence_numbers first_code_point code_point_len is_unprintable notation unprintable_text number_text encode_utf8 digits passage_html
+unfolding cause_of_node cause_parts cut_to begins_with plain_after symbols_after first_symbol symbol_len is_sequence sequence_len sequence_numbers first_code_point code_point_len is_unprintable notation unprintable_text number_text encode_utf8 digits passage_html
 more_without_causes = refl
 
 -- Each row has the link, the name and the status of its own target.
@@ -159,7 +160,7 @@ more_than_one :
     bytes_eq (html (in_list UNCLOSED (record (view logs (node 0 None None 0 2 true ∷ b ∷ c ∷ [])) { unclosed = 1 ∷ 2 ∷ [] })))
     (codes "<details class=\"more\"><summary>2 unfinished</summary><ol class=\"list\"><li><a href=\"#t1\"><bdi>b</bdi></a> <strong class=\"x\">exit 1</strong></li><li><a href=\"#t2\"><bdi>c</bdi></a> <strong class=\"x\">exit 2</strong></li></ol></details>")
     ≡ true
-unfolding cause_of_node cause_parts cut_to begins_with symbols_after first_symbol symbol_len is_sequence sequence_len sequence_numbers first_code_point code_point_len is_unprintable notation unprintable_text number_text encode_utf8 digits passage_html
+unfolding cause_of_node cause_parts cut_to begins_with plain_after symbols_after first_symbol symbol_len is_sequence sequence_len sequence_numbers first_code_point code_point_len is_unprintable notation unprintable_text number_text encode_utf8 digits passage_html
 more_than_one = refl
 
 -- The starts of articles and of lists, and the links to articles.
@@ -221,7 +222,7 @@ twelve_failures :
     ++ (flat_map article (range_with_len 0 10)
     ++ codes "<details class=\"more\"><summary>2 more that failed</summary><ol class=\"list\" start=\"11\"><li><a href=\"#t10\"><bdi>b</bdi></a> <strong class=\"x\">exit 1</strong> <code>b.c:1: error: x</code></li><li><a href=\"#t11\"><bdi>c</bdi></a> <strong class=\"x\">exit 2</strong></li></ol></details></section>"))))
     ≡ true
-unfolding failed_parts cause_of_node cause_parts cut_to begins_with article_parts article_of recipe_parts commands_parts path_parts output_parts nothing_parts in_tree_parts symbols_after first_symbol symbol_len is_sequence sequence_len sequence_numbers first_code_point code_point_len is_unprintable notation unprintable_text number_text encode_utf8 digits passage_html
+unfolding failed_parts cause_of_node cause_parts cut_to begins_with plain_after article_parts article_of recipe_parts commands_parts path_parts output_parts nothing_parts in_tree_parts symbols_after first_symbol symbol_len is_sequence sequence_len sequence_numbers first_code_point code_point_len is_unprintable notation unprintable_text number_text encode_utf8 digits passage_html
 twelve_failures = refl
 
 abbrev items_of : Part → List Part
@@ -328,7 +329,7 @@ many_lines = log (codes "e") (replicate 20 (Text (codes "a")) ++ Text (codes "er
 
 -- If lines are left out, a link leads to the position of the target.
 excerpt_links : flat_map target_link (output_parts many_lines 5 (node 0 None (Some (pos 1)) 301 0 false)) ≡ 5 ∷ 5 ∷ []
-unfolding output_parts excerpt_parts excerpt_line_parts excerpt_line_end cut_to left_out_parts in_tree_parts begins_with
+unfolding output_parts excerpt_parts excerpt_line_parts excerpt_line_end cut_to left_out_parts in_tree_parts begins_with sequence_len
 excerpt_links = refl
 
 no_output :

@@ -2,7 +2,7 @@
 use Rattle.std.proofs.Common.{◌≡◌, ℕ, true, false, List, [], ◌∷◌, ◌++◌, None, Some, pos, negsuc, length, map, replicate, refl}
 use Rattle.std.specs.Fmt.{digits}
 use Rattle.std.specs.List.{filter, flat_map, range_with_len}
-use Rattle.std.specs.Prelude.{bytes_eq, codes}
+use Rattle.std.specs.Prelude.{bytes_eq, codes, not}
 use Rattle.redo_html.specs.Cut.{begins_at}
 use Rattle.redo_html.specs.declared.markup.Markup.TheVariants as markup
 use Rattle.redo_html.specs.Parts.{Part}
@@ -10,12 +10,12 @@ use Rattle.redo_html.specs.Parts.Part.{MarkupPart, LogPart, TextPart, NumberPart
 use Rattle.redo_html.specs.Shown.{is_unprintable, number_text}
 use Rattle.redo_html.specs.Style.{plain_style}
 use Rattle.redo_html.specs.Symbols.{is_sequence, code_point_len, first_code_point, first_symbol, sequence_len, symbol_len, symbols_after}
+use Rattle.redo_diagnostics.specs.Plain.{plain_after}
 use Rattle.redo_line.specs.declared.entry.Entry.TheVariants.{Text}
 use Rattle.redo_logs.specs.declared.log_state.LogState.TheVariants.{Ended}
 use Rattle.redo_logs.specs.Logs.{Log}
 use Rattle.redo_options.specs.declared.options.Options.{Options}
 use Rattle.redo_outline.specs.declared.node.Node.{Node}
-use Rattle.redo_page.specs.declared.cause.WordState.TheVariants.{Outside}
 use Rattle.redo_page.specs.declared.level.Level.{Level}
 use Rattle.redo_page.specs.declared.scope.Rows.TheVariants.{Warned}
 use Rattle.redo_page.specs.declared.template.Around.TheVariants.{Each, EachTarget}
@@ -28,7 +28,7 @@ use Rattle.redo_page.specs.declared.scope.Measure.TheVariants.{Took, Sum, Proces
 use Rattle.redo_page.specs.declared.scope.Test.TheVariants.{HasDependents, HasKnown, HasMarks, HasCallers}
 use Rattle.redo_page.specs.declared.verdict.Verdict.TheVariants.{Failed}
 use Rattle.redo_page.specs.Command.{command, is_safe}
-use Rattle.redo_page.specs.Errors.{begins_with, begins_with_error, cause_of, is_error, is_visible}
+use Rattle.redo_page.specs.Errors.{begins_with, begins_with_error, cause_of, is_blank, is_error}
 use Rattle.redo_page.specs.Excerpt.{cut_to, in_tree_parts, left_out_parts, with_left_out}
 use Rattle.redo_page.specs.Excerpt.Stretch.{LeftOut}
 use Rattle.redo_page.specs.Article.{article_took, name_of, nothing_parts, output_parts}
@@ -79,16 +79,17 @@ other_words = refl
 
 -- A word at the end of a line of 6,007 bytes.
 long_line : is_error (replicate 6000 46 ++ codes " error:") ≡ true
-unfolding begins_with
+unfolding begins_with sequence_len
 long_line = refl
 
 -- Each byte above 32 is visible, including 127 and the bytes above it.
-visible : filter (is_visible Outside) (range_with_len 0 256) ≡ range_with_len 33 223
+visible : filter (λ byte. not (is_blank (byte ∷ []))) (range_with_len 0 256) ≡ range_with_len 33 223
+unfolding is_sequence plain_after sequence_len
 visible = refl
 
 -- The first line that reports an error is the cause, wherever it is.
 late_error : cause_of (replicate 300 (codes "a") ++ codes "error 1" ∷ codes "error 2" ∷ codes "b" ∷ []) ≡ Some (codes "error 1")
-unfolding begins_with
+unfolding begins_with is_sequence plain_after sequence_len
 late_error = refl
 
 -- ---- cut lines

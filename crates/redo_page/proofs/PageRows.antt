@@ -533,7 +533,7 @@ failed_page :
     ∷ tag markup.NoteItem ∷ tag (markup.OutputLink 0) ∷ words (codes "What it printed is shown above") ∷ tag markup.EndLink
     ∷ tag markup.EndItem ∷ tag markup.EndUnordered ∷ tag markup.EndDetails ∷ tag markup.EndItem
     ∷ footer (NumberPart 1 ∷ words (codes " log in ") ∷ end (codes "redo-log -r -u --debug-locks --dir=d a"))))))))))))))
-unfolding page_parts top_parts summary_parts size_words footer_parts failed_parts news_parts article_parts article_of recipe_parts commands_parts path_parts in_tree_parts output_parts whole_parts begins_with is_safe number_text digits show_log show_log_within symbols_after first_symbol symbol_len is_sequence first_code_point code_point_len is_unprintable
+unfolding page_parts top_parts summary_parts size_words footer_parts failed_parts news_parts article_parts article_of recipe_parts commands_parts path_parts in_tree_parts output_parts whole_parts begins_with sequence_len is_safe number_text digits show_log show_log_within symbols_after first_symbol symbol_len is_sequence first_code_point code_point_len is_unprintable
 failed_page = refl
 
 -- The parts of these pages in short: where each section begins, the title, the first words, and the command.
@@ -562,7 +562,7 @@ failed_milestones :
     flat_map milestone (page_parts (request [] true true) failed (codes "a" ∷ []))
     ≡ markup.Head ∷ markup.Header ∷ markup.Nav ∷ markup.Main ∷ markup.FailedSection ∷ markup.SummarySection ∷ markup.TreeSection
     ∷ markup.Footer ∷ markup.EndHtml ∷ []
-unfolding page_parts top_parts summary_parts size_words footer_parts failed_parts news_parts article_parts article_of recipe_parts commands_parts path_parts in_tree_parts output_parts whole_parts begins_with is_safe number_text digits show_log show_log_within symbols_after first_symbol symbol_len is_sequence first_code_point code_point_len is_unprintable
+unfolding page_parts top_parts summary_parts size_words footer_parts failed_parts news_parts article_parts article_of recipe_parts commands_parts path_parts in_tree_parts output_parts whole_parts begins_with sequence_len is_safe number_text digits show_log show_log_within symbols_after first_symbol symbol_len is_sequence first_code_point code_point_len is_unprintable
 failed_milestones = refl
 
 -- What is new follows what failed.
@@ -650,7 +650,7 @@ failed_words = refl
 command_is :
     filter (λ text. starts_with nat_eq text (codes "redo-log -r"))
     (flat_map words_of (page_parts (request [] true true) failed (codes "a" ∷ []))) ≡ codes "redo-log -r -u --debug-locks --dir=d a" ∷ []
-unfolding page_parts top_parts summary_parts size_words footer_parts failed_parts news_parts article_parts article_of recipe_parts commands_parts path_parts in_tree_parts output_parts whole_parts begins_with is_safe number_text digits show_log show_log_within symbols_after first_symbol symbol_len is_sequence first_code_point code_point_len is_unprintable
+unfolding page_parts top_parts summary_parts size_words footer_parts failed_parts news_parts article_parts article_of recipe_parts commands_parts path_parts in_tree_parts output_parts whole_parts begins_with sequence_len is_safe number_text digits show_log show_log_within symbols_after first_symbol symbol_len is_sequence first_code_point code_point_len is_unprintable
 command_is = refl
 
 -- A page has the bytes of its parts.

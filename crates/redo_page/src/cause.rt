@@ -1,115 +1,29 @@
 //! Why a target failed: the line of its output that tells it best.
-ghost use Rattle.std.specs.Prelude.{slice_get, ◌≡◌};
+ghost use Rattle.std.specs.Prelude.{slice_get, ◌-◌, ◌<◌, ◌≡◌, length};
 ghost use Rattle.std.specs.Option.{option_copied, option_or};
-ghost use Rattle.redo_html.specs.Symbols.{is_link_byte};
+ghost use Rattle.redo_html.specs.Symbols.{sequence_len};
 ghost use Rattle.redo_outline.specs.Facts.{entries_at, texts_of};
-ghost use Rattle.redo_page.specs.Errors.{begins_with, begins_with_error, cause_of, has_error, is_blank, is_digit, is_error, is_hidden, is_in_link, is_in_sequence, is_letter, is_outside, is_parameter, is_visible, is_word_byte, is_word_end, lower, state_after, unless_blank};
+ghost use Rattle.redo_page.specs.Errors.{begins_with, begins_with_error, cause_of, is_blank, is_error, is_letter, is_word_byte, is_word_end, unless_blank};
 
 use crate::printed::Printed;
+use redo_html::{ESCAPE, sequence_size};
 use redo_logs::LogTable;
 
-const ESCAPE: u8 = 27;
-
-/// The state after some bytes: outside of words, in a word, in a sequence that sets colours, or in a link.
-#[derive(Clone, Copy, Debug, PartialEq, Eq)]
-pub enum WordState {
-    Outside,
-    InWord,
-    InSequence,
-    InLink,
-}
-
-impl WordState {
-    fn is_outside(self) -> bool
-        ensures { result ≡ is_outside self }
-    {
-        match self {
-            WordState::Outside => true,
-            WordState::InWord => false,
-            WordState::InSequence => false,
-            WordState::InLink => false,
-        }
-    }
-
-    fn is_in_sequence(self) -> bool
-        ensures { result ≡ is_in_sequence self }
-    {
-        match self {
-            WordState::Outside => false,
-            WordState::InWord => false,
-            WordState::InSequence => true,
-            WordState::InLink => false,
-        }
-    }
-
-    fn is_in_link(self) -> bool
-        ensures { result ≡ is_in_link self }
-    {
-        match self {
-            WordState::Outside => false,
-            WordState::InWord => false,
-            WordState::InSequence => false,
-            WordState::InLink => true,
-        }
-    }
-
-    /// Returns whether a byte in this state is part of a sequence or a link, or ends it.
-    pub fn is_hidden(self) -> bool
-        ensures { result ≡ is_hidden self }
-    {
-        self.is_in_sequence() || self.is_in_link()
-    }
-
-    /// Returns the state after one more byte.
-    pub fn after(self, byte: u8) -> WordState
-        ensures { result ≡ state_after self byte }
-    {
-        let in_sequence = self.is_in_sequence();
-        if byte == ESCAPE || (in_sequence && is_parameter(byte)) {
-            WordState::InSequence
-        } else if (in_sequence && byte == b']') || (self.is_in_link() && is_link_byte(byte)) {
-            WordState::InLink
-        } else if !self.is_hidden() && is_word_byte(byte) {
-            WordState::InWord
-        } else {
-            WordState::Outside
-        }
-    }
-}
-
-fn is_digit(byte: u8) -> bool
-    ensures { result ≡ is_digit byte }
-{
-    48 <= byte && byte <= 57
-}
-
-fn is_parameter(byte: u8) -> bool
-    ensures { result ≡ is_parameter byte }
-{
-    byte == 91 || byte == 59 || is_digit(byte)
-}
-
-fn is_link_byte(byte: u8) -> bool
-    ensures { result ≡ is_link_byte byte }
-{
-    32 < byte && byte < 127
-}
-
-fn lower(byte: u8) -> u8
-    ensures { result ≡ lower byte }
-{
-    if 65 <= byte && byte <= 90 {
-        byte + 32
-    } else {
-        byte
-    }
-}
+const ERROR_WORDS: &[&[u8]] = &[
+    b"error",
+    b"undefined reference",
+    b"no such file",
+    b"fatal",
+    b"not found",
+    b"cannot",
+    b"FAIL",
+    b"FAILED",
+];
 
 fn is_word_byte(byte: u8) -> bool
     ensures { result ≡ is_word_byte byte }
 {
-    let letter = lower(byte);
-    (97 <= letter && letter <= 122) || is_digit(byte) || byte == 95
+    byte.is_ascii_alphanumeric() || byte == b'_'
 }
 
 fn is_word_end(bytes: &[u8]) -> bool
@@ -124,10 +38,11 @@ fn is_word_end(bytes: &[u8]) -> bool
 fn is_letter(letter: u8, byte: u8) -> bool
     ensures { result ≡ is_letter letter byte }
 {
-    byte == letter || lower(byte) == letter
+    byte == letter || byte.to_ascii_lowercase() == letter
 }
 
 // Returns whether bytes begin with these words, and the last word ends there.
+#[tactic(auto, using(crate::proofs::ErrorLemmas::begins_here, crate::proofs::ErrorLemmas::begins_past))]
 fn begins_with(words: &[u8], bytes: &[u8]) -> bool
     ensures { result ≡ begins_with words.now bytes.now }
 {
@@ -146,60 +61,64 @@ fn begins_with(words: &[u8], bytes: &[u8]) -> bool
 fn begins_with_error(bytes: &[u8]) -> bool
     ensures { result ≡ begins_with_error bytes.now }
 {
-    if begins_with(b"error", bytes) {
-        return true;
-    }
-    if begins_with(b"undefined reference", bytes) {
-        return true;
-    }
-    if begins_with(b"no such file", bytes) {
-        return true;
-    }
-    if begins_with(b"fatal", bytes) {
-        return true;
-    }
-    if begins_with(b"not found", bytes) {
-        return true;
-    }
-    if begins_with(b"cannot", bytes) {
-        return true;
-    }
-    if begins_with(b"FAIL", bytes) {
-        return true;
-    }
-    begins_with(b"FAILED", bytes)
-}
-
-/// Returns whether a line reports an error.
-pub fn is_error(line: &[u8]) -> bool
-    ensures { result ≡ is_error line.now }
-{
-    let mut state = WordState::Outside;
-    for at in 0..line.len() {
-        if state.is_outside() && begins_with_error(&line[at..]) {
+    for words in ERROR_WORDS {
+        if begins_with(words, bytes) {
             return true;
         }
-        state = state.after(line[at]);
     }
     false
 }
 
-fn is_visible(state: WordState, byte: u8) -> bool
-    ensures { result ≡ is_visible state byte }
+// Returns the number of bytes after the first one that belong to the same sequence.
+#[tactic(auto, using(crate::proofs::ErrorLemmas::no_sequence))]
+fn sequence_rest(bytes: &[u8]) -> usize
+    requires { 0 < length bytes.now }
+    ensures { result ≡ sequence_len bytes.now - 1 }
 {
-    !state.is_hidden() && 32 < byte
+    if bytes[0] == ESCAPE {
+        sequence_size(bytes).saturating_sub(1)
+    } else {
+        0
+    }
+}
+
+/// Returns whether a line reports an error.
+#[tactic(auto, using(crate::proofs::ErrorLemmas::error_skipped))]
+pub fn is_error(line: &[u8]) -> bool
+    ensures { result ≡ is_error line.now }
+{
+    let mut skipped = 0;
+    let mut in_word = false;
+    for at in 0..line.len() {
+        if skipped > 0 {
+            skipped -= 1;
+            continue;
+        }
+        if !in_word && begins_with_error(&line[at..]) {
+            return true;
+        }
+        // ESC is in no word, so a sequence ends one.
+        in_word = is_word_byte(line[at]);
+        skipped = sequence_rest(&line[at..]);
+    }
+    false
 }
 
 // Returns whether nothing of a line is visible.
+#[tactic(auto, using(crate::proofs::ErrorLemmas::blank_lines))]
 fn is_blank(line: &[u8]) -> bool
     ensures { result ≡ is_blank line.now }
 {
-    let mut state = WordState::Outside;
-    for byte in line {
-        if is_visible(state, *byte) {
+    let mut skipped = 0;
+    for at in 0..line.len() {
+        if skipped > 0 {
+            skipped -= 1;
+            continue;
+        }
+        if line[at] > b' ' {
             return false;
         }
-        state = state.after(*byte);
+        skipped = sequence_rest(&line[at..]);
     }
     true
 }

@@ -1,7 +1,6 @@
 use Rattle.std.proofs.Common.{◌≡◌, drop}
-use Rattle.redo_page.specs.Errors.{has_text}
-use Rattle.redo_page.specs.declared.cause.WordState.TheVariants.{Outside}
+use Rattle.redo_page.proofs.ErrorLemmas.{are_blank}
 use Rattle.redo_page.proofs.cause.is_blank.Given as goal
 
-abbrev pub invariant-loop-byte : goal.invariant-loop-byte
-invariant-loop-byte l = has_text Outside l.line ≡ has_text l.state (drop l.byte-index l.line)
+abbrev pub invariant-loop-at : goal.invariant-loop-at
+invariant-loop-at l = are_blank 0 l.line ≡ are_blank l.skipped (drop l.at l.line)
