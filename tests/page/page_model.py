@@ -645,13 +645,17 @@ def quoted_in_ascii(word):
 ERROR = re.compile(rb"(?<![A-Za-z0-9_])(?:(?i:error|undefined reference|no such file|fatal|not found|cannot)|FAIL|FAILED)(?![A-Za-z0-9_])")
 
 
-def without_colours(line):
-    """A line with zeros in place of the sequences that set colours, and of links, so that none of their letters belongs to a word."""
-    return re.sub(rb"(?:\x1b[\[;0-9]*(?:\][!-~]*)?)+[^\x1b]?", lambda found: b"\x00" * len(found[0]), line, flags=re.S)
+# Colours, parts of lines that are erased, and links.
+SEQUENCE = re.compile(rb"\x1b\[[0-9;]*[mK]|\x1b\]8;[!-:<-~]*;[!-~]*(?:\x07|\x1b\\)")
+
+
+def without_sequences(line):
+    """A line with a zero in place of each sequence, which ends a word."""
+    return SEQUENCE.sub(b"\x00", line)
 
 
 def is_error(line):
-    return ERROR.search(without_colours(line)) is not None
+    return ERROR.search(without_sequences(line)) is not None
 
 
 def emphasized(line, html):
@@ -659,7 +663,7 @@ def emphasized(line, html):
 
 
 def is_blank(line):
-    return not re.search(rb"[^\x00-\x20]", without_colours(line))
+    return not re.search(rb"[^\x00-\x20]", without_sequences(line))
 
 
 def cause_of(lines):

@@ -307,6 +307,11 @@ check("errors in an output", part(ERRORS, b"<article", b"</article>").partition(
 # A link reports none.
 LINKED = made_page({b"all": record(b"do", 1, b"a"), b"a": b"\x1b]8;;http://error\x07x\x1b]8;;\x1b\\error\n\x1b]8;;error:\x07y\n" + record(b"done", 2, b"1 a")})
 check("links in an output", part(LINKED, b"<article", b"</article>").partition(b"<pre>")[2], b"\n<em>xerror\n</em>y\n</pre>")
+# A colour ends a word. Other sequences are text, and so is a link that doesn't end.
+COLOURED = made_page({b"all": record(b"do", 1, b"a"),
+                      b"a": b"no\x1b[Kerror\nerr\x1b[Kor\n\x1b[1Aerror\n\x1berror\n\x1b]8;;error\n" + record(b"done", 2, b"1 a")})
+check("sequences in an output", part(COLOURED, b"<article", b"</article>").partition(b"<pre>")[2],
+      b"\n<em>noerror\n</em>error\n<i>^[</i>[1Aerror\n<em><i>^[</i>error\n</em><em><i>^[</i>]8;;error\n</em></pre>")
 check("an error in the tree", part(ERRORS, b'<ul class="tree">', b"</pre>").partition(b"<pre>")[2], b"\ncannot\n")
 # So are they in excerpts, each of them, even if the word isn't shown.
 ERRORS = made_page({b"all": record(b"do", 1, b"a"), b"a": b"error\nnote\n" + b"." * 1000 + b" error\n" + numbered(4, 301) + record(b"done", 2, b"1 a")})
