@@ -14,7 +14,7 @@ from checks import version
 
 MOST_SECONDS = 600
 CANNOT_WRITE = b"redo-log-json: cannot write\n"
-NO_OUTPUT = "the output must be a file in a directory that exists, and you must be allowed to write there"
+NO_OUTPUT = "not writable: '{}'; it must be a file in a directory that exists, and you must be allowed to write there"
 
 
 def run(program, folder, words, **how):
@@ -216,7 +216,7 @@ def expect_output_files(checks, program, html_program):
             checks.expect(what, (found, status), (like(wanted), found[0]))
             checks.expect(f"{what}: standard output", text, b"" if files in (BAD_INDEX, BAD_LOG) else JSON)
             if status == 6:
-                checks.expect(f"{what}: the message", found[2], CANNOT_WRITE + message_of([NO_OUTPUT]))
+                checks.expect(f"{what}: the message", found[2], CANNOT_WRITE + message_of([NO_OUTPUT.format(output)]))
             # Both programs write the same files with the same permissions.
             checks.expect(f"{what}: the files", with_whole(after, text), with_whole(page_after, page))
             left = AFTER.get(output, (b"old", b"old"))[status != 0]

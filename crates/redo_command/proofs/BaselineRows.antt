@@ -27,7 +27,7 @@ abbrev Fails : Row → Type 0
 Fails row =
     (status_of (Baseline row.fault) ≡ row.status_is)
     × (failure_message_as (codes "redo-log-json") row.dir [] [] (Baseline row.fault) ≡ row.message_is)
-    × (explanation_as (codes "redo-log-json") row.dir None [] [] (Baseline row.fault) ≡ row.explanation_is)
+    × (explanation_as (codes "redo-log-json") row.dir [] None [] [] (Baseline row.fault) ≡ row.explanation_is)
 
 abbrev no_memory : List ℕ
 no_memory = codes "redo-log-json: no memory or no thread was left; --senders 1 needs the least, and ulimit -v shows a limit on memory\n"

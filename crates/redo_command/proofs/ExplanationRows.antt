@@ -65,6 +65,9 @@ entry number target = record { number = number; target = target; must_close = fa
 abbrev index : List IndexEntry
 index = entry 1 (codes "all") ∷ entry 7 (codes "src/object.o") ∷ entry 30 (codes "lib/object.o") ∷ []
 
+abbrev output : List ℕ
+output = codes "it's/page.html"
+
 abbrev arguments : List (List ℕ)
 arguments = codes "all" ∷ codes "object.o" ∷ codes "other" ∷ []
 
@@ -82,7 +85,7 @@ rows =
     explains (codes ".") (Words words.Refused) [] ∷
     []
 
-these_rows : AllByRecursion (λ row. explanation_as (codes "redo-log") row.dir row.write_error index arguments row.failure ≡ row.text_is) rows
+these_rows : AllByRecursion (λ row. explanation_as (codes "redo-log") row.dir output row.write_error index arguments row.failure ≡ row.text_is) rows
 unfolding digits
 these_rows = (refl, (refl, (refl, (refl, (refl, (refl, (refl, (refl, tt))))))))
 
@@ -109,7 +112,7 @@ logs =
     []
 
 these_logs : AllByRecursion (
-    λ row. explanation_as (codes "redo-log") (codes "-d") None many_logs arguments (Run (run.Stream row.position stream.Read)) ≡ row.text_is
+    λ row. explanation_as (codes "redo-log") (codes "-d") output None many_logs arguments (Run (run.Stream row.position stream.Read)) ≡ row.text_is
     ) logs
 unfolding digits
 these_logs = (refl, (refl, (refl, tt)))
@@ -123,7 +126,7 @@ lines =
     explains (codes "d") (Index index_fault.TooMany) (codes "redo-log: at most 1048575 lines can be read: 'd/names'\n") ∷
     []
 
-these_lines : AllByRecursion (λ row. explanation_as (codes "redo-log") row.dir row.write_error index arguments row.failure ≡ row.text_is) lines
+these_lines : AllByRecursion (λ row. explanation_as (codes "redo-log") row.dir output row.write_error index arguments row.failure ≡ row.text_is) lines
 unfolding digits
 these_lines = (refl, (refl, (refl, (refl, tt))))
 
@@ -131,7 +134,8 @@ these_lines = (refl, (refl, (refl, (refl, tt))))
 abbrev outputs : List Row
 outputs =
     explains (codes ".") (Run run.Write)
-    (codes "redo-log: the output must be a file in a directory that exists, and you must be allowed to write there\n") ∷
+    (codes "redo-log: not writable: 'it'\\''s/page.html'; "
+    ++ codes "it must be a file in a directory that exists, and you must be allowed to write there\n") ∷
     explains_by (codes ".") (Some error.NoSpace) (Run run.Write)
     (codes "redo-log: no space is left where the output is written; df -h shows how full each disk is\n") ∷
     explains_by (codes ".") (Some error.QuotaExceeded) (Run run.Write)
@@ -141,7 +145,7 @@ outputs =
     explains_by (codes ".") (Some error.Other) (Run run.Write) [] ∷
     []
 
-these_outputs : AllByRecursion (λ row. explanation_as (codes "redo-log") row.dir row.write_error index arguments row.failure ≡ row.text_is) outputs
+these_outputs : AllByRecursion (λ row. explanation_as (codes "redo-log") row.dir output row.write_error index arguments row.failure ≡ row.text_is) outputs
 these_outputs = (refl, (refl, (refl, (refl, (refl, tt)))))
 
 -- Memory ran out.
@@ -156,14 +160,14 @@ memories =
     explains (codes ".") (Run (run.Stream 0 stream.OutOfMemory)) no_memory ∷
     []
 
-these_memories : AllByRecursion (λ row. explanation_as (codes "redo-log") row.dir row.write_error index arguments row.failure ≡ row.text_is) memories
+these_memories : AllByRecursion (λ row. explanation_as (codes "redo-log") row.dir output row.write_error index arguments row.failure ≡ row.text_is) memories
 unfolding digits
 these_memories = (refl, (refl, (refl, (refl, tt))))
 
 -- ---- outcomes
 
-this_outcome : outcome_explanation_as (codes "redo-log") (codes ".") None index arguments (Ok tt) ≡ []
+this_outcome : outcome_explanation_as (codes "redo-log") (codes ".") output None index arguments (Ok tt) ≡ []
 this_outcome = refl
 
-this_failure : outcome_explanation_as (codes "redo-log") (codes ".") None index arguments (Err Memory) ≡ no_memory
+this_failure : outcome_explanation_as (codes "redo-log") (codes ".") output None index arguments (Err Memory) ≡ no_memory
 this_failure = refl

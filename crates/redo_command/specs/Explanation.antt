@@ -73,13 +73,19 @@ memory_remedy = codes "no memory or no thread was left; --senders 1 needs the le
 
 -- ---- the output
 
--- The remedy if the text wasn't written, by the error of the last failed write, if there was one.
-abbrev pub write_remedy : Option WriteError → List ℕ
-write_remedy None = codes "the output must be a file in a directory that exists, and you must be allowed to write there"
-write_remedy (Some NoSpace) = codes "no space is left where the output is written; df -h shows how full each disk is"
-write_remedy (Some QuotaExceeded) = codes "your disk quota is used up where the output is written; quota -s shows it"
-write_remedy (Some ClosedPipe) = codes "what reads the output ended early; sed -n 1,10p, unlike head, reads all of it"
-write_remedy (Some Other) = []
+-- The remedy if the file with this path can't be created or replaced.
+abbrev pub unwritable : List ℕ → List ℕ
+unwritable output =
+    codes "not writable: '" ++ flat_map quoted_byte output
+    ++ codes "'; it must be a file in a directory that exists, and you must be allowed to write there"
+
+-- The remedy if the text wasn't written to the output with this path, by the error of the last failed write, if there was one.
+abbrev pub write_remedy : List ℕ → Option WriteError → List ℕ
+write_remedy output None = unwritable output
+write_remedy output (Some NoSpace) = codes "no space is left where the output is written; df -h shows how full each disk is"
+write_remedy output (Some QuotaExceeded) = codes "your disk quota is used up where the output is written; quota -s shows it"
+write_remedy output (Some ClosedPipe) = codes "what reads the output ended early; sed -n 1,10p, unlike head, reads all of it"
+write_remedy output (Some Other) = []
 
 -- ---- the file `names`
 
@@ -138,22 +144,22 @@ baseline_remedy dir (baseline.Log position number fault) = stream_remedy dir pos
 
 -- ---- any failure
 
--- The remedy for a failure to show logs: empty if none is known. `dir` is the capture directory that the failure is about.
--- `write_error` is the error of the last failed write, if there was one.
-abbrev pub remedy : List ℕ → Option WriteError → List IndexEntry → List (List ℕ) → Failure → List ℕ
-remedy dir write_error index arguments (Words fault) = []
-remedy dir write_error index arguments NamesMissing =
+-- The remedy for a failure to show logs: empty if none is known. `dir` is the capture directory that the failure is about, and `output` the
+-- path of the output. `write_error` is the error of the last failed write, if there was one.
+abbrev pub remedy : List ℕ → List ℕ → Option WriteError → List IndexEntry → List (List ℕ) → Failure → List ℕ
+remedy dir output write_error index arguments (Words fault) = []
+remedy dir output write_error index arguments NamesMissing =
     codes "no file " ++ names_word dir ++ codes "; without --dir DIR, a capture is looked for here, in .redo-log and in capture"
-remedy dir write_error index arguments NamesRead = unreadable_names dir
-remedy dir write_error index arguments (Index fault) = index_remedy dir fault
-remedy dir write_error index arguments (Run (run.Unknown place)) =
+remedy dir output write_error index arguments NamesRead = unreadable_names dir
+remedy dir output write_error index arguments (Index fault) = index_remedy dir fault
+remedy dir output write_error index arguments (Run (run.Unknown place)) =
     unknown_remedy dir (length index) (suggestions (get_or arguments place []) (listed_targets index))
-remedy dir write_error index arguments (Run (run.Stream position fault)) =
+remedy dir output write_error index arguments (Run (run.Stream position fault)) =
     stream_remedy dir position (get_or (numbers_of index) position 0) fault
-remedy dir write_error index arguments (Run run.OutOfMemory) = memory_remedy
-remedy dir write_error index arguments (Run run.Write) = write_remedy write_error
-remedy dir write_error index arguments Memory = memory_remedy
-remedy dir write_error index arguments (Baseline fault) = baseline_remedy dir fault
+remedy dir output write_error index arguments (Run run.OutOfMemory) = memory_remedy
+remedy dir output write_error index arguments (Run run.Write) = write_remedy output write_error
+remedy dir output write_error index arguments Memory = memory_remedy
+remedy dir output write_error index arguments (Baseline fault) = baseline_remedy dir fault
 
 -- A line with this text; nothing without one.
 abbrev pub explanation_line : List ℕ → List ℕ → List ℕ
@@ -162,13 +168,16 @@ explanation_line program (byte ∷ text) = message_line program (byte ∷ text)
 
 -- The explanation of a program for a failure to show logs. `dir` is the capture directory that the failure is about, and `arguments`
 -- request targets of the index.
-abbrev pub explanation_as : List ℕ → List ℕ → Option WriteError → List IndexEntry → List (List ℕ) → Failure → List ℕ
-explanation_as program dir write_error index arguments failure = explanation_line program (remedy dir write_error index arguments failure)
+abbrev pub explanation_as : List ℕ → List ℕ → List ℕ → Option WriteError → List IndexEntry → List (List ℕ) → Failure → List ℕ
+explanation_as program dir output write_error index arguments failure =
+    explanation_line program (remedy dir output write_error index arguments failure)
 
 -- The explanation of an outcome: none if the whole text was written.
-abbrev pub outcome_explanation_as : List ℕ → List ℕ → Option WriteError → List IndexEntry → List (List ℕ) → Result (Unit {0}) Failure → List ℕ
-outcome_explanation_as program dir write_error index arguments (Ok done) = []
-outcome_explanation_as program dir write_error index arguments (Err failure) = explanation_as program dir write_error index arguments failure
+abbrev pub outcome_explanation_as :
+    List ℕ → List ℕ → List ℕ → Option WriteError → List IndexEntry → List (List ℕ) → Result (Unit {0}) Failure → List ℕ
+outcome_explanation_as program dir output write_error index arguments (Ok done) = []
+outcome_explanation_as program dir output write_error index arguments (Err failure) =
+    explanation_as program dir output write_error index arguments failure
 
 -- ---- command-line arguments
 

@@ -6,7 +6,7 @@ ghost use Rattle.std.specs.Prelude.{◌≡◌, ◌≤◌, ◌<◌, ◌++◌, ◌
 ghost use Rattle.std.specs.List.{flat_map};
 ghost use Rattle.std.specs.String.{string_bytes};
 ghost use Rattle.redo_args.specs.Rejection.{rejection};
-ghost use Rattle.redo_command.specs.Explanation.{baseline_remedy, ending_with, explanation_as, explanation_line, fault_explanation_as, file_word, index_remedy, leave_line_out, leave_out, listed, memory_remedy, names_word, open_logs, outcome_explanation_as, quoted_byte, read_remedy, rejection_explanation, remedy, stream_remedy, suggestions, targets_remedy, unknown_remedy, unreadable_log, unreadable_names, arguments_explanation, write_remedy};
+ghost use Rattle.redo_command.specs.Explanation.{baseline_remedy, ending_with, explanation_as, explanation_line, fault_explanation_as, file_word, index_remedy, leave_line_out, leave_out, listed, memory_remedy, names_word, open_logs, outcome_explanation_as, quoted_byte, read_remedy, rejection_explanation, remedy, stream_remedy, suggestions, targets_remedy, unknown_remedy, unreadable_log, unreadable_names, unwritable, arguments_explanation, write_remedy};
 ghost use Rattle.redo_command.specs.Private.Suggested.{after_comma};
 ghost use Rattle.redo_command.specs.Failure.{IfStreamFailure, IfUnknownFailure, IsReportable};
 ghost use Rattle.redo_index.specs.Index.{listed_targets, numbers_of};
@@ -56,6 +56,7 @@ pub fn explain_shown<E: Write>(
     alloc: Global,
     program: &str,
     dir: &str,
+    output: &str,
     shown: &Shown,
     arguments: &[Vec<u8>],
     err: &mut E,
@@ -63,7 +64,7 @@ pub fn explain_shown<E: Write>(
     requires { IfErr shown.now.outcome (IsReportable (length shown.now.index) (length arguments.now)) }
 {
     write_line(
-        outcome_explanation_as(alloc, program, dir, shown, arguments),
+        outcome_explanation_as(alloc, program, dir, output, shown, arguments),
         err,
     );
 }
@@ -134,12 +135,13 @@ pub fn outcome_explanation_as(
     alloc: Global,
     program: &str,
     dir: &str,
+    output: &str,
     shown: &Shown,
     arguments: &[Vec<u8>],
 ) -> Result<Vec<u8>, AllocError>
     requires { IfErr shown.now.outcome (IsReportable (length shown.now.index) (length arguments.now)) }
     ensures { IfOk result (λ line. line.items
-        ≡ outcome_explanation_as program.now dir.now shown.now.write_error shown.now.index (argument_bytes arguments.now)
+        ≡ outcome_explanation_as program.now dir.now output.now shown.now.write_error shown.now.index (argument_bytes arguments.now)
         shown.now.outcome) }
 {
     match &shown.outcome {
@@ -149,6 +151,7 @@ pub fn outcome_explanation_as(
                 alloc,
                 program,
                 dir,
+                output,
                 shown.write_error,
                 failure,
                 &shown.index,
@@ -160,12 +163,13 @@ pub fn outcome_explanation_as(
 
 /// Returns what to do about a failure to show logs: one line, with its line feed, that begins with the program's name.
 /// It says which file `names` is missing, which targets may be meant, how many there are, or which command leaves a damaged
-/// log out. It is empty if no remedy is known. `dir` is the capture directory that the failure is about. The rest is as for
-/// [`crate::fault_line_as`].
+/// log out. It is empty if no remedy is known. `dir` is the capture directory that the failure is about, and `output` the path of
+/// the output. The rest is as for [`crate::fault_line_as`].
 pub fn explanation_as(
     alloc: Global,
     program: &str,
     dir: &str,
+    output: &str,
     write_error: Option<WriteError>,
     failure: &Failure,
     index: &Index,
@@ -174,9 +178,9 @@ pub fn explanation_as(
     requires stream_in_range { IfStreamFailure failure.now (λ number. number < length index.now) }
     requires argument_in_range { IfUnknownFailure failure.now (λ place. place < length arguments.now) }
     ensures { IfOk result (λ line. line.items
-        ≡ explanation_as program.now dir.now write_error index.now (argument_bytes arguments.now) failure.now) }
+        ≡ explanation_as program.now dir.now output.now write_error index.now (argument_bytes arguments.now) failure.now) }
 {
-    let text = remedy(alloc, dir, write_error, failure, index, arguments)?;
+    let text = remedy(alloc, dir, output, write_error, failure, index, arguments)?;
     if text.is_empty() {
         Ok(text)
     } else {
@@ -187,6 +191,7 @@ pub fn explanation_as(
 fn remedy(
     alloc: Global,
     dir: &str,
+    output: &str,
     write_error: Option<WriteError>,
     failure: &Failure,
     index: &Index,
@@ -195,7 +200,7 @@ fn remedy(
     requires stream_in_range { IfStreamFailure failure.now (λ number. number < length index.now) }
     requires argument_in_range { IfUnknownFailure failure.now (λ place. place < length arguments.now) }
     ensures { IfOk result (λ text.
-        text.items ≡ remedy dir.now write_error index.now (argument_bytes arguments.now) failure.now) }
+        text.items ≡ remedy dir.now output.now write_error index.now (argument_bytes arguments.now) failure.now) }
 {
     match *failure {
         Failure::Run(RunFault::Unknown { place }) => {
@@ -215,7 +220,7 @@ fn remedy(
         Failure::NamesRead => unreadable_names(alloc, dir),
         Failure::Index(fault) => index_remedy(alloc, dir, fault),
         Failure::Run(RunFault::OutOfMemory) => memory_remedy(alloc),
-        Failure::Run(RunFault::Write) => { concat(alloc, &[write_remedy(write_error).as_bytes()]) },
+        Failure::Run(RunFault::Write) => write_remedy(alloc, output, write_error),
         Failure::Memory => memory_remedy(alloc),
         Failure::Words(_) => Ok(Vec::new(alloc)),
         Failure::Baseline(fault) => baseline_remedy(alloc, dir, fault),
@@ -276,23 +281,43 @@ fn memory_remedy(alloc: Global) -> Result<Vec<u8>, AllocError>
 }
 
 // Returns what to do if the text wasn't written, from why the last write failed that did.
-fn write_remedy(error: Option<WriteError>) -> &'static str
-    ensures { result.now ≡ write_remedy error }
+fn write_remedy(
+    alloc: Global,
+    output: &str,
+    error: Option<WriteError>,
+) -> Result<Vec<u8>, AllocError>
+    ensures { IfOk result (λ text. text.items ≡ write_remedy output.now error) }
 {
     match error {
-        None =>
-            "the output must be a file in a directory that exists, and you must be allowed to write there",
-        Some(WriteError::NoSpace) => {
-            "no space is left where the output is written; df -h shows how full each disk is"
-        }
-        Some(WriteError::QuotaExceeded) => {
-            "your disk quota is used up where the output is written; quota -s shows it"
-        }
-        Some(WriteError::ClosedPipe) => {
-            "what reads the output ended early; sed -n 1,10p, unlike head, reads all of it"
-        }
-        Some(WriteError::Other) => "",
+        None => unwritable(alloc, output),
+        Some(WriteError::NoSpace) => concat(
+            alloc,
+            &[b"no space is left where the output is written; df -h shows how full each disk is"],
+        ),
+        Some(WriteError::QuotaExceeded) => concat(
+            alloc,
+            &[b"your disk quota is used up where the output is written; quota -s shows it"],
+        ),
+        Some(WriteError::ClosedPipe) => concat(
+            alloc,
+            &[b"what reads the output ended early; sed -n 1,10p, unlike head, reads all of it"],
+        ),
+        Some(WriteError::Other) => Ok(Vec::new(alloc)),
     }
+}
+
+// Returns what to do if the file with this path can't be created or replaced.
+fn unwritable(alloc: Global, output: &str) -> Result<Vec<u8>, AllocError>
+    ensures { IfOk result (λ text. text.items ≡ unwritable output.now) }
+{
+    let mut text = Vec::new(alloc);
+    push(&mut text, b"not writable: '")?;
+    push_quoted(&mut text, output.as_bytes())?;
+    push(
+        &mut text,
+        b"'; it must be a file in a directory that exists, and you must be allowed to write there",
+    )?;
+    Ok(text)
 }
 
 // Returns what to do about a fault of `names`.

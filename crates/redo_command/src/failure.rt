@@ -14,7 +14,7 @@ use thiserror::Error;
 #[derive(Clone, Copy, Debug, PartialEq, Eq, Error)]
 pub enum Failure {
     /// The command-line arguments request no run.
-    #[error("no run is asked for: {0:?}")]
+    #[error("no run is requested: {0:?}")]
     Words(WordsFault),
     /// There is no file `names`.
     #[error("there is no index")]
@@ -23,13 +23,13 @@ pub enum Failure {
     #[error("the index can't be read")]
     NamesRead,
     /// The index is rejected.
-    #[error("the index is refused: {0:?}")]
+    #[error("the index is rejected: {0:?}")]
     Index(IndexFault),
     /// The run did not write the whole text.
     #[error("the run did not write the whole text: {0:?}")]
     Run(RunFault),
     /// An allocation failed before the run began.
-    #[error("there is no memory")]
+    #[error("out of memory")]
     Memory,
     /// The baseline has no logs. All else is in order, but nothing was written.
     #[error("the baseline has no logs: {0:?}")]

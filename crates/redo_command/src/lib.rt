@@ -3,7 +3,7 @@
 //!
 //! A command has a [`Program`], with its command line, and a [`Job`]: what it reads and writes. [`run_program`] does the rest: it reads
 //! the index of a directory by [`find_index`] and writes a text of its logs by [`write_logs`], over [`LogFiles`] and through
-//! [`buffered`], or to a file by [`create_output`]. It ends with [`exit_status`], which reports a [`Failure`], or with
+//! [`buffered`], or to a file by [`create_output`]. It ends with [`text_status`], which reports a [`Failure`], or with
 //! [`print_help`]. [`explain_shown`] and [`explain_fault`] write what to do about a failure.
 //!
 //! Files are opaque, so [`write_job`] is generic over logs and a writer: its contract states the text that is written.

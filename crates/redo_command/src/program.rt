@@ -135,7 +135,15 @@ fn run_arguments<
             let dir = dir_of_outcome(&job, &shown.outcome);
             let status = text_status(alloc, name, dir, &shown, job.targets(), alarm, err);
             if explains {
-                explain_shown(alloc, name, dir, &shown, job.targets(), err);
+                explain_shown(
+                    alloc,
+                    name,
+                    dir,
+                    job.output().unwrap_or(""),
+                    &shown,
+                    job.targets(),
+                    err,
+                );
             }
             status
         }
