@@ -362,6 +362,22 @@ def summaries(checks, at):
     checks.expect("where it can't be", make(folder, "A=0", options=["--summary", "none/sum"]), (1, "", told))
     checks.expect("without a name", make(folder, options=["--summary="])[0::2], (2, "redo-log-capture: --summary: no file given\n"))
 
+    # Files beside it stay, even one that is a link.
+    folder = project(at("beside"), "all: ; @true\n")
+    for name in ("sum.new", "kept", "sum.tmp1"):
+        write(os.path.join(folder, name), "mine\n")
+    os.symlink("kept", os.path.join(folder, "sum.tmp0"))
+    checks.expect("a summary beside others: make", make(folder, options=["--summary", "sum"]), (0, "", ""))
+    path = os.path.join(folder, "sum")
+    checks.expect("a summary beside others", (os.path.islink(path), contents(path).split()[0::3]), (False, ["0", "all"]))
+    left = [CAPTURES, "Makefile", "kept", "sum", "sum.new", "sum.tmp0", "sum.tmp1"]
+    checks.expect("a summary beside others: files", sorted(os.listdir(folder)), left)
+    checks.expect("a summary beside others: what they have", {contents(os.path.join(folder, name)) for name in ("kept", "sum.new", "sum.tmp1")}, {"mine\n"})
+    for number in range(2, 1000):
+        write(os.path.join(folder, f"sum.tmp{number}"), "mine\n")
+    checks.expect("no name is left", make(folder, options=["--summary", "sum"]), (1, "", "redo-log-capture: cannot write sum: File exists\n"))
+    checks.expect("no name is left: files", len(os.listdir(folder)), len(left) + 998)
+
 
 class Watched:
     """A build with --progress=1, and the lines that it has printed."""
