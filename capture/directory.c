@@ -152,19 +152,21 @@ static int lock_directory(void) {
   return -1;
 }
 
-/* Returns the process that has the lock, or -1 if this one has it. Other runs aren't noticed if the file system has no locks. */
-static int acquire_lock(void) {
-  char owner[32] = "", *line = xasprintf("%d\n", (int)getpid());
+/* Returns whether another process has the lock, and sets its number; 0 if it hasn't written that yet. Other runs aren't noticed if the
+   file system has no locks. */
+static int acquire_lock(int *owner) {
+  char number[32] = "", *line = xasprintf("%d\n", (int)getpid());
   int is_locked = lock_directory();
   lock_error = errno;
   if (is_locked == 1) {
-    ssize_t size = pread(lock_fd, owner, sizeof owner - 1, 0);
-    owner[size > 0 ? size : 0] = 0;
+    ssize_t size = pread(lock_fd, number, sizeof number - 1, 0);
+    number[size > 0 ? size : 0] = 0;
   } else if (is_locked == 0 && (ftruncate(lock_fd, 0) < 0 || write_all(lock_fd, line, strlen(line)) < 0)) {
     failed_writes++; /* another run can't report which process has the lock */
   }
   free(line);
-  return is_locked == 1 ? atoi(owner) : -1;
+  *owner = atoi(number);
+  return is_locked == 1;
 }
 
 void close_directory(void) {
@@ -205,18 +207,19 @@ int open_directory(void) {
   struct stat found;
   if (state != CLOSED) return state == OPEN ? 0 : -1;
   int is_new = stat(directory_name, &found) < 0;
-  int error = make_directories(), owner = 0;
+  int error = make_directories(), owner, is_locked = 0;
   if (!error || error == EEXIST) error = open_directories();
   if (!error && is_new) ignore_directory();
-  if (!error) owner = acquire_lock(), error = lock_fd < 0 ? lock_error : 0;
+  if (!error) is_locked = acquire_lock(&owner), error = lock_fd < 0 ? lock_error : 0;
   if (error == ENOENT) { /* somebody is removing the directory: the next line tries again */
     close_directory();
     return -1;
   }
   if (error && directory_fd < 0) warn("cannot write %s: %s", directory_path, strerror(error)), failed_writes++;
   if (error && directory_fd >= 0) errno = error, report_write_error(state_fd < 0 ? ".capture" : ".capture/lock");
-  if (owner > 0) warn("%s is in use by another build, process %d: this build is not captured", directory_name, owner);
-  if (owner >= 0 || error) return give_up_directory();
+  if (is_locked && owner > 0) warn("%s is in use by another build, process %d: this build is not captured", directory_name, owner);
+  if (is_locked && owner <= 0) warn("%s is in use by another build: this build is not captured", directory_name);
+  if (is_locked || error) return give_up_directory();
   state = OPEN;
   if (begin_run() == 0) return 0;
   check_removal();
@@ -233,8 +236,9 @@ void open_interrupted_run(void) {
   if (stat(state_directory, &found) < 0 || open_directories() || read_journal_state() == NO_JOURNAL)
     die(1, "%s: nothing was captured there", directory_name);
   free(state_directory);
-  int owner = acquire_lock();
-  if (owner > 0) die(1, "%s is in use by another build, process %d", directory_name, owner);
+  int owner, is_locked = acquire_lock(&owner);
+  if (is_locked && owner > 0) die(1, "%s is in use by another build, process %d", directory_name, owner);
+  if (is_locked) die(1, "%s is in use by another build", directory_name);
   if (lock_fd < 0) die(1, "cannot write %s/%s: %s", directory_name, ".capture/lock", strerror(lock_error));
   state = OPEN;
   run_target = add_target("all");

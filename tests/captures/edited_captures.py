@@ -1,5 +1,6 @@
 """Capture directories that somebody changed by hand, between two builds or during one. The build runs as without a capture, and
 the captures are right, or one line names their fault."""
+import fcntl
 import os
 import re
 import shutil
@@ -214,6 +215,23 @@ def refused(checks, at):
         before = sorted(os.walk(folder))
         checks.expect(f"{what}: make", built(folder, ["timeout", "30", TOOL], "N=2"), ((1, "", []), [told]))
         checks.expect(f"{what}: what is there", sorted(os.walk(folder)), before)
+
+
+def locked_without_number(checks, at):
+    """Another process has just locked the directory, and hasn't written its number yet."""
+    folder = placed(at("locked"))
+    make(folder, "-s", "N=1")
+    write(f"{folder}/{CAPTURES}/.capture/run", "running 1\n")
+    before = sorted((name, read(f"{folder}/{CAPTURES}/{name}")) for name in os.listdir(f"{folder}/{CAPTURES}") if name != ".capture")
+    with open(f"{folder}/{CAPTURES}/.capture/lock", "w", encoding="utf-8") as lock:
+        fcntl.flock(lock, fcntl.LOCK_EX)
+        told = f"{CAPTURES} is in use by another build"
+        checks.expect("locked, without a number: finished", ran(folder, [TOOL, "--finish"]), (1, "", f"redo-log-capture: {told}\n"))
+        (status, out, _), reports = built(folder, [TOOL], "N=2")
+        checks.expect("locked, without a number: make", (status, out, reports), (0, "made\n", [f"{told}: this build is not captured"]))
+    checks.expect("locked, without a number: the journal", read(f"{folder}/{CAPTURES}/.capture/run"), "running 1\n")
+    after = sorted((name, read(f"{folder}/{CAPTURES}/{name}")) for name in os.listdir(f"{folder}/{CAPTURES}") if name != ".capture")
+    checks.expect("locked, without a number: the captures", after, before)
 
 
 # The recipes that change something wait until their logs have what they have printed: make doesn't wait for redo-log-capture.
@@ -577,6 +595,6 @@ def moved(checks, at):
 
 
 PARTS = (
-    between_builds, refused, in_the_middle, many_needs, folders_for_logs, removed_at_any_time, removed_by_later_lines,
+    between_builds, refused, locked_without_number, in_the_middle, many_needs, folders_for_logs, removed_at_any_time, removed_by_later_lines,
     removed_beside_others, links_before, links_meanwhile, links_at_the_end, moved,
 )  # fmt: skip
