@@ -123,14 +123,16 @@ static void parse_target_event(const char *line) {
   int name = 0;
   int64_t time;
   if (sscanf(line, "target %u %" SCNd64 " %u%n", &number, &time, &parent, &name) != 3 || line[name] != ' ' || !line[++name]) return;
-  if (number == 0 || number > MAX_LOGS) return;
+  const char *listed_name = normalize_listed_name(line + name);
+  if (number == 0 || number > MAX_LOGS || (number == 1) != (strcmp(listed_name, run_target->name) == 0)) return;
+  if (journal_target(number) && strcmp(listed_name, journal_target(number)->name) != 0) return;
   if (number >= journal_target_capacity) {
     unsigned capacity = 2 * number + 16;
     journal_targets = xrealloc(journal_targets, capacity * sizeof *journal_targets);
     memset(journal_targets + journal_target_capacity, 0, (capacity - journal_target_capacity) * sizeof *journal_targets);
     journal_target_capacity = capacity;
   }
-  struct target *target = journal_targets[number] = add_target(line + name);
+  struct target *target = journal_targets[number] = add_target(listed_name);
   target->number = number, target->is_closed = 0;
   target->run = (struct target_run){.has_begun = 1, .parent = journal_target(parent), .start_time = time, .status = -1};
   add_making(target, log_parent(target, target->run.parent), NULL, time);
@@ -144,6 +146,8 @@ static struct making *journal_making(struct target *target, unsigned parent, int
   return making ? making : add_making(target, found, NULL, time);
 }
 
+static int is_status(int number) { return number >= 0 && number <= 255; }
+
 static void parse_event(const char *line) {
   unsigned number, parent;
   int process, status;
@@ -153,16 +157,17 @@ static void parse_event(const char *line) {
   if (sscanf(line, "%*s %u", &number) != 1) return;
   struct target *target = number == 1 && !journal_target(1) ? run_target : journal_target(number);
   if (!target) return;
-  if (sscanf(line, "start %u %d %lld", &number, &process, &end) == 3) target->run.process = process, target->log.header_size = end;
+  if (sscanf(line, "start %u %d %lld", &number, &process, &end) == 3 && process >= 0 && end >= 0)
+    target->run.process = process, target->log.header_size = end;
   if (sscanf(line, "made %u %u %" SCNd64, &number, &parent, &time) == 3) journal_making(target, parent, time);
   if (sscanf(line, "needed %u %u", &number, &parent) == 2) journal_making(target, parent, target->run.start_time)->is_mentioned = 1;
-  if (sscanf(line, "line %u %d %u", &number, &process, &parent) == 3) {
+  if (sscanf(line, "line %u %d %u", &number, &process, &parent) == 3 && process >= 0) {
     target->run.process = process, target->run.status = -1;
     journal_making(target, parent, target->run.start_time)->status = -1;
   }
-  if (sscanf(line, "ended %u %d %" SCNd64 " %d", &number, &process, &time, &status) == 4)
+  if (sscanf(line, "ended %u %d %" SCNd64 " %d", &number, &process, &time, &status) == 4 && process >= 0 && is_status(status))
     target->run.process = target->run.end_process = process, target->run.end_time = time, target->run.status = status;
-  if (sscanf(line, "did %u %u %" SCNd64 " %d", &number, &parent, &time, &status) == 4)
+  if (sscanf(line, "did %u %u %" SCNd64 " %d", &number, &parent, &time, &status) == 4 && is_status(status))
     end_making(journal_making(target, parent, time), time, status);
   if (sscanf(line, "mention %u %lld %lld", &number, &start, &end) == 3 && start >= 0 && end > start)
     add_mention(&target->log, start, end);

@@ -280,6 +280,17 @@ MEANWHILE = {
 }
 
 
+def killed(folder):
+    """A build that is killed after x was made, while the recipe of y runs."""
+    project(folder, "all: x y\nx: ; @echo x >&2\ny: ; @echo y >&2; touch begun; exec sleep 60\n")
+    build = subprocess.Popen([TOOL, "make", "-s"], cwd=folder, env=environment(), stderr=subprocess.DEVNULL, preexec_fn=of_a_terminal)
+    wait_for(os.path.join(folder, "begun"))
+    wait_until_recorded(build, "y has spoken", lambda: text_of(folder, "y") == "y\n")
+    os.killpg(build.pid, signal.SIGKILL)
+    build.wait()
+    return folder
+
+
 def in_the_middle(checks, at):
     """A build during which the captures are changed, and another build after it."""
     for what, (command, *rows) in MEANWHILE.items():
@@ -304,15 +315,38 @@ def in_the_middle(checks, at):
     told = ["all (exit 3)", left_out(2), "1 target failed: redo-log all", "show all logs: redo-log -r all"]
     checks.expect("one that fails", built(folder, [TOOL])[1], told)
 
-    folder = project(at("killed"), "all: x y\nx: ; @echo x >&2\ny: ; @echo y >&2; touch begun; exec sleep 60\n")
-    build = subprocess.Popen([TOOL, "make", "-s"], cwd=folder, env=environment(), stderr=subprocess.DEVNULL, preexec_fn=of_a_terminal)
-    wait_for(os.path.join(folder, "begun"))
-    wait_until_recorded(build, "y has spoken", lambda: text_of(folder, "y") == "y\n")
-    os.killpg(build.pid, signal.SIGKILL)
-    build.wait()
+    folder = killed(at("killed"))
     write(f"{folder}/{CAPTURES}/names", "1 all\n")
     checks.expect("a build that was killed, finished", (ran(folder, [TOOL, "--finish"]), read(f"{folder}/{CAPTURES}/names")), ((0, "", ""), "1 all\n2 x\n3 y\n"))
     checks.expect("it is shown", shown(folder, "all"), "redo  all\nredo    x\nx\nredo    y\ny\n")
+
+
+# Lines after which a log would have records that are none, or be read beyond its ends; or `names` would be damaged.
+DAMAGE = (
+    "start 2 77 -5\nmention 2 0 1", "start 2 77 9223372036854775807\nmention 2 0 1", "line 2 -5 0",
+    "mention 2 -1 5", "mention 2 5 5", "mention 2 1 9223372036854775807", "mention 2 9223372036854775806 9223372036854775807",
+    "ended 2 -5 5 0", "ended 2 5 5 -5", "ended 2 5 5 256", "did 2 0 5 -5", "did 2 0 5 256", "target 0 5 0 z", "target 1048576 5 0 z",
+    "target 4294967297 5 0 z", "target 1 5 0 z", "target 2 5 0 z", "target 5 5 0 all", "target 4 5 0 ", "start 4294967298x", "x" * 100000,
+)  # fmt: skip
+
+
+def damaged_journals(checks, at):
+    """A build that was killed is finished as if damaged lines of its journal weren't there."""
+    original = killed(at("killed"))
+
+    def finished(what, damage):
+        folder = at(what)
+        shutil.copytree(original, folder)
+        adding(".capture/run", damage)(f"{folder}/{CAPTURES}")
+        told = ran(folder, [TOOL, "--finish", *MARKING])
+        logs = [read(f"{folder}/{CAPTURES}/log.{number}") for number in (1, 2, 3)]
+        logs[0] = re.sub(r"^(@@REDO:\w+):\d+:", r"\1:", logs[0], flags=re.M)  # the processes of --finish
+        return told, read(f"{folder}/{CAPTURES}/names"), sorted(os.listdir(f"{folder}/{CAPTURES}")), logs
+
+    wanted = finished("intact", "")
+    checks.expect("an intact journal", wanted[:2], ((0, "", ""), "1 all\n!2 x\n3 y\n"))
+    for number, lines in enumerate(DAMAGE):
+        checks.expect(f"a damaged journal: {lines[:60]!r}", finished(str(number), f"{lines}\n"), wanted)
 
 
 def many_needs(checks, at):
@@ -545,17 +579,12 @@ def links_meanwhile(checks, at):
 
 def links_at_the_end(checks, at):
     """Links to files elsewhere, where the logs of a build that was killed are finished. Nothing elsewhere is read or written."""
-    killed = project(at("killed"), "all: x y\nx: ; @echo x >&2\ny: ; @echo y >&2; touch begun; exec sleep 60\n")
-    build = subprocess.Popen([TOOL, "make", "-s"], cwd=killed, env=environment(), stderr=subprocess.DEVNULL, preexec_fn=of_a_terminal)
-    wait_for(os.path.join(killed, "begun"))
-    wait_until_recorded(build, "y has spoken", lambda: text_of(killed, "y") == "y\n")
-    os.killpg(build.pid, signal.SIGKILL)
-    build.wait()
+    original = killed(at("killed"))
     rows = LINKS + [(path, kind) for path in ("log.1", "log.2") for kind in ("to a file", "to nothing", "hard")] + [(path, "hard") for path in ("names", *KEPT)]
     for path, kind in rows:
         what = f"{path} a link {kind}, finished"
         folder, victim = at(what), at(what) + ".victim"
-        shutil.copytree(killed, folder)
+        shutil.copytree(original, folder)
         linked(path, victim, kind)(f"{folder}/{CAPTURES}")
         before = bytes_below(victim)
         status, out, told = ran(folder, [TOOL, "--finish", *MARKING])
@@ -595,6 +624,6 @@ def moved(checks, at):
 
 
 PARTS = (
-    between_builds, refused, locked_without_number, in_the_middle, many_needs, folders_for_logs, removed_at_any_time, removed_by_later_lines,
+    between_builds, refused, locked_without_number, in_the_middle, damaged_journals, many_needs, folders_for_logs, removed_at_any_time, removed_by_later_lines,
     removed_beside_others, links_before, links_meanwhile, links_at_the_end, moved,
 )  # fmt: skip
