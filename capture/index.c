@@ -180,7 +180,11 @@ int write_index(int with_flags) {
   return error;
 }
 
-struct target *find_listed_target(unsigned long number) { return number < number_capacity ? targets_by_number[number] : NULL; }
+/* A target that got another number may still have its old slot. */
+struct target *find_listed_target(unsigned long number) {
+  struct target *target = number < number_capacity ? targets_by_number[number] : NULL;
+  return target && target->number == number ? target : NULL;
+}
 
 void close_index(void) {
   close_index_fd();

@@ -349,6 +349,18 @@ def damaged_journals(checks, at):
         checks.expect(f"a damaged journal: {lines[:60]!r}", finished(str(number), f"{lines}\n"), wanted)
 
 
+def other_numbers(checks, at):
+    """While a build runs, targets get numbers in `names` that are higher than those of all logs, and `facts` has lines of these."""
+    original = killed(at("killed"))
+    for names in ("1 all\n1048575 x\n3 y\n", "1048575 all\n2 x\n3 y\n"):
+        folder = at(names.replace("\n", ","))
+        shutil.copytree(original, folder)
+        write(f"{folder}/{CAPTURES}/names", names)
+        adding("facts", "1048575 log x\n1048575 log all\n1048575 directory /\n")(f"{folder}/{CAPTURES}")
+        told = ran(folder, [TOOL, "--finish"]), sorted(read(f"{folder}/{CAPTURES}/names").splitlines())
+        checks.expect(f"other numbers: {names!r}", told, ((0, "", ""), ["1 all", "2 x", "3 y"]))
+
+
 def many_needs(checks, at):
     """A recipe with many prerequisites, whose first line removes the directory."""
     names = " ".join(f"n{number}" for number in range(40))
@@ -624,6 +636,6 @@ def moved(checks, at):
 
 
 PARTS = (
-    between_builds, refused, locked_without_number, in_the_middle, damaged_journals, many_needs, folders_for_logs, removed_at_any_time, removed_by_later_lines,
-    removed_beside_others, links_before, links_meanwhile, links_at_the_end, moved,
+    between_builds, refused, locked_without_number, in_the_middle, damaged_journals, other_numbers, many_needs, folders_for_logs,
+    removed_at_any_time, removed_by_later_lines, removed_beside_others, links_before, links_meanwhile, links_at_the_end, moved,
 )  # fmt: skip
