@@ -111,6 +111,12 @@ static _Noreturn void exec_child(char **words, pid_t parent, int failure) {
   _exit(127);
 }
 
+/* What the witness is asked. It replies with the same structure. If it replies too late, the next reply is recognized by its number. */
+struct query {
+  unsigned number;
+  int kind, is_pending; /* is_pending: set by the witness */
+};
+
 /* Runs in the witness, a helper process of the same process group. A signal that it gets too was sent to the whole group. A signal
    to the server alone must be forwarded. The witness blocks all signals, and replies whether a given one is pending. */
 static _Noreturn void run_witness(pid_t parent, int socket) {
@@ -123,11 +129,11 @@ static _Noreturn void run_witness(pid_t parent, int socket) {
   if (getppid() != parent) _exit(0);
   for (int file = 0; file < 64; file++)
     if (file != socket) close(file);
-  for (char kind; read(socket, &kind, 1) == 1;) {
+  for (struct query query; read(socket, &query, sizeof query) == sizeof query;) {
     sigemptyset(&one);
-    sigaddset(&one, kind);
-    kind = sigtimedwait(&one, NULL, &moment) > 0;
-    if (write(socket, &kind, 1) < 0) break;
+    sigaddset(&one, query.kind);
+    query.is_pending = sigtimedwait(&one, NULL, &moment) > 0;
+    if (write(socket, &query, sizeof query) < 0) break;
   }
   _exit(0);
 }
@@ -137,7 +143,7 @@ static void start_witness(void) {
   int sockets[2];
   pid_t parent = getpid();
   if (getrlimit(RLIMIT_NPROC, &processes) == 0 && processes.rlim_cur < MIN_PROCESSES) return;
-  if (socketpair(AF_UNIX, SOCK_STREAM | SOCK_CLOEXEC, 0, sockets) < 0) return;
+  if (socketpair(AF_UNIX, SOCK_SEQPACKET | SOCK_CLOEXEC, 0, sockets) < 0) return;
   witness_pid = fork();
   if (witness_pid == 0) run_witness(parent, sockets[1]);
   close(sockets[1]);
@@ -196,11 +202,13 @@ int run_program(char **words, int *end_signal) {
 
 /* Whether the whole group got this signal, including the command. */
 static int is_group_signal(const struct signalfd_siginfo *info) {
-  char kind = info->ssi_signo, reply = 0;
+  static unsigned count;
+  struct query query = {++count, info->ssi_signo, 0}, reply = {0, 0, 0};
   struct pollfd ready = {witness_socket, POLLIN, 0};
-  int is_asked = witness_pid > 0 && send(witness_socket, &kind, 1, MSG_NOSIGNAL) == 1;
-  if (is_asked && (poll(&ready, 1, REPLY_MS) <= 0 || read(witness_socket, &reply, 1) != 1)) reply = 0;
-  return reply || info->ssi_code == SI_KERNEL; /* sent by a terminal */
+  int waits = witness_pid > 0 && send(witness_socket, &query, sizeof query, MSG_NOSIGNAL | MSG_DONTWAIT) == sizeof query;
+  while (waits && reply.number != count)
+    waits = poll(&ready, 1, REPLY_MS) > 0 && read(witness_socket, &reply, sizeof reply) == sizeof reply;
+  return (waits && reply.is_pending) || info->ssi_code == SI_KERNEL; /* sent by a terminal */
 }
 
 static void handle_signal(const struct signalfd_siginfo *info) {

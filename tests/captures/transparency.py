@@ -6,8 +6,8 @@ import signal
 import subprocess
 import sys
 
-from builds import TOOL, lines_of_others, log_of, make, of_a_terminal, project, ran, said, shown, text_of, wait_for, wait_until, wait_until_recorded, without_printed, write
-from checks import CAPTURES, TOP, environment
+from builds import MOST_SECONDS, TOOL, lines_of_others, log_of, make, of_a_terminal, project, ran, said, shown, text_of, wait_for, wait_until, wait_until_recorded, without_printed, write
+from checks import CAPTURES, TOP, contents, environment
 
 OPENED = {
     "sh": "echo x >/dev/stderr",
@@ -67,6 +67,40 @@ def killed_by_signals(checks, at):
     os.chmod(os.path.join(folder, "gen"), 0o755)
     outcome(folder, [TOOL, "make"])
     checks.expect("the status in the log", log_of(folder, "all").endswith(" 139 all\n"), True)
+
+
+# Notes the signals that it gets, up to TERM.
+RECORDER = """import signal
+kinds = {signal.SIGUSR1, signal.SIGUSR2, signal.SIGTERM}
+signal.pthread_sigmask(signal.SIG_BLOCK, kinds)
+with open("got", "w", buffering=1) as got:
+    kind = None
+    while kind != signal.SIGTERM:
+        kind = signal.Signals(signal.sigwait(kinds))
+        print(kind.name, file=got)
+"""
+
+
+def late_witness(checks, at):
+    """The process that says whether the group got a signal, too, is stopped and replies too late. Its reply isn't taken for the next one."""
+    folder = project(at("late"), "")
+    write(os.path.join(folder, "recorder.py"), RECORDER)
+    command = [TOOL, sys.executable, "-SE", "recorder.py"]
+    build = subprocess.Popen(command, cwd=folder, env=environment(), stderr=subprocess.DEVNULL, preexec_fn=of_a_terminal)
+    find = ["pgrep", "-P", str(build.pid), "-x", "capture-group"]
+    wait_for(os.path.join(folder, "got"))
+    wait_until("the witness runs", lambda: subprocess.run(find, stdout=subprocess.DEVNULL).returncode == 0)
+    witness = int(subprocess.run(find, stdout=subprocess.PIPE, check=True).stdout)
+    os.kill(witness, signal.SIGSTOP)
+    wait_until("the witness is stopped", lambda: contents(f"/proc/{witness}/stat").rsplit(")", 1)[1].split()[0] == "T")
+    os.kill(witness, signal.SIGUSR1)
+    os.kill(build.pid, signal.SIGUSR1)
+    wait_until("the first signal is forwarded", lambda: contents(os.path.join(folder, "got")) == "SIGUSR1\n")
+    os.kill(witness, signal.SIGCONT)
+    for kind in (signal.SIGUSR2, signal.SIGTERM):
+        os.kill(build.pid, kind)
+    checks.expect("a late witness: status", build.wait(timeout=MOST_SECONDS), 0)
+    checks.expect("a late witness: signals", contents(os.path.join(folder, "got")).split(), ["SIGUSR1", "SIGUSR2", "SIGTERM"])
 
 
 def as_make_starts_them(checks, at):
@@ -334,4 +368,4 @@ def no_leftovers(checks, at):
         checks.expect(f"TMPDIR={place}", ran(folder, [TOOL, "make", "E=1"], {"TMPDIR": place})[2].startswith(told), True)
 
 
-PARTS = (opened_anew, killed_by_signals, as_make_starts_them, many_needs, surroundings, flags_of_the_shell, makes_anything, behind_the_build, in_mid_line, much_is_said, sent_elsewhere, removed, no_leftovers)
+PARTS = (opened_anew, killed_by_signals, late_witness, as_make_starts_them, many_needs, surroundings, flags_of_the_shell, makes_anything, behind_the_build, in_mid_line, much_is_said, sent_elsewhere, removed, no_leftovers)
