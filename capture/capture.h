@@ -574,6 +574,8 @@ _Noreturn void exec_command(char **command);
 /* Once the command has ended, runs a program with these words, and waits for it. A signal that asks this process to end is passed on,
    and stored in `*end_signal`. Returns the wait status, or -1 with errno if the program can't be run. */
 int run_program(char **words, int *end_signal);
+/* Whether a path is a file that can be executed. */
+int is_program(const char *path);
 /* Returns the path of a program in one of the directories of PATH, or NULL. */
 char *find_in_path(const char *name);
 _Noreturn void die_cannot_run(const char *command, int error);

@@ -14,6 +14,7 @@
 #include <sys/resource.h>
 #include <sys/signalfd.h>
 #include <sys/socket.h>
+#include <sys/stat.h>
 #include <sys/wait.h>
 #include <unistd.h>
 
@@ -81,12 +82,20 @@ void die_cannot_run(const char *name, int error) {
   die(error == ENOENT ? 127 : 126, "%s: %s", name, error == ENOENT ? "not found" : strerror(error));
 }
 
+int is_program(const char *path) {
+  struct stat found;
+  return stat(path, &found) == 0 && S_ISREG(found.st_mode) && access(path, X_OK) == 0;
+}
+
+/* An empty part of PATH is the current directory. */
 char *find_in_path(const char *name) {
-  const char *path = getenv("PATH");
-  for (const char *part = path ? path : ""; *part; part += strcspn(part, ":"), part += *part == ':') {
-    char *candidate = xasprintf("%.*s/%s", (int)strcspn(part, ":"), part, name);
-    if (access(candidate, X_OK) == 0) return candidate;
+  const char *part = getenv("PATH");
+  while (part) {
+    size_t size = strcspn(part, ":");
+    char *candidate = xasprintf("%.*s/%s", size ? (int)size : 1, size ? part : ".", name);
+    if (is_program(candidate)) return candidate;
     free(candidate);
+    part = part[size] ? part + size + 1 : NULL;
   }
   return NULL;
 }

@@ -5,7 +5,6 @@
 #include <stdlib.h>
 #include <string.h>
 #include <sys/wait.h>
-#include <unistd.h>
 
 struct export exports[EXPORT_COUNT] = {
     {.option = "--html", .kind = "page", .program = "redo-log-html"},
@@ -20,7 +19,7 @@ static char *find_program(const char *name) {
   char *own_path = program_path();
   char *beside = xasprintf("%.*s%s", (int)(base_name(own_path) - own_path), own_path, name);
   free(own_path);
-  return access(beside, X_OK) == 0 ? beside : find_in_path(name);
+  return is_program(beside) ? beside : find_in_path(name);
 }
 
 /* Once the build has ended, there may be no memory for the words. */

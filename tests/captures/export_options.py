@@ -58,6 +58,10 @@ def path_with(folder):
     return folder + ":" + os.environ["PATH"]
 
 
+def path_without(program):
+    return ":".join(place for place in os.environ["PATH"].split(":") if not os.path.exists(os.path.join(place, program)))
+
+
 def contents(folder, name):
     with open(os.path.join(folder, name), encoding="utf-8") as file:
         return file.read()
@@ -171,9 +175,10 @@ def refused(checks, at, export):
         (["--json", "link/x", "--html", "sub/x", "make"], 2, "--json: --html writes this file, too: link/x"),
     ):
         checks.expect(f"refused: {words}", ran(folder, [TOOL, *words], more), (status, "", f"redo-log-capture: {text}\n"))
-    without = ":".join(place for place in os.environ["PATH"].split(":") if not os.path.exists(os.path.join(place, program)))
-    told = ran(folder, [TOOL, option, "x", "make"], {"PATH": without})
-    checks.expect(f"no {program}", told, (1, "", f"redo-log-capture: {option} needs {program}, which isn't found\n"))
+    os.makedirs(os.path.join(at("other"), program))
+    for path in (path_without(program), at("other") + ":" + path_without(program)):
+        told = ran(folder, [TOOL, option, "x", "make"], {"PATH": path})
+        checks.expect(f"no {program}", told, (1, "", f"redo-log-capture: {option} needs {program}, which isn't found\n"))
     checks.expect("nothing was made", sorted(os.listdir(folder)), ["Makefile", "link", "sub"])
 
 
@@ -216,6 +221,19 @@ def beside(checks, at, export):
     more = {"PATH": path_with(programs(at("programs")))}
     told = ran(folder, [at("prefix/bin/redo-log-capture"), "--quiet", export.option, "x", "make"], more)
     checks.expect(f"{export.program} beside", (told, contents(folder, "written")), ((0, "", ""), "beside\n"))
+
+
+@of_each
+def in_path(checks, at, export):
+    """The program is found in PATH, where an empty part is the current directory. A directory of its name isn't taken for it."""
+    shutil.copytree(PREFIX, at("prefix"))
+    os.mkdir(at(f"prefix/bin/{export.program}"))
+    os.makedirs(os.path.join(at("other"), export.program))
+    folder = programs(project(at("build"), "all: ; @echo x >&2\n"))
+    usual = path_without(export.program)
+    for path in (f":{usual}", f"{usual}:", f"{at('other')}::{usual}"):
+        told = ran(folder, [at("prefix/bin/redo-log-capture"), "--quiet", export.option, "x", "make"], {"PATH": path, "READ": "Makefile"})
+        checks.expect(f"{export.program} in PATH={path}", told, (0, f"{export.program}\n", ""))
 
 
 @contextlib.contextmanager
@@ -328,6 +346,6 @@ def real_files(checks, at):
     checks.expect("the files of the build before", [contents(folder, export.file) for export in EXPORTS], files)
 
 
-PARTS = (arguments, together, nothing_captured, refused, other_encodings, beside, signals, given_up, real_files)
+PARTS = (arguments, together, nothing_captured, refused, other_encodings, beside, in_path, signals, given_up, real_files)
 # Memory is refused by a preloaded library.
 WITHOUT_SANITIZERS = (out_of_memory,)
