@@ -201,7 +201,10 @@ static void check_exports(void) {
 
 int main(int count, char **arguments) {
   reserve_standard_fds();
-  if (count > 2 && strcmp(arguments[1], "--recipe") == 0) launch(arguments + 2);
+  if (count > 1 && strcmp(arguments[1], "--recipe") == 0) {
+    if (count == 2) die(2, "--recipe: no command given");
+    launch(arguments + 2);
+  }
   set_base_dir();
   char **command = parse_options(arguments + 1);
   if (!*directory) die(2, "--dir: no directory given");
