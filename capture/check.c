@@ -35,7 +35,8 @@ static void check_file(const char *name, int mode) {
   char *path = xasprintf("%s/%s", directory_name, name);
   check_link(path);
   if (lstat(path, &found) < 0 && (errno == ENOENT || errno == ENOTDIR)) return;
-  if (faccessat(AT_FDCWD, path, mode, AT_EACCESS) < 0) die(1, "cannot write %s: %s", path, strerror(errno));
+  if ((mode & R_OK) && faccessat(AT_FDCWD, path, R_OK, AT_EACCESS) < 0) die(1, "cannot read %s: %s", path, strerror(errno));
+  if ((mode & W_OK) && faccessat(AT_FDCWD, path, W_OK, AT_EACCESS) < 0) die(1, "cannot write %s: %s", path, strerror(errno));
   if (!S_ISREG(found.st_mode)) die(1, "%s is not a regular file", path);
   free(path);
 }

@@ -482,12 +482,14 @@ def refused_directories(checks, at):
     os.makedirs(os.path.join(folder, "locked/old/.capture"))
     os.chmod(os.path.join(folder, "locked/old"), 0o555)
     os.chmod(os.path.join(folder, "locked"), 0o555)
-    kept = {f"open/{number}": name for number, name in enumerate(("names", ".capture/lock"))}
-    for directory, name in kept.items():
+    modes = {0o444: "write", 0o222: "read"}
+    files = [("names", 0o444), ("names", 0o222), (".capture/lock", 0o444), (".capture/lock", 0o222), (".capture/run", 0o222)]
+    kept = [(f"open/{number}", *file) for number, file in enumerate(files)]
+    for directory, name, mode in kept:
         os.makedirs(os.path.join(folder, directory, ".capture"))
         write(os.path.join(folder, directory, name), "1 all\n")
-        os.chmod(os.path.join(folder, directory, name), 0o444)
-    for path in ("open", *kept, *(f"{directory}/.capture" for directory in kept)):
+        os.chmod(os.path.join(folder, directory, name), mode)
+    for path in ("open", *(f"{directory}{below}" for directory, _, _ in kept for below in ("", "/.capture"))):
         os.chmod(os.path.join(folder, path), 0o777)
     os.chmod(PREFIX, 0o755)
     nobody = (lambda: os.setuid(65534)) if os.getuid() == 0 else None
@@ -499,8 +501,9 @@ def refused_directories(checks, at):
 
     for directory in ("locked/new", "locked/old", "locked/new/deep"):
         checks.expect(f"no leave to write {directory}", answer(directory), (1, text(directory, "Permission denied")))
-    for directory, name in kept.items():
-        checks.expect(f"no leave to write {name}", answer(directory), (1, text(f"{directory}/{name}", "Permission denied")))
+    for directory, name, mode in kept:
+        told = f"redo-log-capture: cannot {modes[mode]} {directory}/{name}: Permission denied\n"
+        checks.expect(f"no leave to {modes[mode]} {name}", answer(directory), (1, told))
     checks.expect("nothing was made", os.path.exists(os.path.join(folder, "open/made")), False)
     checks.expect("leave to write another one", (answer("open/new"), os.path.exists(os.path.join(folder, "open/made"))), ((0, ""), True))
 
