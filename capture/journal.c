@@ -21,6 +21,7 @@
 #include <inttypes.h>
 #include <stdlib.h>
 #include <string.h>
+#include <sys/stat.h>
 #include <unistd.h>
 
 static int journal_fd = -1;
@@ -54,9 +55,14 @@ void close_journal(void) {
   clear_buffer(&events);
 }
 
+/* Writes all lines or none, because the next line would continue a part of one. */
 static int append_events(const char *lines, size_t size) {
-  if (size == 0 || journal_fd < 0 || write_all(journal_fd, lines, size) == 0) return 0;
+  struct stat found;
+  if (size == 0 || journal_fd < 0) return 0;
+  int is_known = fstat(journal_fd, &found) == 0;
+  if (write_all(journal_fd, lines, size) == 0) return 0;
   report_write_error(".capture/run");
+  if (is_known && ftruncate(journal_fd, found.st_size) < 0) report_write_error(".capture/run");
   return -1;
 }
 

@@ -1,6 +1,7 @@
 /* Preloaded into a build. Before redo-log-capture changes a file for the n-th time, this library kills the whole process group, or
-   makes every later write fail as if no space were left, or removes a directory. The environment has n in BREAK_AT, a file that
-   counts in BREAK_COUNT, whether no space is left in BREAK_FULL, and the directory in BREAK_REMOVE. */
+   makes every later write fail as if no space were left, or only the second half of this one, or removes a directory. The environment
+   has n in BREAK_AT, a file that counts in BREAK_COUNT, whether no space is left in BREAK_FULL, whether that holds for one write
+   in BREAK_TORN, and the directory in BREAK_REMOVE. */
 #define _GNU_SOURCE
 #include <dlfcn.h>
 #include <errno.h>
@@ -56,7 +57,9 @@ static int is_file(int file) {
 }
 
 ssize_t write(int file, const void *bytes, size_t size) {
+    static int parts; /* of the write that is torn */
     if (!is_capture || !is_file(file) || !is_over()) return real_write(file, bytes, size);
+    if (getenv("BREAK_TORN") != NULL && ++parts != 2) return real_write(file, bytes, parts == 1 ? size / 2 : size);
     errno = ENOSPC;
     return -1;
 }

@@ -236,10 +236,10 @@ class Breaking:
         write(os.path.join(copied(self.original, self.at(name)), "Makefile"), read(os.path.join(self.original, "Makefile")))
         return self.at(name)
 
-    def run(self, place, command, number, is_full):
-        """The status of a command that is killed at this change, and whether it reached it."""
+    def run(self, place, command, number, *ways):
+        """The status of a command that is killed at this change, unless the ways differ, and whether it reached it."""
         count = f"{place}.count"
-        more = {"LD_PRELOAD": self.library, "BREAK_AT": str(number), "BREAK_COUNT": count, **({"BREAK_FULL": "yes"} if is_full else {})}
+        more = {"LD_PRELOAD": self.library, "BREAK_AT": str(number), "BREAK_COUNT": count, **{way: "yes" for way in ways}}
         build = subprocess.Popen([self.tool, *MARKING, *command], cwd=place, env=environment(more), stderr=subprocess.DEVNULL, preexec_fn=of_a_terminal)
         return build.wait(timeout=60), os.path.getsize(count) >= number
 
@@ -257,7 +257,7 @@ def broken_off(checks, at):
         while is_broken:
             number += 1
             what, place = f"{'no room' if is_full else 'killed'} from change {number} on", breaking.placed(f"{is_full}{number}")
-            status, is_broken = breaking.run(place, ["make", "-s", "N=1"], number, is_full)
+            status, is_broken = breaking.run(place, ["make", "-s", "N=1"], number, *(["BREAK_FULL"] if is_full else []))
             breaking.expect_right(what, place)
             checks.expect(f"{what}: its status", status in (statuses if is_broken else (0,)), True)
             for options, lines in (((), ("!3 y", "3 y")), (MARKING, ("!3 y",))):
@@ -282,7 +282,7 @@ def finish_broken_off(checks, at):
         write(os.path.join(place, "Makefile"), recipe)
         build = subprocess.run([TOOL, *MARKING, "make", "-s", "N=1"], cwd=place, env=environment(), stderr=subprocess.DEVNULL)
         checks.expect(f"{what}: make", build.returncode, -signal.SIGKILL)
-        status, is_broken = breaking.run(place, ["--finish"], number, False)
+        status, is_broken = breaking.run(place, ["--finish"], number)
         breaking.expect_right(what, place)
         checks.expect(f"{what}: its status", status, -signal.SIGKILL if is_broken else 0)
         checks.expect(f"{what}: again", ran(place, [TOOL, "--finish", *MARKING]), (0, "", ""))
@@ -290,6 +290,21 @@ def finish_broken_off(checks, at):
     # Before a line with `rm` make waits until all that came before is recorded, but not until the line has begun.
     whole = ["1 all\n!2 x\n!3 y\n!4 v\n" + last for last in ("5 w\n", "!5 w\n")]
     checks.expect("a finish that is whole", (number > 8, names_of(place) in whole), (True, True))
+
+
+def torn(checks, at):
+    """No space is left for the second half of one write. The build goes on, begins the log of v again, and is killed."""
+    breaking = Breaking(checks, at)
+    number, is_torn = 0, True
+    while is_torn:
+        number += 1
+        what, place = f"change {number} is torn", breaking.placed(str(number))
+        write(os.path.join(place, "Makefile"), "all: x v w\nx: ; @echo x $(N) >&2; touch x\nv: x ; @echo v >&2\nw: v ; @rm -f none; kill -9 0\n")
+        status, is_torn = breaking.run(place, ["make", "-s", "N=1"], number, "BREAK_FULL", "BREAK_TORN")
+        checks.expect(f"{what}: make", status, -signal.SIGKILL)
+        checks.expect(f"{what}: finished", ran(place, [TOOL, "--finish", *MARKING]), (0, "", ""))
+        breaking.expect_right(what, place)
+    checks.expect("writes in all", number > 8, True)
 
 
 def cut_end(log):
@@ -354,4 +369,4 @@ def many_marks(checks, at):
     checks.expect("and none", (make(folder), names_of(folder) == listed), ((0, "", ""), True))
 
 
-PARTS = (marks, runs, killed, moments, broken_off, finish_broken_off, cut_copies, many_marks)
+PARTS = (marks, runs, killed, moments, broken_off, finish_broken_off, torn, cut_copies, many_marks)
