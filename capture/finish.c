@@ -67,11 +67,17 @@ static int is_mention_record(const char *log, size_t size, const struct range *r
   return is_record(start, log + range->end - start);
 }
 
+/* Returns the size of the records at the start of a log; 0 if no line ends there, because the log or the journal was changed. */
+static size_t valid_header_size(const struct target *target, const char *log, size_t size) {
+  off_t header_size = target->log.header_size;
+  return header_size > 0 && header_size <= (off_t)size && log[header_size - 1] == '\n' ? header_size : 0;
+}
+
 /* Rewrites a log: the records at its start, the records of the targets that sub-makes of its recipe made, and the text. Drops the
    provisional records. Returns -1 on failure. */
 static int rewrite_log(struct target *target, const char *log, size_t size) {
   char *rewritten;
-  size_t rewritten_size, from = target->log.header_size <= (off_t)size ? target->log.header_size : 0;
+  size_t rewritten_size, from = valid_header_size(target, log, size);
   FILE *stream = xopen_memstream(&rewritten, &rewritten_size);
   fwrite(log, 1, from, stream);
   if (target->log.child_records.size > 0) fwrite(target->log.child_records.bytes, 1, target->log.child_records.size, stream);

@@ -347,6 +347,9 @@ def damaged_journals(checks, at):
     checks.expect("an intact journal", wanted[:2], ((0, "", ""), "1 all\n!2 x\n3 y\n"))
     for number, lines in enumerate(DAMAGE):
         checks.expect(f"a damaged journal: {lines[:60]!r}", finished(str(number), f"{lines}\n"), wanted)
+    # The records that the log of x gets are at its start, and not within its first record.
+    logs = finished("within", "start 2 77 10\nmade 3 2 5\n")[-1]
+    checks.expect("the records at a log's start end within a line", logs[1], "@@REDO:do:77:0.005@@ y\n" + wanted[-1][1])
 
 
 def other_numbers(checks, at):
