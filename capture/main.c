@@ -72,8 +72,9 @@ static void set_last_argument(const char *command) {
 static void prepare_environment(const char *command) {
   char *capture_def = find_capture_def();
   const char *other_makefiles = getenv("MAKEFILES");
-  if (other_makefiles && strncmp(other_makefiles, capture_def, strlen(capture_def)) == 0)
-    other_makefiles += strlen(capture_def) + strspn(other_makefiles + strlen(capture_def), " ");
+  size_t size = strlen(capture_def);
+  if (other_makefiles && strncmp(other_makefiles, capture_def, size) == 0 && (!other_makefiles[size] || other_makefiles[size] == ' '))
+    other_makefiles += size + strspn(other_makefiles + size, " ");
   listen_for_makes();
   setenv("MAKEFILES", other_makefiles && *other_makefiles ? xasprintf("%s %s", capture_def, other_makefiles) : capture_def, 1);
   export_run();
