@@ -136,9 +136,10 @@ struct making {
   struct target *parent;      /* the target of the recipe; `all` if no recipe runs the make, or its log can't mention the target */
   const struct make *make;    /* the first one. Lines that other makes run don't change the start and the end. */
   int is_mentioned;           /* as a prerequisite, in a log that is enough */
-  int failed_after_mention;   /* a line failed after that */
+  int failed_after_mention;   /* it has failed since */
   int64_t start_time, end_time;
   int status;                 /* as target_run has it */
+  const struct failure *last_failure; /* the last line, if it has failed */
   struct making *next;
 };
 /* The line of a recipe that runs a sub-make. */
@@ -148,6 +149,8 @@ struct caller {
 };
 /* That a line of a target failed, and its make did not go on with the recipe. */
 struct failure {
+  struct target *target;
+  struct making *making; /* as in struct line */
   const struct make *make;
   uint32_t recipe;      /* the number of the line's recipe in that make */
   unsigned line;        /* the number of the line */
@@ -176,7 +179,9 @@ struct target_run {
 
   /* The last line. */
   pid_t process;
-  int status;         /* as a shell reports it; if it is 0, of an earlier double-colon rule that failed in its make; -1 while it runs */
+  int status;         /* as a shell reports it; if it is 0, or ignored, of an earlier double-colon rule that failed in its make; -1 while it
+                         runs */
+  const struct failure *last_failure; /* its failure; NULL if it hasn't failed */
   int is_interrupted; /* it failed after a signal had stopped the build */
 
   unsigned last_line;    /* the number of the last line that began */
@@ -444,6 +449,8 @@ struct line_end {
 /* Returns the line, or NULL if the process is no line. */
 struct line *find_line(const struct make *make, pid_t process);
 void end_line(struct line *line, struct line_end end, int is_shown);
+/* Records that the make ignores the failure of the line that ended last. If it is the last line, the recipe has succeeded. */
+void ignore_last_failure(struct make *make);
 /* Records that the make ignores all failures of its lines so far. */
 void ignore_failures(struct make *make);
 /* Records that a line runs this make. */

@@ -35,6 +35,7 @@ struct make {
   uint32_t ended_recipe, failed_recipe;
   struct announcement announced;
   struct failure *failures; /* of its lines, since it last went on */
+  struct failure *last_failure; /* of the child that ended last, or could not be started; NULL if it isn't known to have failed */
 };
 
 /* The target of a line that isn't captured although its pipe was accepted. Its output goes to standard error. */

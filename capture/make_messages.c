@@ -164,7 +164,7 @@ static int handle_failed(struct make *make, const char *message, size_t size) {
   struct command command = make->announced.command;
   if (make->announced.pipe) close_pipe(make->announced.pipe);
   clear_announcement(make);
-  make->ended_recipe = 0;
+  make->ended_recipe = 0, make->last_failure = NULL;
   if (recipe > make->failed_recipe) make->failed_recipe = recipe;
   check_removal();
   if (can_capture(make, find_recipe(make, recipe), 0)) {
@@ -185,7 +185,7 @@ static int handle_ended(struct make *make, const char *message, size_t size) {
   struct usage usage = {valid_amount(ended.user_us), valid_amount(ended.system_us), valid_amount(ended.peak_kb)};
   struct line_end end = {ended.wait_status, is_stopping, valid_time(ended.time), usage};
   struct line *line = find_line(make, ended.pid);
-  make->failed_recipe = 0;
+  make->failed_recipe = 0, make->last_failure = NULL;
   if (line) {
     uint32_t recipe = make->ended_recipe = line->recipe;
     receive_from_sub_makes(make, recipe);
@@ -193,6 +193,12 @@ static int handle_ended(struct make *make, const char *message, size_t size) {
     if (ended.wait_status != 0) check_removal(); /* otherwise the next line does so */
   }
   return ended.wants_reply ? reply(make, CAPTURED) : 0;
+}
+
+static int handle_ignored(struct make *make, size_t size) {
+  if (size < sizeof(struct ignored)) return -1;
+  ignore_last_failure(make);
+  return 0;
 }
 
 static int handle_went_on(struct make *make, size_t size) {
@@ -212,6 +218,7 @@ static int handle_note(struct make *make, const char *note, size_t size, int *de
     case STARTED: return handle_started(make, note, size);
     case FAILED: return handle_failed(make, note, size);
     case ENDED: return handle_ended(make, note, size);
+    case IGNORED: return handle_ignored(make, size);
     case WENT_ON: return handle_went_on(make, size);
     default: return -1;
   }

@@ -33,6 +33,7 @@ enum message_kind {
   STARTED = 'S', /* struct started: the line that was announced last has started */
   FAILED = 'F',  /* struct failed, and names: make could not start a line, and has not announced it */
   ENDED = 'E',   /* struct ended: a child of make ended; reply, if it is asked for: struct reply */
+  IGNORED = 'I', /* struct ignored: make ignores the failure of the child that it has reported last, by ENDED or FAILED */
   WENT_ON = 'W', /* struct went_on: make has ignored each failure of a line so far: it succeeds, or executes itself again */
 };
 
@@ -88,6 +89,9 @@ struct ended {
   int32_t pid, wait_status; /* as waitpid returns it */
   uint32_t stopping, reserved;
   int64_t time, user_us, system_us, peak_kb; /* the last three as in struct usage */
+};
+struct ignored {
+  uint32_t kind;
 };
 struct went_on {
   uint32_t kind;

@@ -215,8 +215,8 @@ void begin_line(struct make *make, uint32_t recipe, struct target *target, struc
   if (run->has_begun) change_directory(line);
   if (run->has_begun && (run->status >= 0 || line->making->status >= 0))
     write_journal("line", 3, (int64_t[]){target->number, process, journal_number(line->making->parent)});
-  if (line->making) line->making->status = -1;
-  run->process = process, run->status = -1;
+  if (line->making) line->making->status = -1, line->making->last_failure = NULL;
+  run->process = process, run->status = -1, run->last_failure = NULL;
   if (records_all_commands) record_command(target, &line->command);
   if (pipe) start_pipe(pipe, target);
 }
@@ -229,29 +229,40 @@ void add_sub_make(const struct make *make) {
 static void add_failure(const struct line *line) {
   struct target_run *run = &line->target->run;
   struct failure *failure = xrealloc(NULL, sizeof *failure);
-  *failure = (struct failure){.make = line->make, .recipe = line->recipe, .line = line->number, .status = run->status,
-                              .caller = line->caller, .is_interrupted = run->is_interrupted, .next = run->failures,
-                              .next_in_make = line->make->failures};
-  run->failures = line->make->failures = failure;
+  *failure = (struct failure){.target = line->target, .making = line->making, .make = line->make, .recipe = line->recipe,
+                              .line = line->number, .status = run->status, .caller = line->caller,
+                              .is_interrupted = run->is_interrupted, .next = run->failures, .next_in_make = line->make->failures};
+  run->failures = line->make->failures = line->make->last_failure = failure;
+  run->last_failure = failure;
+  if (line->making) line->making->last_failure = failure;
   struct line *outer = run->is_interrupted ? NULL : running_line(line->caller.line);
   if (outer) outer->failed_children++;
 }
 
 /* A double-colon rule that failed still has failed if its make then runs the recipe of the next one. Returns the status of the last one
-   that failed in the make of the line, or 0. */
-static int failed_status(const struct line *line) {
-  const struct failure *failure = line->target->run.failures;
-  while (failure && failure->make != line->make) failure = failure->next;
+   that failed in this make, or 0. */
+static int failed_status(const struct target *target, const struct make *make) {
+  const struct failure *failure = target->run.failures;
+  while (failure && (failure->make != make || failure->is_ignored)) failure = failure->next;
   return failure ? failure->status : 0;
+}
+
+static void write_end(const struct target *target) {
+  const struct target_run *run = &target->run;
+  write_journal("ended", 4, (int64_t[]){target->number, run->end_process, run->end_time, run->status});
+}
+
+static void set_making_end(const struct target *target, struct making *making, int64_t time, int status) {
+  end_making(making, time, status);
+  making->last_failure = NULL;
+  write_journal("did", 4, (int64_t[]){target->number, journal_number(making->parent), time, status});
 }
 
 /* Only lines of the make that began the making change its end. */
 static void end_line_of_making(const struct line *line, int64_t time) {
-  const struct target *target = line->target;
   struct making *making = line->making;
   int is_end = line->make == making->make || making->end_time == 0;
-  end_making(making, is_end ? time : making->end_time, target->run.status);
-  write_journal("did", 4, (int64_t[]){target->number, journal_number(making->parent), making->end_time, making->status});
+  set_making_end(line->target, making, is_end ? time : making->end_time, line->target->run.status);
 }
 
 /* If several makes run one target, only the first make changes its end, because other logs have its start by this make. */
@@ -259,14 +270,39 @@ static void end_target_line(const struct line *line, int status, int64_t time) {
   struct target *target = line->target;
   struct target_run *run = &target->run;
   int has_failed = status != 0;
-  run->status = has_failed ? status : failed_status(line);
+  run->status = has_failed ? status : failed_status(target, line->make);
+  run->last_failure = NULL;
   if (line->make == run->first_make || run->end_process == 0) run->end_process = line->process, run->end_time = time;
   if (!run->has_begun) return;
-  write_journal("ended", 4, (int64_t[]){target->number, run->end_process, run->end_time, run->status});
+  write_end(target);
   if (line->making) end_line_of_making(line, time);
   if (!has_failed) return;
   add_failure(line);
   mention_in_parent(line->making ? line->making->parent : run_target, target, line->process, time, status);
+}
+
+/* Whether no line of the recipe has begun since the failure, nor the log of the target. */
+static int is_latest(const struct failure *failure) {
+  const struct failure *found = failure->target->run.failures;
+  while (found && found != failure) found = found->next;
+  return found != NULL;
+}
+
+/* An interrupted recipe didn't succeed, whatever make ignores. */
+void ignore_last_failure(struct make *make) {
+  struct failure *failure = make->last_failure;
+  make->last_failure = NULL;
+  if (!failure || failure->is_interrupted) return;
+  ignore_failure(failure);
+  if (!is_latest(failure)) return;
+  struct target *target = failure->target;
+  struct making *making = failure->making;
+  int status = failed_status(target, make);
+  if (target->run.last_failure == failure) {
+    target->run.status = status, target->run.last_failure = NULL;
+    write_end(target);
+  }
+  if (making && making->last_failure == failure) set_making_end(target, making, making->end_time, status);
 }
 
 static void add_usage(struct usage *sum, struct usage usage) {

@@ -104,7 +104,7 @@ struct making *add_making(struct target *target, struct target *parent, const st
 
 void end_making(struct making *making, int64_t time, int status) {
   making->end_time = time, making->status = status;
-  making->failed_after_mention |= making->is_mentioned && status > 0;
+  making->failed_after_mention = making->is_mentioned && status > 0;
 }
 
 struct target *log_parent(const struct target *target, struct target *parent) {

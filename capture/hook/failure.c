@@ -1,16 +1,81 @@
-/* Failures that make ignores. Nothing that the hook sees says so: the `-` of a line is not in its command. But make never succeeds after
-   a failure that it doesn't ignore. It ignores failures because of `-`, .IGNORE or -i, or when it remakes a makefile that it can do
-   without. Such a failure still counts if a goal needs the target, so nothing is known before make ends. What make prints about a failure
-   may be missing, translated or redirected. */
+/* Failures that make ignores: because of `-`, .IGNORE or -i, or when it remakes a makefile that it can do without. What make prints about
+   a failed child says so: `make: *** [Makefile:2: x] Error 1` if the failure counts, `make: [Makefile:2: x] Error 1 (ignored)` if it
+   doesn't. `*** ` isn't translated. With -s, make prints nothing about a failure that it ignores, and nothing at all about a makefile that
+   it can do without. Then only its success says that it ignored failures. Such a makefile still counts if a goal needs it.
+
+   make prints this before it blocks signals to remove the child from its list. Later messages are about other things, even if they look
+   alike. After a child that it couldn't start, make first unblocks signals. */
+#define _GNU_SOURCE
 #include "hook.h"
 #include "syscalls.h"
 
 typedef void exit_function(int);
+typedef int fputs_function(const char *, void *);
+typedef ssize_t write_function(int, const void *, size_t);
+typedef int sigprocmask_function(int, const void *, void *);
 
-/* Whether a child has failed and make isn't known to ignore that. */
-static int has_failed;
+/* make's own variables for the start of its messages; NULL if make doesn't export them. */
+static char *const *program;
+static const unsigned *make_level;
 
-void note_failure(void) { has_failed = 1; }
+static int has_failed; /* a child has failed since make went on */
+/* How often make changes its signal mask until it no longer prints whether it ignores the last failure; 0 if it has printed that. */
+static int mask_changes;
+
+void find_message_variables(void) { program = find_function("program"), make_level = find_function("makelevel"); }
+
+void note_failure(int is_started) { has_failed = 1, mask_changes = is_started ? 1 : 2; }
+
+int hooked_sigprocmask(int how, const void *mask, void *former) {
+  if (mask_changes > 0) mask_changes--;
+  return ((sigprocmask_function *)imports[SIGPROCMASK].original)(how, mask, former);
+}
+
+/* Moves past a string at the start of a text. Returns whether it was there. */
+static int skip_string(const char **text, const char *end, const char *string) {
+  const char *from = *text;
+  while (from < end && *string && *from == *string) from++, string++;
+  if (*string) return 0;
+  *text = from;
+  return 1;
+}
+
+/* Moves past `PROGRAM: ` or `PROGRAM[LEVEL]: `. */
+static int skip_prefix(const char **text, const char *end) {
+  char level[sizeof "[18446744073709551615]"] = "";
+  if (*make_level > 0) append_number(append_string(level, "["), *make_level, ']');
+  return skip_string(text, end, *program) && skip_string(text, end, level) && skip_string(text, end, ": ");
+}
+
+/* Whether a message goes on as `[PLACE: TARGET] ` does. */
+static int has_brackets(const char *text, const char *end) {
+  if (!skip_string(&text, end, "[")) return 0;
+  for (; text < end; text++)
+    if (skip_string(&text, end, "] ")) return 1;
+  return 0;
+}
+
+/* Reads what make prints. Other messages may precede the one about the child. */
+static void read_message(const char *text, size_t size) {
+  const char *end = text + size;
+  struct ignored ignored = {IGNORED};
+  if (!program || !make_level || !is_imported(SIGPROCMASK) || !skip_prefix(&text, end)) return;
+  int counts = skip_string(&text, end, "*** ");
+  if (!has_brackets(text, end)) return;
+  mask_changes = 0;
+  if (!counts && is_connected()) send_note(&ignored, sizeof ignored, NULL, 0, -1);
+}
+
+int hooked_fputs(const char *text, void *stream) {
+  if (mask_changes > 0) read_message(text, string_length(text));
+  return ((fputs_function *)imports[FPUTS].original)(text, stream);
+}
+
+/* With -O, make writes its messages to the file that collects the output of the recipe. */
+ssize_t hooked_write(int descriptor, const void *bytes, size_t size) {
+  if (mask_changes > 0) read_message(bytes, size);
+  return ((write_function *)imports[WRITE].original)(descriptor, bytes, size);
+}
 
 void report_going_on(void) {
   struct went_on went_on = {WENT_ON};

@@ -1,9 +1,9 @@
 /* The hook: a shared object that each make of a captured build loads. It reports each line of a recipe to the server, and gives
    the line a pipe to the server as standard error, or, with --colour, a terminal. Below, a pipe may be a terminal.
 
-   It replaces the functions of the C library by which make starts and reaps children, and exits. Its own functions call the originals. It
-   runs inside make, partly in a signal handler, so it doesn't call malloc and leaves errno alone. It imports only what make itself
-   has or imports (gmk_*, dlsym), so that one file works with every glibc and musl. If anything fails here, the build goes on
+   It replaces the functions of the C library by which make starts and reaps children, prints and exits. Its own functions call the
+   originals. It runs inside make, partly in a signal handler, so it doesn't call malloc and leaves errno alone. It imports only what make
+   itself has or imports (gmk_*, dlsym), so that one file works with every glibc and musl. If anything fails here, the build goes on
    without being captured.
 
    An earlier design ran a shell and a helper process around each line of a recipe. It cost 2 to 4 ms of processor time per line,
@@ -86,8 +86,9 @@ char **build_environment(char *const *environment, long recipe, int pipe);
 
 /* failure.c: failures that make ignores */
 
+void find_message_variables(void);
 /* A child has failed, or could not be started. */
-void note_failure(void);
+void note_failure(int is_started);
 /* Tells the server that make ignores all failures so far, unless there is none since the last call. */
 void report_going_on(void);
 
@@ -98,7 +99,8 @@ struct import {
 };
 extern struct import imports[];
 enum import_number {
-  POSIX_SPAWN, ACTIONS_INIT, ACTIONS_ADDDUP2, ACTIONS_DESTROY, VFORK, EXECVP, WAIT, WAITPID, WAIT3, WAIT4, EXIT, IMPORT_COUNT
+  POSIX_SPAWN, ACTIONS_INIT, ACTIONS_ADDDUP2, ACTIONS_DESTROY, VFORK, EXECVP, WAIT, WAITPID, WAIT3, WAIT4, EXIT, FPUTS, WRITE,
+  SIGPROCMASK, IMPORT_COUNT
 };
 int hooked_spawn();
 int hooked_actions_init();
@@ -110,6 +112,9 @@ pid_t hooked_waitpid(pid_t process, int *wait_status, int options);
 pid_t hooked_wait3(int *wait_status, int options, void *usage);
 pid_t hooked_wait4(pid_t process, int *wait_status, int options, void *usage);
 void hooked_exit(int status);
+int hooked_fputs(const char *text, void *stream);
+ssize_t hooked_write(int descriptor, const void *bytes, size_t size);
+int hooked_sigprocmask(int how, const void *mask, void *former);
 /* make's own variable: whether it has got a signal that ends it. NULL if make doesn't export it. */
 extern volatile int *handling_fatal_signal;
 /* The process that loaded the hook. A child of vfork has another number. */

@@ -28,6 +28,9 @@ struct import imports[IMPORT_COUNT] = {
     [WAIT3] = {"wait3", hooked_wait3, NULL},
     [WAIT4] = {"wait4", hooked_wait4, NULL},
     [EXIT] = {"exit", hooked_exit, NULL},
+    [FPUTS] = {"fputs", hooked_fputs, NULL},
+    [WRITE] = {"write", hooked_write, NULL},
+    [SIGPROCMASK] = {"sigprocmask", hooked_sigprocmask, NULL},
 };
 
 /* The parts of the program's dynamic section that are needed. */
@@ -115,6 +118,7 @@ static int visit_slots(int is_replaced) {
 int find_imports(void) {
   for (int i = 0; i < IMPORT_COUNT; i++) imports[i].original = find_function(imports[i].name);
   handling_fatal_signal = find_function("handling_fatal_signal");
+  find_message_variables();
   return imports[WAIT4].original ? visit_slots(0) : -1;
 }
 

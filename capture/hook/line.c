@@ -89,7 +89,7 @@ void report_start(pid_t process) {
 void report_failure(void) {
   char names[MAX_KEPT];
   struct failed failed = {FAILED, take_names(names), wall_clock_ms()};
-  note_failure();
+  note_failure(0);
   send_note(&failed, sizeof failed, names, failed.names_size, -1);
 }
 

@@ -22,7 +22,7 @@ static void report_end(pid_t process, int wait_status, const struct rusage *usag
   ended.user_us = microseconds(usage->ru_utime), ended.system_us = microseconds(usage->ru_stime), ended.peak_kb = usage->ru_maxrss;
   ended.wants_reply = run.show_mode == SHOW_ALL || (run.show_mode == SHOW_FAILED && wait_status != 0);
   ended.stopping = !handling_fatal_signal ? MAYBE_STOPPING : *handling_fatal_signal ? STOPPING : NOT_STOPPING;
-  if (wait_status != 0) note_failure();
+  if (wait_status != 0) note_failure(1);
   if (!ended.wants_reply) {
     send_note(&ended, sizeof ended, NULL, 0, -1);
     return;

@@ -630,6 +630,10 @@ def gone(process, status=0, time=ORDINARY, asks=0, stopping=0, usage=(1, 1, 1)):
     return struct.pack("@4sIiiIIqqqq", b"E", asks, process, status, stopping, 0, time, *usage)
 
 
+def ignored():
+    return struct.pack("@4s", b"I")
+
+
 def went_on():
     return struct.pack("@4s", b"W")
 
@@ -759,7 +763,7 @@ class Liar:
 
 
 def each_kind(token):
-    messages = [hello(token, b"/tmp\0"), names(b"x\0y"), recipe(1, b"x\0y z"), line(1), started(5), failed(), gone(5, 256, asks=1), went_on()]
+    messages = [hello(token, b"/tmp\0"), names(b"x\0y"), recipe(1, b"x\0y z"), line(1), started(5), failed(), gone(5, 256, asks=1), ignored(), went_on()]
     return [*messages, line(1, names=b"x\0y z"), failed(names=b"x\0y z")]
 
 
@@ -1051,7 +1055,7 @@ def almost_right(chance, token, latest):
         (1, lambda: hello(token, chance.choice((b"/\0", b"x", b"")), process=process)), (2, lambda: names(chance.choice(some))),
         (5, lambda: recipe(chance.choice((latest + 1,) * 9 + NUMBERS), chance.choice(some))), (9, lambda: started(process)), (3, lambda: failed(time)),
         (5, lambda: line(latest + 1, time=time, asks=chance.choice((0, 0, 1)), names=chance.choice(some))),
-        (2, lambda: failed(time, chance.choice(some))), (2, went_on),
+        (2, lambda: failed(time, chance.choice(some))), (4, ignored), (2, went_on),
         (9, lambda: line(number, chance.choice((b"", b"sh", b"sh\0-c\0x\0", b"\0" * 100)), time, chance.choice((0, 0, 0, 1, 7)))),
         (9, lambda: gone(process, chance.choice((0, 0, 1, 9, 256, -1)), time, chance.choice((0, 1, 7)), chance.choice((0, 1, 2, 3)), (chance.choice(TIMES),) * 3)),
     )  # fmt: skip

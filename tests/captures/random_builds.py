@@ -530,14 +530,14 @@ NUMBERS = {signal.strsignal(kind): 128 + kind for kind in signal.valid_signals()
 
 
 class Word:
-    """make's line about a failed line of a recipe: the target, the status, which line, and whether the failure was ignored."""
+    """make's line about a failed line of a recipe: the target, the status, which line, and whether the failure is ignored."""
 
     def __init__(self, build, found):
         file, number, local, text, status, _, ignored = found
         self.rules = build.rules_by_place.get((file, local), [])
         self.number, self.is_ignored = int(number), bool(ignored)
         self.status = int(status) if status else NUMBERS.get(text, -1)
-        self.name, self.line, self.is_last, self.make = None, None, False, None
+        self.name, self.line, self.make = None, None, None
         for rule, first in self.rules:
             count = 1 if rule.make.is_one_shell else len(rule.lines)
             if first <= self.number < first + count:
@@ -545,7 +545,6 @@ class Word:
                 # In one shell, the failed command isn't known. Recipes of one pattern rule share a counter of lines.
                 is_known = not rule.make.is_one_shell and not rule.pattern
                 self.line = rule.lines[self.number - first] if is_known else Line("", "any")
-                self.is_last = not is_known or self.number == first + count - 1
 
 
 def words_in(build, lines):
@@ -558,14 +557,8 @@ def possible_statuses(build, words):
     for name in {word.name for word in words}:
         own = [word for word in words if word.name == name]
         failed = {word.status for word in own if not word.is_ignored}
-        tolerated = {word.status for word in own if word.is_last}
-        if build.recipe_count[name] > 1:
-            # The last recipe that failed decides, but only recipes of the last make that ran one count.
-            statuses[name] = failed | tolerated | ({0} if not failed or build.maker_count[name] > 1 else set())
-        else:
-            # In one shell, or by a pattern rule, the place of the failed line isn't known.
-            unknown = {0} if any(word.line.kind == "any" for word in own) else set()
-            statuses[name] = failed or tolerated | unknown or {0}
+        # The last recipe that failed decides, but only recipes of the last make that ran one count.
+        statuses[name] = failed | ({0} if not failed or build.maker_count[name] > 1 else set())
     return statuses
 
 
@@ -801,16 +794,16 @@ def status_differences(build, plain, logs, words, summary):
 
 def causes(build, words):
     """The targets that failed by themselves and whose failure no recipe tolerated; and those whose failure a recipe tolerated."""
+    words = [word for word in words if not word.is_ignored]
     decisive = {}  # the lines by which a target may have failed
     for word in words:
-        if not word.is_ignored or (word.is_last and word.name not in decisive) or build.recipe_count[word.name] > 1:
-            lines = decisive.setdefault(word.name, set())
-            if build.recipe_count[word.name] == 1:
-                lines.clear()
-            lines.add(word.line)
+        lines = decisive.setdefault(word.name, set())
+        if build.recipe_count[word.name] == 1:
+            lines.clear()
+        lines.add(word.line)
     untolerated, failed = set(), set()
     for word in words:
-        make, is_tolerated, is_sure = word.make, False, not word.is_ignored
+        make, is_tolerated, is_sure = word.make, False, True
         while make.parent:
             lines = decisive.get(make.parent.name, set())
             is_tolerated |= make.line not in lines and not any(line.kind == "any" for line in lines) if lines else make.parent.name not in build.untold
