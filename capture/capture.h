@@ -493,6 +493,8 @@ void close_facts(void);
 struct make *accept_make(int descriptor);
 /* Whether standard error of this make is redirected, so that its recipes have no text. */
 int is_redirected(const struct make *make);
+/* Whether `$(shell ..)` runs this make, so that nobody need care whether it fails. */
+int is_in_shell_function(const struct make *make);
 const char *make_directory(const struct make *make);
 /* Returns the target whose recipe runs this make, or NULL. */
 struct target *parent_target(struct make *make);

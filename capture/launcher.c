@@ -81,7 +81,8 @@ static int connect_to_run(void) {
   struct ucred other = {0};
   socklen_t other_size = sizeof other;
   if (find_run() < 0 || !working_directory) return -1;
-  struct hello hello = {.kind = HELLO, .parent_make = run.make, .parent_recipe = run.recipe, .pid = getpid()};
+  struct hello hello = {.kind = HELLO, .parent_make = run.make, .parent_recipe = run.recipe, .pid = getpid(),
+                        .is_in_shell_function = run.is_in_shell_function};
   memcpy(hello.token, run.token, TOKEN_SIZE);
   run_socket = connect_to_server();
   if (run_socket < 0) return -1;
@@ -124,7 +125,7 @@ static int announce_command(const char *target, const char *prerequisites, char 
 static void export_command_run(int pipe) {
   struct stat found;
   fstat(pipe, &found);
-  run.make = welcome.make, run.recipe = 1;
+  run.make = welcome.make, run.recipe = 1, run.is_in_shell_function = 0;
   run.outputs[2] = (struct file_identity){found.st_dev, found.st_ino};
   if (welcome.captures_output) run.outputs[1] = run.outputs[2];
   set_run_variable(&run);

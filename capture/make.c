@@ -37,6 +37,8 @@ static void close_make(struct make *make) {
 
 int is_redirected(const struct make *make) { return make->is_redirected; }
 
+int is_in_shell_function(const struct make *make) { return make->is_in_shell_function; }
+
 const char *make_directory(const struct make *make) { return make->directory; }
 
 struct recipe_entry *find_recipe(struct make *make, uint32_t number) {

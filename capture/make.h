@@ -25,7 +25,7 @@ struct make {
   uint32_t number, parent_make, parent_recipe;
   pid_t process;
   char *directory; /* NULL until HELLO has arrived */
-  int is_redirected, is_waiting; /* is_waiting: for a reply */
+  int is_redirected, is_in_shell_function, is_waiting; /* is_waiting: for a reply */
   struct recipe_entry *recipes; /* the first one is never used, and counts */
   size_t recipe_count, recipe_capacity;
   char *names; /* of the recipe that is being sent */

@@ -30,7 +30,7 @@ static int handle_hello(struct make *make, const char *message, size_t size, int
   memcpy(&hello, message, sizeof hello);
   if (!is_run_token(hello.token)) return -1;
   make->parent_make = hello.parent_make, make->parent_recipe = hello.parent_recipe, make->process = valid_process(hello.pid);
-  make->is_redirected = hello.is_redirected;
+  make->is_redirected = hello.is_redirected, make->is_in_shell_function = hello.is_in_shell_function;
   make->notes.fd = *notes, *notes = -1;
   if (watch_source(&make->notes) < 0) return -1;
   make->directory = xasprintf("%s", message + sizeof hello);

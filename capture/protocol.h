@@ -54,6 +54,7 @@ struct hello {
   uint32_t kind, parent_make, parent_recipe;
   int32_t pid;
   uint32_t is_redirected; /* standard error of this make is redirected, so its recipes have no text */
+  uint32_t is_in_shell_function; /* `$(shell ..)` runs this make */
   char token[TOKEN_SIZE];
 };
 struct welcome {

@@ -170,9 +170,14 @@ static struct line *running_line(unsigned number) {
   return line;
 }
 
+static void count_failure(const struct failure *failure, int change) {
+  int counts = !failure->is_ignored && !failure->is_interrupted && !is_in_shell_function(failure->make);
+  struct line *outer = counts ? running_line(failure->caller.line) : NULL;
+  if (outer) outer->failed_children += change;
+}
+
 static void ignore_failure(struct failure *failure) {
-  struct line *outer = failure->is_ignored || failure->is_interrupted ? NULL : running_line(failure->caller.line);
-  if (outer) outer->failed_children--;
+  count_failure(failure, -1);
   failure->is_ignored = 1;
 }
 
@@ -235,8 +240,7 @@ static void add_failure(const struct line *line) {
   run->failures = line->make->failures = line->make->last_failure = failure;
   run->last_failure = failure;
   if (line->making) line->making->last_failure = failure;
-  struct line *outer = run->is_interrupted ? NULL : running_line(line->caller.line);
-  if (outer) outer->failed_children++;
+  count_failure(failure, 1);
 }
 
 /* A double-colon rule that failed still has failed if its make then runs the recipe of the next one. Returns the status of the last one

@@ -122,10 +122,11 @@ static struct failure *failure_of(const struct target *target, unsigned line) {
   return failure;
 }
 
-/* Whether the make ignored a failure of the target, or the target succeeded later in another sub-make of the same recipe. */
+/* Whether the make ignored a failure of the target, or nobody need care about the make, or the target succeeded later in another sub-make
+   of the same recipe. */
 static int is_settled(const struct target *target, const struct failure *failure) {
   const struct making *making = making_for(target, log_parent(target, failure->caller.target));
-  return failure->is_ignored || (making && making->status == 0);
+  return failure->is_ignored || is_in_shell_function(failure->make) || (making && making->status == 0);
 }
 
 /* Whether nobody ignored a failure of the target: not the make, nor the recipe that ran it, nor one above. A recipe whose line still ran

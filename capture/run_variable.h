@@ -9,13 +9,14 @@ struct file_identity {
   unsigned long device, inode;
 };
 
-/* CAPTURE_RUN=SOCKET:TOKEN:USER:MAKE.RECIPE:DEVICE.INODE:DEVICE.INODE:DIRECTORY. The strings have no NUL, except the last one. */
+/* CAPTURE_RUN=SOCKET:TOKEN:USER:MAKE.RECIPE:SHELL:DEVICE.INODE:DEVICE.INODE:DIRECTORY. The strings have no NUL, except the last one. */
 struct run_variable {
   const char *socket_name; /* the abstract name of the server's socket */
   size_t socket_name_size;
   const char *token;          /* a secret that proves that the sender belongs to the run: TOKEN_SIZE bytes */
   unsigned long user;         /* of the server */
   unsigned long make, recipe; /* the recipe that runs this make, or 0.0 */
+  unsigned long is_in_shell_function; /* whether `$(shell ..)` runs this make */
   /* By descriptor: the files to which standard output and standard error go if nobody redirects them, or 0.0. */
   struct file_identity outputs[3];
   const char *directory; /* the capture directory */
@@ -45,6 +46,7 @@ static inline int parse_run_variable(const char *value, struct run_variable *run
   run->token = from;
   if (parse_string(&from) != TOKEN_SIZE || parse_number(&from, &run->user, ':') < 0) return -1;
   if (parse_number(&from, &run->make, '.') < 0 || parse_number(&from, &run->recipe, ':') < 0) return -1;
+  if (parse_number(&from, &run->is_in_shell_function, ':') < 0) return -1;
   for (int output = 1; output <= 2; output++) {
     struct file_identity *file = &run->outputs[output];
     if (parse_number(&from, &file->device, '.') < 0 || parse_number(&from, &file->inode, ':') < 0) return -1;
@@ -79,6 +81,7 @@ static inline char *append_run_variable(char *to, const struct run_variable *run
   *to++ = ':';
   to = append_number(to, run->user, ':');
   to = append_number(to, run->make, '.'), to = append_number(to, run->recipe, ':');
+  to = append_number(to, run->is_in_shell_function, ':');
   for (int output = 1; output <= 2; output++)
     to = append_number(to, run->outputs[output].device, '.'), to = append_number(to, run->outputs[output].inode, ':');
   return append_string(to, run->directory);
@@ -87,5 +90,5 @@ static inline char *append_run_variable(char *to, const struct run_variable *run
 static inline size_t max_run_variable_size(const struct run_variable *run) {
   size_t directory_size = 0;
   while (run->directory[directory_size]) directory_size++;
-  return run->socket_name_size + TOKEN_SIZE + 2 + 7 * sizeof "18446744073709551615" + directory_size + 1;
+  return run->socket_name_size + TOKEN_SIZE + 2 + 8 * sizeof "18446744073709551615" + directory_size + 1;
 }

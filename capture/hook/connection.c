@@ -146,7 +146,7 @@ static int open_socket(void) {
 /* Sends HELLO, and stores the server's reply. */
 static int send_hello(void) {
   struct hello hello = {.kind = HELLO, .parent_make = run.variable.make, .parent_recipe = run.variable.recipe, .pid = make_pid,
-                        .is_redirected = run.is_redirected[2]};
+                        .is_redirected = run.is_redirected[2], .is_in_shell_function = run.variable.is_in_shell_function};
   char directory[PATH_MAX];
   struct welcome welcome;
   long size = SYSCALL(getcwd, directory, sizeof directory, 0, 0);

@@ -28,11 +28,12 @@ int hooked_execvp(const char *file, char *const *command) {
   char ***environment = find_function("environ");
   int is_own = current_pid() == make_pid, is_child = environment && !is_own;
   long recipe = is_child ? recipe_number_of(*environment) : -1;
-  if (is_own) report_going_on(); /* make executes itself again because it has remade a makefile */
-  if (recipe > 0 && is_shell_function()) recipe = 0;
+  if (is_own) report_going_on(), set_own_variable(0); /* make executes itself again because it has remade a makefile */
+  int is_function = is_child && is_shell_function();
+  if (recipe > 0 && is_function) recipe = 0;
   if (!is_child || (recipe < 0 && (!is_connected() || has_variable(*environment, RUN_VARIABLE "=")))) return original(file, command);
   int pipe = recipe > 0 && is_connected() ? announce_line(recipe, command) : -1;
-  char **child_environment = build_environment(*environment, recipe, pipe);
+  char **child_environment = build_environment(*environment, recipe, is_function, pipe);
   if (child_environment) *environment = child_environment;
   if (recipe > 0 && is_connected()) report_start(current_pid());
   if (pipe >= 0) redirect_outputs(pipe);

@@ -82,7 +82,9 @@ void report_failure(void);
 int has_variable(char *const *environment, const char *prefix);
 /* Returns the environment of a recipe: without the variables of the capture, and with those that its sub-makes need. If `recipe`
    is -1, it is the environment of another child. Returns NULL if memory can't be allocated. */
-char **build_environment(char *const *environment, long recipe, int pipe);
+char **build_environment(char *const *environment, long recipe, int is_shell_function, int pipe);
+/* Sets CAPTURE_RUN in make's own environment: for $(shell ..), whose children inherit it before 4.4, or for make itself. */
+void set_own_variable(int is_shell_function);
 
 /* failure.c: failures that make ignores */
 

@@ -93,13 +93,14 @@ void report_failure(void) {
   send_note(&failed, sizeof failed, names, failed.names_size, -1);
 }
 
-/* Writes CAPTURE_RUN for the sub-makes of a recipe. A child that is no recipe, such as the one of $(shell ..), gets the value of
-   make itself. An output that is redirected counts as redirected in sub-makes too. */
-static char *append_child_variable(char *to, long recipe, int pipe) {
+/* Writes CAPTURE_RUN for the sub-makes of a recipe. A child that is no recipe gets the value of make itself. An output that is redirected
+   counts as redirected in sub-makes too. */
+static char *append_child_variable(char *to, long recipe, int is_shell_function, int pipe) {
   struct run_variable child = run.variable;
   struct stat found = {0};
   if (pipe >= 0) SYSCALL(fstat, pipe, &found, 0, 0);
-  if (recipe >= 0) child.make = run.make, child.recipe = recipe;
+  if (recipe >= 0) child.make = run.make, child.recipe = recipe, child.is_in_shell_function = 0;
+  child.is_in_shell_function |= is_shell_function;
   for (int output = 1; recipe >= 0 && output <= 2; output++) {
     int is_piped = pipe >= 0 && !run.is_redirected[output] && (output == 2 || run.captures_output);
     if (is_piped) child.outputs[output] = (struct file_identity){found.st_dev, found.st_ino};
@@ -118,7 +119,7 @@ static void append_makefiles(char *to, const char *other_makefiles) {
   if (*other_makefiles && !has_prefix(other_makefiles, capture_def_path)) append_string(append_string(to, " "), other_makefiles);
 }
 
-char **build_environment(char *const *environment, long recipe, int pipe) {
+char **build_environment(char *const *environment, long recipe, int is_shell_function, int pipe) {
   static struct buffer list, values;
   size_t count = 0, variable_count = 0,
          size = sizeof RUN_VARIABLE "=MAKEFILES= " + max_run_variable_size(&run.variable) + string_length(capture_def_path);
@@ -132,9 +133,18 @@ char **build_environment(char *const *environment, long recipe, int pipe) {
   char *to = grow_buffer(&values, size + string_length(other_makefiles));
   if (!variables || !to) return NULL;
   variables[variable_count++] = to;
-  to = append_child_variable(to, recipe, pipe);
+  to = append_child_variable(to, recipe, is_shell_function, pipe);
   variables[variable_count++] = to;
   append_makefiles(to, other_makefiles);
   variables[variable_count] = NULL;
   return variables;
+}
+
+void set_own_variable(int is_shell_function) {
+  static struct buffer variable;
+  int (*setenv_function)(const char *, const char *, int) = find_function("setenv");
+  char *to = grow_buffer(&variable, sizeof RUN_VARIABLE "=" + max_run_variable_size(&run.variable));
+  if (!setenv_function || !to) return;
+  append_child_variable(to, -1, is_shell_function, -1);
+  setenv_function(RUN_VARIABLE, to + sizeof RUN_VARIABLE, 1);
 }

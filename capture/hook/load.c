@@ -64,6 +64,7 @@ EXPORTED int redo_log_capture(const struct location *location) {
     return -1;
   }
   if (replace_imports() < 0) return -1;
+  set_own_variable(1);
   gmk_add_function("redo-log-recipe", announce_recipe, 2, 2, 0);
   gmk_eval("redo-log-loaded := yes", location);
   return -1;

@@ -56,7 +56,7 @@ int hooked_spawn(pid_t *process, const char *path, const posix_spawn_file_action
   if (recipe > 0 && is_connected() && actions && !is_shell_function) announce_once(recipe, command, actions);
   /* Since 4.4, make builds the environment of $(shell ..) from its variables. capture.def has removed what its makes need. */
   int is_bare = recipe < 0 && is_connected() && !has_variable(environment, RUN_VARIABLE "=");
-  if (recipe >= 0 || is_bare) child_environment = build_environment(environment, recipe, pipe_end);
+  if (recipe >= 0 || is_bare) child_environment = build_environment(environment, recipe, is_shell_function, pipe_end);
   pid_t child;
   int error = ORIGINAL(POSIX_SPAWN, spawn_function)(&child, path, actions, attributes, command,
                                                     child_environment ? child_environment : environment);

@@ -602,8 +602,8 @@ def killed_between_messages(checks, at):
 ORDINARY = 1700000000000
 
 
-def hello(token, directory=b"/\0", parent=(0, 0), process=4242, is_redirected=0):
-    return struct.pack("@4sIIiI32s", b"H", *parent, process, is_redirected, token) + directory
+def hello(token, directory=b"/\0", parent=(0, 0), process=4242, is_redirected=0, is_in_shell_function=0):
+    return struct.pack("@4sIIiII32s", b"H", *parent, process, is_redirected, is_in_shell_function, token) + directory
 
 
 def names(part):

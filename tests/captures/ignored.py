@@ -177,6 +177,10 @@ def printed_texts(checks, at):
     makefile = "all: ; @$(MAKE) sub || exit 3\nsub: b c\nb: ; -@exit 4\nc: ; @echo c >&2; exit 5\n"
     told = ran(project(at("cause"), makefile), [TOOL, "make"])[2]
     checks.expect("the last line of another recipe", told.splitlines()[-2:], failed("c").splitlines())
+    # A sub-make is killed, and the make that runs it ignores that.
+    makefile = "all: a b\na: ; -@$(MAKE) --no-print-directory c\nb: ; @exit 5\nc: ; @echo c >&2; kill $$PPID; exec sleep 60\n"
+    told = ran(project(at("killed"), makefile), [TOOL, "make", "-k"])[2]
+    checks.expect("a sub-make that is killed", told.splitlines()[-3:], failed("b", is_empty=True).splitlines())
 
 
 class Messages(faults.Liar):
@@ -259,4 +263,39 @@ def messages(checks, at):
     checks.expect("messages: captures that were removed: statuses", recorded_statuses(build.folder), ({"x": {"5"}}, {"x": {"5"}}))
 
 
-PARTS = (last_lines, languages, unknown_failures, killed_builds, printed_texts, messages)
+# Makefiles in which `$(shell)` runs makes where `probe` fails, and which then fail, and the targets that are named.
+SHELL_FUNCTIONS = {
+    "a recipe": ("all: ; @echo $(shell $(MAKE) -sf other.mk probe); exit 3\n", ["all"]),
+    "a recipe, and a recipe there": ("all: ; @echo $(shell $(MAKE) -sf other.mk mid); exit 3\n", ["all"]),
+    "a make that a recipe runs": ("all: ; @$(MAKE) -sf below.mk\n", ["x"]),
+    "a recipe after it": ("all: a b\na: ; @echo $(shell $(MAKE) -sf other.mk probe); true\nb: ; @$(MAKE) -sf other.mk probe\n", ["probe"]),
+    "a command of --recipe": (f"all: ; @echo $(shell CAPTURE='probe : ' {TOOL} --recipe sh -c 'exit 9'); exit 3\n", ["all"]),
+    "a makefile": ("X := $(shell $(MAKE) -sf other.mk probe)\nall: ; @exit 3\n", ["all"]),
+    "a sub-make that can't go on": ("all: ; @$(MAKE) -sf error.mk\n", ["all"]),
+    "a makefile that is read twice": ("include made.mk\nX := $(shell $(MAKE) -sf other.mk probe)\nall: ; @exit 3\nmade.mk: ; @touch $@\n", ["all"]),
+    "a makefile that is read twice, and what fails then": ("include made.mk\nall: ; @$(MAKE) -sf other.mk probe\nmade.mk: ; @touch $@\n", ["probe"]),
+}
+BELOW = "X = $(shell $(MAKE) -sf other.mk probe)\nx: ; @echo $(X); exit 3\n"
+
+
+def shell_functions(checks, at):
+    """The last lines name nothing that failed in makes of $(shell). The logs have its status."""
+    for number, make in enumerate(makes()):
+        for what, (makefile, names) in SHELL_FUNCTIONS.items():
+            folder = project(at(f"{number} {what}"), makefile)
+            write(os.path.join(folder, OTHER), PROBE + "mid: ; @$(MAKE) -sf other.mk probe\n")
+            write(os.path.join(folder, "below.mk"), BELOW)
+            write(os.path.join(folder, "error.mk"), "X := $(shell $(MAKE) -sf other.mk probe)\n$(error no)\n")
+            status, _, told = ran(folder, [TOOL, "--summary", "summary", make, "-s"])
+            found = re.search(r"^redo-log-capture: \d+ targets? failed: redo-log (.*)$", told, re.M)
+            checks.expect(f"{make}: $(shell): {what}", (status, found and found[1].split()), (2, names))
+            checks.expect(f"{make}: $(shell): {what}: blocks", [name for name in names if f"redo-log-capture: {name} (exit" not in told], [])
+            checks.expect(f"{make}: $(shell): {what}: its status", summary_of(folder).get("probe"), "9")
+            checks.expect(f"{make}: $(shell): {what}: a recipe that failed only because its sub-make did", "redo-log-capture: mid (exit" in told, False)
+        folder = project(at(f"{number} colons"), "X = $(shell $(MAKE) -skf other.mk d)\nall: ; @echo $(X); true\n")
+        write(os.path.join(folder, OTHER), "d:: ; @exit 4\nd:: ; @true\n")
+        status = ran(folder, [TOOL, "--summary", "summary", make, "-s"])[0]
+        checks.expect(f"{make}: $(shell): double-colon rules", (status, summary_of(folder)), (0, {"all": "0", "d": "4"}))
+
+
+PARTS = (last_lines, languages, unknown_failures, killed_builds, printed_texts, messages, shell_functions)
