@@ -29,7 +29,8 @@ pub enum Markup {
     ColorScheme,
     /// Links from the page don't reveal its address. `<meta name="referrer" content="no-referrer">`
     Referrer,
-    /// The page may load nothing and run nothing. `<meta http-equiv="Content-Security-Policy" content="default-src 'none'; style-src 'unsafe-inline'">`
+    /// The page may load nothing and run nothing. `<meta http-equiv="Content-Security-Policy" content="default-src 'none'; style-src
+    /// 'unsafe-inline'">`
     Policy,
     /// The body of the page of a build without a failure. `<body class="good">`
     BodyGood,

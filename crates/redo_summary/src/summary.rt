@@ -58,7 +58,8 @@ impl Model for Summary {
 }
 
 impl Summary {
-    /// Summarizes the times of the targets of some nodes. The target of a node has the times at the position that is the number of its log. Nothing is known of a target past the end of the list. The only error is out of memory.
+    /// Summarizes the times of the targets of some nodes. The target of a node has the times at the position that is the number of its
+    /// log. Nothing is known of a target past the end of the list. The only error is that an allocation failed.
     ///
     /// For n nodes, this takes O(n log n) time.
     pub fn new(alloc: Global, nodes: &[Node], times: &[Times]) -> Result<Summary, AllocError>
