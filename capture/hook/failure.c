@@ -19,7 +19,8 @@ static char *const *program;
 static const unsigned *make_level;
 
 static int has_failed; /* a child has failed since make went on */
-/* How often make changes its signal mask until it no longer prints whether it ignores the last failure; 0 if it has printed that. */
+/* How often make changes its signal mask until it no longer prints whether it ignores the last failure; 0 if it has printed that. It
+   prints this before the last change. What it prints earlier says why it couldn't start a child. */
 static int mask_changes;
 
 void find_message_variables(void) { program = find_function("program"), make_level = find_function("makelevel"); }
@@ -67,13 +68,13 @@ static void read_message(const char *text, size_t size) {
 }
 
 int hooked_fputs(const char *text, void *stream) {
-  if (mask_changes > 0) read_message(text, string_length(text));
+  if (mask_changes == 1) read_message(text, string_length(text));
   return ((fputs_function *)imports[FPUTS].original)(text, stream);
 }
 
 /* With -O, make writes its messages to the file that collects the output of the recipe. */
 ssize_t hooked_write(int descriptor, const void *bytes, size_t size) {
-  if (mask_changes > 0) read_message(bytes, size);
+  if (mask_changes == 1) read_message(bytes, size);
   return ((write_function *)imports[WRITE].original)(descriptor, bytes, size);
 }
 

@@ -23,6 +23,7 @@ BUILDS = {
     "-": ("all: clean x ; @true\nclean: ; -@exit 3\nx: ; -@exit 4\n", "", "all clean x"),
     "lines that can't be started": ("all: a b c d\na: ; -@./nosuch\nb:\n\t@true\n\t-@./nosuch\nc:\n\t-@./nosuch\n\t-@./nosuch\nd:\n\t-@./nosuch\n\t@./nosuch\n", "-k", "a b c d"),
     "a command that can't be executed": ("all: a b\na: ; -@./Makefile\nb: ; @./Makefile\n", "-k", "a b"),
+    "commands whose names look like messages": ("all: a b c\na: ; @'[x] y' z\nb: ; -@'[x] y' z\nc: ; @'*** [x] y' z\n", "-k", "a b c"),
     "a shell whose name looks like a message": ("SHELL = [x\nall: a b\na: ; @true\nb: ; -@true\n", "-k", "a b"),
     ODD_MAKE: ("all: a b\na: ; @exit 3\nb: ; -@exit 3\n", "-k", "a b"),
     "lines before the last one": ("all: a b c\na:\n\t-@exit 3\n\t@exit 4\nb:\n\t-@exit 3\n\t-@exit 4\nc:\n\t-@exit 3\n\t@true\n", "-k", "a b c"),
