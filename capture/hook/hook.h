@@ -69,6 +69,8 @@ char *announce_recipe(const char *function, unsigned count, char **arguments);
 enum { MAX_KEPT = 4096 };
 /* Moves the names of a recipe that are kept for the next message, and returns their size, which is at most MAX_KEPT. */
 size_t take_names(char *to);
+/* Forgets the last recipe if its names are kept: make has expanded the function for another child. */
+void forget_recipe(void);
 
 /* line.c: a line of a recipe, up to its start */
 

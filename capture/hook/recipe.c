@@ -54,3 +54,7 @@ char *announce_recipe(const char *function, unsigned argument_count, char **argu
   if (is_connected() && add_names(arguments[0], arguments[1]) == 0) append_number(number, ++recipe_count, 0);
   return number;
 }
+
+void forget_recipe(void) {
+  if (kept_size > 0) kept_size = 0, recipe_count--;
+}

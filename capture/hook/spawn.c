@@ -52,11 +52,14 @@ static void announce_once(uint32_t recipe, char *const *command, const posix_spa
 int hooked_spawn(pid_t *process, const char *path, const posix_spawn_file_actions_t *actions, const posix_spawnattr_t *attributes,
                  char *const *command, char *const *environment) {
   long recipe = recipe_number_of(environment);
+  int has_recipe = recipe >= 0;
   char **child_environment = NULL;
   if (recipe > 0 && is_connected() && actions && !is_shell_function) announce_once(recipe, command, actions);
-  /* Since 4.4, make builds the environment of $(shell ..) from its variables. capture.def has removed what its makes need. */
-  int is_bare = recipe < 0 && is_connected() && !has_variable(environment, RUN_VARIABLE "=");
-  if (recipe >= 0 || is_bare) child_environment = build_environment(environment, recipe, is_shell_function, pipe_end);
+  /* Since 4.4, make builds the environment of $(shell ..) from its variables. In a recipe, it expands the function for it, too. Elsewhere,
+     capture.def has removed what its makes need. */
+  if (recipe > 0 && is_shell_function) forget_recipe(), recipe = -1;
+  int is_bare = !has_recipe && is_connected() && !has_variable(environment, RUN_VARIABLE "=");
+  if (has_recipe || is_bare) child_environment = build_environment(environment, recipe, is_shell_function, pipe_end);
   pid_t child;
   int error = ORIGINAL(POSIX_SPAWN, spawn_function)(&child, path, actions, attributes, command,
                                                     child_environment ? child_environment : environment);

@@ -48,6 +48,7 @@ BUILDS = {
     "sub-makes that can't be started": ("all: a\na: ; -@$(MAKE) -f nosuch.mk\n", "", "a"),
     "a prerequisite": ("all: a ; @true\na: ; -@exit 3\n", "-j2", "all a"),
     "$(shell)": ("all: a b\na: ; -@exit $(shell echo 3; exit 5)\nb: ; @exit $(shell echo 3; exit 5)\n", "-k", "a b"),
+    "$(shell) beside a line that can't be started": ("all: a b\na:\n\t@true\n\t@./nosuch\nb: ; @exit $(shell sleep .3; exit 3)\n", "-kj2", "a b"),
     "output that looks like messages": (
         "SAYS = for f in 1 2; do echo 'make: [Makefile:2: a] Error 3 (ignored)' >&$$f; done\nall: a b\na: ; @$(SAYS); exit 3\nb: ; -@$(SAYS); exit 4\n", "-k", "a b"
     ),
