@@ -115,8 +115,10 @@ static int is_capture_variable(const char *variable) {
 
 /* Writes MAKEFILES for the sub-makes of a recipe: capture.def, and the value that it would have otherwise. */
 static void append_makefiles(char *to, const char *other_makefiles) {
+  const char *rest = other_makefiles + (has_prefix(other_makefiles, capture_def_path) ? string_length(capture_def_path) : 0);
+  int has_capture_def = rest > other_makefiles && (!*rest || *rest == ' ');
   to = append_string(append_string(to, "MAKEFILES="), capture_def_path);
-  if (*other_makefiles && !has_prefix(other_makefiles, capture_def_path)) append_string(append_string(to, " "), other_makefiles);
+  if (*other_makefiles && !has_capture_def) append_string(append_string(to, " "), other_makefiles);
 }
 
 char **build_environment(char *const *environment, long recipe, int is_shell_function, int pipe) {

@@ -327,9 +327,9 @@ def stale_variables(checks, at):
     checks.expect("a build after it", shown(folder, "all"), "redo  all\nsaid\n")
     plain = ran(folder, ["make", "all"], stale)
     checks.expect("make itself isn't captured", plain, (0, "", "said\n"))
-    folder, other = project(at("other"), "all: ; @echo $(X)\n"), stale["MAKEFILES"] + ".mk"
+    folder, other = project(at("other"), "all: ; @echo $(X); $(MAKE) -s sub\nsub: ; @echo $(X)\n"), stale["MAKEFILES"] + ".mk"
     write(other, "X = other\n")
-    checks.expect("another makefile whose path begins as that of the capture", make(folder, more={"MAKEFILES": other}), (0, "other\n", ""))
+    checks.expect("another makefile whose path begins as that of the capture", make(folder, more={"MAKEFILES": other}), (0, "other\nother\n", ""))
     os.remove(other)
 
 
