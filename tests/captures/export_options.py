@@ -106,7 +106,7 @@ def arguments(checks, at, export):
         status, _, err = ran(folder, [TOOL, "--quiet", option, file, *command], more)
         told = status, err.endswith(unwritten(export, f"{program} exited with status 6"))
         checks.expect(f"{option}, a program that fails: {command}", told, (build_status, True))
-    more["PATH"] = programs(at("gone"), "#!/nowhere\n") + ":" + more["PATH"]
+    more["PATH"] = programs(at("gone"), f"#!{at('none')}\n") + ":" + more["PATH"]
     told = make(folder, "-s", "b", options=[option, file], more=more)
     checks.expect(f"{option}, a program that can't be run", told, (1, "", unwritten(export, f"{program}: No such file or directory")))
 
