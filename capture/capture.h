@@ -580,9 +580,9 @@ int has_command_ended(void);
 /* Returns a wait status as a shell reports it. */
 int shell_status(int wait_status);
 _Noreturn void exec_command(char **command);
-/* Once the command has ended, runs a program with these words, and waits for it. A signal that asks this process to end is passed on,
-   and stored in `*end_signal`. Returns the wait status, or -1 with errno if the program can't be run. */
-int run_program(char **words, int *end_signal);
+/* Once the command has ended, runs a program with these words and this standard output, and waits for it. A signal that asks this process
+   to end is passed on, and stored in `*end_signal`. Returns the wait status, or -1 with errno if the program can't be run. */
+int run_program(char **words, int output, int *end_signal);
 /* Whether a path is a file that can be executed. */
 int is_program(const char *path);
 /* Returns the path of a program in one of the directories of PATH, or NULL. */
@@ -603,6 +603,17 @@ void finish(int status, int must_close);
 void report(const char *command, int is_quiet);
 void write_summary(const char *path);
 
+/* output.c: the files of --summary, --html and --json */
+
+/* Returns the descriptor that a path such as /dev/stdout or /dev/fd/3 names, or -1. */
+int named_descriptor(const char *path);
+/* Exits if the file can't be written when the build has ended. */
+void check_output(const char *path);
+/* Whether one of two files would overwrite the other. */
+int is_same_output(const char *path, const char *other);
+/* Replaces a regular file as a whole; writes to anything else, such as a pipe or a descriptor. Returns -1 and sets errno on failure. */
+int write_output(const char *path, const char *bytes, size_t size);
+
 /* export.c: the files that other programs write when the build has ended */
 
 enum { EXPORT_COUNT = 2 };
@@ -611,6 +622,7 @@ struct export {
   const char *program;
   const char *path; /* of the file; NULL if the option isn't given */
   char *words[4];   /* the command line of the program */
+  int output;       /* the standard output of the program */
 };
 extern struct export exports[EXPORT_COUNT];
 /* Exits if there is no such program. */

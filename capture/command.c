@@ -106,9 +106,10 @@ void exec_command(char **words) {
 }
 
 /* Runs in the child. If the server is killed, the system kills the command too. */
-static _Noreturn void exec_child(char **words, pid_t parent, int failure) {
+static _Noreturn void exec_child(char **words, int output, pid_t parent, int failure) {
   prctl(PR_SET_PDEATHSIG, SIGKILL);
   if (getppid() != parent) _exit(1);
+  if (output != 1) dup2(output, 1);
   setrlimit(RLIMIT_NOFILE, &former_files);
   setrlimit(RLIMIT_FSIZE, &former_file_size);
   sigaction(SIGPIPE, &former_pipe, NULL);
@@ -164,13 +165,14 @@ static void kill_witness(void) {
   witness_pid = 0;
 }
 
-/* Starts a process that runs these words. Returns -1 if none can be created. Sets `*exec_error` if it can't run them. */
-static pid_t start_child(char **words, int *exec_error) {
+/* Starts a process that runs these words with this standard output. Returns -1 if none can be created. Sets `*exec_error` if it can't run
+   them. */
+static pid_t start_child(char **words, int output, int *exec_error) {
   int failure[2], error;
   *exec_error = 0;
   if (pipe2(failure, O_CLOEXEC) < 0) return -1;
   pid_t parent = getpid(), child = fork();
-  if (child == 0) exec_child(words, parent, failure[1]);
+  if (child == 0) exec_child(words, output, parent, failure[1]);
   error = errno;
   close(failure[1]);
   ssize_t size;
@@ -183,18 +185,18 @@ static pid_t start_child(char **words, int *exec_error) {
 
 void start_command(char **words) {
   int exec_error;
-  command_pid = start_child(words, &exec_error);
+  command_pid = start_child(words, 1, &exec_error);
   if (command_pid < 0) die(126, "cannot start %s: %s", words[0], strerror(errno));
   if (exec_error) die_cannot_run(words[0], exec_error);
   start_witness();
 }
 
 /* Once the process was waited for, its number may be another one's, so it gets no signal. */
-int run_program(char **words, int *end_signal) {
+int run_program(char **words, int output, int *end_signal) {
   struct pollfd ready = {signal_fd, POLLIN, 0};
   struct signalfd_siginfo info;
   int exec_error, wait_status = -1, is_running = 1;
-  pid_t process = start_child(words, &exec_error);
+  pid_t process = start_child(words, output, &exec_error);
   if (process >= 0 && exec_error) errno = exec_error;
   if (process < 0 || exec_error) return -1;
   while (is_running) {

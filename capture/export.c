@@ -27,7 +27,8 @@ void prepare_export(struct export *export) {
   export->words[0] = find_program(export->program);
   if (!export->words[0]) die(1, "%s needs %s, which isn't found", export->option, export->program);
   export->words[1] = xasprintf("--dir=%s", directory_name);
-  export->words[2] = xasprintf("--output=%s", export->path);
+  export->output = named_descriptor(export->path);
+  if (export->output < 0) export->output = 1, export->words[2] = xasprintf("--output=%s", export->path);
 }
 
 void write_export(struct export *export) {
@@ -39,7 +40,7 @@ void write_export(struct export *export) {
   } else if (end_signal) {
     snprintf(cause, sizeof cause, "interrupted by %s", signal_name(end_signal));
   } else {
-    int wait_status = run_program(export->words, &end_signal);
+    int wait_status = run_program(export->words, export->output, &end_signal);
     if (wait_status == 0) return;
     if (wait_status < 0) snprintf(cause, sizeof cause, "%s: %s", export->program, strerror(errno));
     else if (WIFSIGNALED(wait_status))

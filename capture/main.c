@@ -2,8 +2,6 @@
 #define _GNU_SOURCE
 #include "capture.h"
 #include "protocol.h"
-#include <errno.h>
-#include <fcntl.h>
 #include <stdlib.h>
 #include <string.h>
 #include <sys/stat.h>
@@ -107,24 +105,12 @@ static int parse_seconds(const char *text) {
   return seconds;
 }
 
-/* Exits if the build can't write this file when it has ended. */
-static void check_output_file(const char *path) {
-  struct stat found;
-  int is_replaced = lstat(path, &found) < 0 || S_ISREG(found.st_mode); /* otherwise it is written, such as a pipe */
-  char *checked = is_replaced ? xasprintf("%.*s.", (int)(base_name(path) - path), path) : xasprintf("%s", path);
-  int error = faccessat(AT_FDCWD, checked, is_replaced ? W_OK | X_OK : W_OK, AT_EACCESS) < 0 ? errno : 0;
-  if (!is_replaced && error == ENOENT) error = 0; /* a link to a file that doesn't exist yet */
-  if (!is_replaced && stat(path, &found) == 0 && S_ISDIR(found.st_mode)) error = EISDIR;
-  if (error) die(1, "cannot write %s: %s", path, strerror(error));
-  free(checked);
-}
-
 static _Noreturn void capture_build(char **command) {
   if (is_within_run()) exec_command(command);
   check_directory();
-  if (summary) check_output_file(summary);
+  if (summary) check_output(summary);
   for (int i = 0; i < EXPORT_COUNT; i++)
-    if (exports[i].path) check_output_file(exports[i].path), prepare_export(&exports[i]);
+    if (exports[i].path) check_output(exports[i].path), prepare_export(&exports[i]);
   if (progress_seconds) start_progress(progress_seconds);
   block_signals();
   prepare_environment(command[0]);
@@ -184,7 +170,7 @@ static char **parse_options(char **arguments) {
 }
 
 static void check_is_other(const struct export *export, const char *option, const char *path) {
-  if (path && is_same_path(path, export->path)) die(2, "%s: %s writes this file, too: %s", export->option, option, export->path);
+  if (path && is_same_output(path, export->path)) die(2, "%s: %s writes this file, too: %s", export->option, option, export->path);
 }
 
 static void check_exports(void) {

@@ -3,11 +3,9 @@
 #include "capture.h"
 #include "protocol.h"
 #include <errno.h>
-#include <fcntl.h>
 #include <signal.h>
 #include <stdlib.h>
 #include <string.h>
-#include <sys/stat.h>
 #include <unistd.h>
 
 /* The maximum number of targets that a line names. */
@@ -212,35 +210,14 @@ static void write_summary_line(FILE *stream, const struct target *target) {
   else fprintf(stream, " %s %lld\n", format_time(processor_time), (long long)target->run.usage.peak_kb);
 }
 
-enum { MAX_TEMPORARY_NAMES = 1000 };
-
-/* Creates a new file beside a path, and sets its name, as --output of the other programs does. Returns -1 on failure. */
-static int create_temporary(const char *path, char **name) {
-  for (int number = 0; number < MAX_TEMPORARY_NAMES; number++) {
-    *name = xasprintf("%s.tmp%d", path, number);
-    int file = open(*name, O_WRONLY | O_CREAT | O_EXCL | O_NOFOLLOW | O_CLOEXEC, 0666);
-    if (file >= 0 || errno != EEXIST) return file;
-    free(*name);
-  }
-  errno = EEXIST;
-  return -1;
-}
-
-/* Replaces a regular file atomically; writes to anything else, such as a pipe or a device. */
 void write_summary(const char *path) {
-  struct stat found;
-  int is_replaced = lstat(path, &found) < 0 || S_ISREG(found.st_mode);
-  char *rows, *temporary = NULL;
+  char *rows;
   size_t size, count = 0;
   FILE *stream = xopen_memstream(&rows, &size);
   struct target **sorted = is_capturing() ? sorted_targets(&count) : NULL;
   for (size_t i = 0; i < count; i++) write_summary_line(stream, sorted[i]);
   xclose_memstream(stream);
-  int file = is_replaced ? create_temporary(path, &temporary) : open(path, O_WRONLY | O_CREAT | O_TRUNC | O_CLOEXEC, 0666);
-  int is_written = file >= 0 && write_all(file, rows, size) == 0;
-  if (file >= 0 && close(file) < 0) is_written = 0;
-  if (is_written && (!is_replaced || rename(temporary, path) == 0)) return;
+  if (write_output(path, rows, size) == 0) return;
   warn("cannot write %s: %s", path, strerror(errno));
-  if (temporary && file >= 0) unlink(temporary);
   failed_writes++;
 }

@@ -136,6 +136,26 @@ def together(checks, at):
 
 
 @of_each
+def descriptors(checks, at, export):
+    """What a descriptor's file has stays: the program's standard output follows."""
+    folder = project(at("some"), "all: ; @echo x >&2\n")
+    more = {"PATH": path_with(programs(at("programs"))), "READ": "Makefile"}
+    for name, shift in (("/dev/stdout", ">>file"), ("/dev/fd/1", ">>file"), ("/dev/fd/7", "7>>file"), ("/dev/stderr", "2>>file")):
+        write(os.path.join(folder, "file"), "old\n")
+        script = f"{TOOL} --quiet --summary /dev/null {export.option} {name} make -s {shift}"
+        told = ran(folder, ["bash", "-c", script], more)
+        checks.expect(f"{export.option} {name}", (told, contents(folder, "file")), ((0, "", ""), f"old\n{export.program}\n"))
+        checks.expect(f"{export.option} {name}: the arguments", contents(folder, f"{export.program}.notes"), f"--dir={CAPTURES}\n")
+    told = ran(folder, ["bash", "-c", f"{TOOL} --quiet {export.option} /dev/fd/7 make -s 7>&-"], more)
+    checks.expect(f"{export.option}: a closed descriptor", told, (1, "", "redo-log-capture: cannot write /dev/fd/7: Bad file descriptor\n"))
+    # One file may have the page, the JSON and what the build printed.
+    script = f"{TOOL} --quiet --json /dev/stderr --html /dev/stdout --summary /dev/fd/7 make -s >file 2>&1 7>&1"
+    checks.expect("one file", ran(folder, ["bash", "-c", script], more)[0], 0)
+    lines = contents(folder, "file").splitlines()
+    checks.expect("one file has all", (lines[0].split()[0::3][:2], lines[1:]), (["0", "all"], [export.program for export in EXPORTS]))
+
+
+@of_each
 def nothing_captured(checks, at, export):
     option, file = export.option, export.file
     folder = project(at("none"), "all: ; @echo x >&2; touch all\n")
@@ -161,6 +181,8 @@ def refused(checks, at, export):
     more = {"PATH": path_with(programs(at("programs")))}
     os.mkdir(os.path.join(folder, "sub"))
     os.symlink("sub", os.path.join(folder, "link"))
+    os.symlink("kept", os.path.join(folder, "file"))
+    write(os.path.join(folder, "kept"), "mine\n")
     for words, status, text in (
         ([option], 2, f"{option}: no file given"),
         ([f"{option}=", "make"], 2, f"{option}: no file given"),
@@ -173,13 +195,18 @@ def refused(checks, at, export):
         ([option, "./x", "--summary", "x", "make"], 2, f"{option}: --summary writes this file, too: ./x"),
         ([option, "x", "--summary", f"{folder}/sub//../x", "make"], 2, f"{option}: --summary writes this file, too: x"),
         (["--json", "link/x", "--html", "sub/x", "make"], 2, "--json: --html writes this file, too: link/x"),
+        (["--json", "kept", "--html", "file", "make"], 2, "--json: --html writes this file, too: kept"),
+        ([option, "file", "--summary", "kept", "make"], 2, f"{option}: --summary writes this file, too: file"),
     ):
         checks.expect(f"refused: {words}", ran(folder, [TOOL, *words], more), (status, "", f"redo-log-capture: {text}\n"))
     os.makedirs(os.path.join(at("other"), program))
     for path in (path_without(program), at("other") + ":" + path_without(program)):
         told = ran(folder, [TOOL, option, "x", "make"], {"PATH": path})
         checks.expect(f"no {program}", told, (1, "", f"redo-log-capture: {option} needs {program}, which isn't found\n"))
-    checks.expect("nothing was made", sorted(os.listdir(folder)), ["Makefile", "link", "sub"])
+    checks.expect("nothing was made", sorted(os.listdir(folder)), ["Makefile", "file", "kept", "link", "sub"])
+    told = subprocess.run(["bash", "-c", f"{TOOL} --quiet --summary /dev/stdout {option} kept make >>kept"], cwd=folder, env=environment(more), capture_output=True, text=True)
+    wanted = (2, f"redo-log-capture: {option}: --summary writes this file, too: kept\n", "mine\n")
+    checks.expect("refused: the file of standard output", (told.returncode, told.stderr, contents(folder, "kept")), wanted)
 
 
 # The first and the last codes of each length, and what isn't well-formed: a part of a sequence, overlong forms, surrogates, large codes.
@@ -346,6 +373,6 @@ def real_files(checks, at):
     checks.expect("the files of the build before", [contents(folder, export.file) for export in EXPORTS], files)
 
 
-PARTS = (arguments, together, nothing_captured, refused, other_encodings, beside, in_path, signals, given_up, real_files)
+PARTS = (arguments, together, descriptors, nothing_captured, refused, other_encodings, beside, in_path, signals, given_up, real_files)
 # Memory is refused by a preloaded library.
 WITHOUT_SANITIZERS = (out_of_memory,)

@@ -379,6 +379,30 @@ def summaries(checks, at):
     checks.expect("no name is left: files", len(os.listdir(folder)), len(left) + 998)
 
 
+def summaries_to_descriptors(checks, at):
+    """What a descriptor's file has stays: the summary follows, as the output of a shell's commands does."""
+    folder = project(at("descriptors"), "all: ; @echo made\n")
+    for name, before, shift, after in (
+        ("/dev/stdout", "old\nfirst\nmade\n", ">>file", "last\n"),
+        ("/dev/fd/1", "first\nmade\n", ">file", "last\n"),
+        ("/dev/stderr", "old\n", "2>>file", ""),
+        ("/dev/fd/7", "old\n", "7>>file", ""),
+        ("/dev/fd/7", "", "7>file", ""),
+        ("/dev/fd/10", "old\nfirst\nmade\n", "10>&1 >>file 10>&1", "last\n"),
+    ):
+        write(os.path.join(folder, "file"), "old\n")
+        script = f"{{ echo first; {TOOL} --quiet --summary {name} make -s; echo last; }} {shift}"
+        status = ran(folder, ["bash", "-c", script])[0]
+        found = re.sub(r"^0 \d+\.\d{3} 1 all \d+\.\d{3} \d+\n", "ROW\n", contents(os.path.join(folder, "file")), flags=re.M)
+        checks.expect(f"a summary to {name}, {shift}", (status, found), (0, before + "ROW\n" + after))
+    status, out, _ = ran(folder, ["bash", "-c", f"{TOOL} --quiet --summary >(cat >&2) make -s 2>&1 | cat; {TOOL} --quiet --summary /dev/stdout make -s"])
+    checks.expect("a summary to pipes", (status, [line.split()[0::3] for line in out.splitlines()]), (0, [["made"], ["made"], ["0", "all"]]))
+    for name, closed in (("/dev/fd/7", "7>&-"), ("/dev/fd/0", "<Makefile"), ("/dev/fd/8", "8<Makefile")):
+        told = ran(folder, ["bash", "-c", f"{TOOL} --quiet --summary {name} make {closed}"])
+        checks.expect(f"a summary to {name}, {closed}", told, (1, "", f"redo-log-capture: cannot write {name}: Bad file descriptor\n"))
+    checks.expect("what it would have overwritten", contents(os.path.join(folder, "Makefile")), "all: ; @echo made\n")
+
+
 class Watched:
     """A build with --progress=1, and the lines that it has printed."""
 
@@ -527,7 +551,8 @@ def refused_directories(checks, at):
 
 
 PARTS = (
-    what_failed, below, heads_of_parents, ignored_failures, ignored_last_lines, failed_commands, live, last_words, printed_something, interrupted, progress, summaries, uncaptured,
+    what_failed, below, heads_of_parents, ignored_failures, ignored_last_lines, failed_commands, live, last_words, printed_something, interrupted, progress, summaries,
+    summaries_to_descriptors, uncaptured,
     refused_directories, directories,
 )  # fmt: skip
 # The parts that sanitizers can't run.
