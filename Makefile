@@ -7,6 +7,7 @@
 #                       pages, completions for bash, zsh and fish, and the files of install-capture;
 #                       `make -o build install` installs the programs as they were built before
 # make install-capture  installs $(PREFIX)/bin/redo-log-capture, which captures builds by make, and the files that it needs
+# make uninstall        removes what `make install` installs with the same PREFIX; `make uninstall-capture` what install-capture does
 # make deb              proves and builds the programs, and creates the Debian package out/redo-log_VERSION_amd64.deb;
 #                       `make -o build deb` packs the programs as they were built before
 # make dist             does the same with the archive out/redo-log-VERSION-linux-x86_64.tar.gz, for any prefix
@@ -25,9 +26,16 @@ HOOK_FLAGS = -std=gnu11 -Wall -Wextra -O2 -fPIC -shared -nostdlib -ffreestanding
 # GCC's option against replacing loops by calls of the C library.
 NO_LIBRARY_LOOPS = $(shell $(CC) -fno-tree-loop-distribute-patterns -E -x c /dev/null >/dev/null 2>&1 && \
   echo -fno-tree-loop-distribute-patterns)
+# What is installed, relative to the prefix. FILES_OF: the files of a program, apart from those in libexec.
+FILES_OF = bin/$(1) share/man/man1/$(1).1 share/bash-completion/completions/$(1) $(ZSH_FUNCTIONS)/_$(1) \
+  share/fish/vendor_completions.d/$(1).fish
+CAPTURE_FILES = $(call FILES_OF,redo-log-capture) libexec/redo-log/capture.def libexec/redo-log/capture.so
+OTHER_FILES = $(ZSH_FUNCTIONS)/_redo_log_names \
+  $(foreach program,redo-log redo-log-html redo-log-json redo-log-new,$(call FILES_OF,$(program)) libexec/redo-log/$(program))
+REMOVE = rm -f $(foreach file,$(1),'$(DEST)/$(file)') && { rmdir '$(DEST)/libexec/redo-log' 2>/dev/null || :; }
 VERSION = $(shell sed -n 's/^const VERSION.*redo-log \([0-9.]*\).*/\1/p' crates/redo_log_cli/src/program.rt)
 
-.PHONY: try run check build install install-capture deb dist version
+.PHONY: try run check build install install-capture uninstall uninstall-capture deb dist version
 
 try:
 	@stderr_file=$$(mktemp) && cd crates/redo_log && \
@@ -80,6 +88,13 @@ install-capture:
 	install -D -m 644 shell/redo-log-capture.bash '$(DEST)/share/bash-completion/completions/redo-log-capture'
 	install -D -m 644 shell/_redo-log-capture '$(DEST)/$(ZSH_FUNCTIONS)/_redo-log-capture'
 	install -D -m 644 shell/redo-log-capture.fish '$(DEST)/share/fish/vendor_completions.d/redo-log-capture.fish'
+
+# Other directories stay, because other programs may use them.
+uninstall: uninstall-capture
+	$(call REMOVE,$(OTHER_FILES))
+
+uninstall-capture:
+	$(call REMOVE,$(CAPTURE_FILES))
 
 deb dist: build
 	@packaging/pack $@ '$(PACKAGES)'
