@@ -1,7 +1,8 @@
 /* Failures that make ignores: because of `-`, .IGNORE or -i, or when it remakes a makefile that it can do without. What make prints about
    a failed child says so: `make: *** [Makefile:2: x] Error 1` if the failure counts, `make: [Makefile:2: x] Error 1 (ignored)` if it
-   doesn't. `*** ` isn't translated. With -s, make prints nothing about a failure that it ignores, and nothing at all about a makefile that
-   it can do without. Then only its success says that it ignored failures. Such a makefile still counts if a goal needs it.
+   doesn't. `*** ` isn't translated. With -s, make prints nothing about a failure that it ignores, and something about each other one. It
+   never prints anything about a makefile that it can do without. Then only its success says that it ignored failures. Such a makefile still
+   counts if a goal needs it.
 
    make prints this before it blocks signals to remove the child from its list. Later messages are about other things, even if they look
    alike. After a child that it couldn't start, make first unblocks signals. */
@@ -14,21 +15,39 @@ typedef int fputs_function(const char *, void *);
 typedef ssize_t write_function(int, const void *, size_t);
 typedef int sigprocmask_function(int, const void *, void *);
 
-/* make's own variables for the start of its messages; NULL if make doesn't export them. */
+/* make's own variables; NULL if make doesn't export them. The first two begin its messages. */
 static char *const *program;
 static const unsigned *make_level;
+static const int *run_silent, *rebuilding_makefiles;
 
 static int has_failed; /* a child has failed since make went on */
 /* How often make changes its signal mask until it no longer prints whether it ignores the last failure; 0 if it has printed that. It
    prints this before the last change. What it prints earlier says why it couldn't start a child. */
 static int mask_changes;
+static int is_silent; /* make has printed nothing since a child that it had started failed */
+static int has_remade; /* a line began while make remade makefiles; it may end later */
 
-void find_message_variables(void) { program = find_function("program"), make_level = find_function("makelevel"); }
+void find_message_variables(void) {
+  program = find_function("program"), make_level = find_function("makelevel");
+  run_silent = find_function("run_silent"), rebuilding_makefiles = find_function("rebuilding_makefiles");
+}
 
-void note_failure(int is_started) { has_failed = 1, mask_changes = is_started ? 1 : 2; }
+void note_failure(int is_started) { has_failed = 1, mask_changes = is_started ? 1 : 2, is_silent = is_started; }
+
+void note_line(void) { has_remade |= rebuilding_makefiles && *rebuilding_makefiles; }
+
+static void report_ignored(void) {
+  struct ignored ignored = {IGNORED};
+  if (is_connected()) send_note(&ignored, sizeof ignored, NULL, 0, -1);
+}
+
+/* Whether make would have printed something if the failure counted. */
+static int is_silence_known(void) {
+  return run_silent && *run_silent && rebuilding_makefiles && !has_remade && is_imported(FPUTS) && is_imported(WRITE);
+}
 
 int hooked_sigprocmask(int how, const void *mask, void *former) {
-  if (mask_changes > 0) mask_changes--;
+  if (mask_changes > 0 && --mask_changes == 0 && is_silent && is_silence_known()) report_ignored();
   return ((sigprocmask_function *)imports[SIGPROCMASK].original)(how, mask, former);
 }
 
@@ -59,12 +78,12 @@ static int has_brackets(const char *text, const char *end) {
 /* Reads what make prints. Other messages may precede the one about the child. */
 static void read_message(const char *text, size_t size) {
   const char *end = text + size;
-  struct ignored ignored = {IGNORED};
+  is_silent = 0;
   if (!program || !make_level || !is_imported(SIGPROCMASK) || !skip_prefix(&text, end)) return;
   int counts = skip_string(&text, end, "*** ");
   if (!has_brackets(text, end)) return;
   mask_changes = 0;
-  if (!counts && is_connected()) send_note(&ignored, sizeof ignored, NULL, 0, -1);
+  if (!counts) report_ignored();
 }
 
 int hooked_fputs(const char *text, void *stream) {

@@ -91,6 +91,8 @@ void set_own_variable(int is_shell_function);
 /* failure.c: failures that make ignores */
 
 void find_message_variables(void);
+/* A line of a recipe is about to begin. */
+void note_line(void);
 /* A child has failed, or could not be started. */
 void note_failure(int is_started);
 /* Tells the server that make ignores all failures so far, unless there is none since the last call. */

@@ -62,6 +62,7 @@ int announce_line(uint32_t recipe, char *const *command) {
   struct line_message line = {LINE, recipe, wall_clock_ms(), server_asks() || !run.is_captured, take_names(body)};
   int pair[2] = {-1, -1}, reply = -1;
   char *words = body + line.names_size;
+  note_line();
   size_t size = join_words(command, words);
   line.wants_reply |= may_remove(words, size);
   size += line.names_size;

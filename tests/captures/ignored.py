@@ -110,6 +110,24 @@ def last_lines(checks, at):
                 checks.expect(f"{make}: {what}, {option}: other logs", {name for name in others if others[name] != {wanted[name]}}, set())
 
 
+def silent_builds(checks, at):
+    """With -s, make prints nothing about a failure that it ignores. The statuses are those of the same build without -s."""
+    for number, make in enumerate(makes()):
+        for what, (makefile, words, names) in BUILDS.items():
+            for how, program, front in (("-s", [make, "-s"], ""), (".SILENT", [make], ".SILENT:\n")):
+                folder = project(at(f"{number} {what} {how}"), makefile)
+                write(os.path.join(folder, OTHER), SECOND)
+                status, _, err = ran(folder, [make, *words.split()])
+                if re.search(r"Error 12[67] \(ignored\)", err):
+                    continue  # a command that make can't start
+                write(os.path.join(folder, "Makefile"), front + makefile)
+                found = ran(folder, [TOOL, "--summary", "summary", *program, *words.split()])[0], summary_of(folder)
+                checks.expect(f"{make}: {what}, {how}", found, (status, wanted_statuses(err, names)))
+    makefile, made = "all: a b c\na c: ; -@exit 3\nb: ; @exit 4\n", "redo-log-capture: 1 target failed: redo-log b"
+    told = ran(project(at("named"), makefile), [TOOL, "make", "-sk"])[2]
+    checks.expect("a silent build names what it doesn't ignore", [line for line in told.splitlines() if " failed: " in line], [made])
+
+
 def languages(checks, at):
     """make translates its messages, except for the mark of a failure that counts. Without standard error, it prints none."""
     folder = project(at("languages"), "all: a b\na: ; -@exit 3\nb: ; @exit 4\n")
@@ -123,9 +141,16 @@ def languages(checks, at):
             checks.expect(f"make {words} {where}", summary_of(folder), {"a": "0", "b": "4"})
 
 
+WAIT = "for i in $$(seq 2000); do [ ! -e %s ] || break; sleep 0.01; done"
 # Builds in which make prints nothing about a failure, and something else looks like its message.
 UNKNOWN = {
-    "-s": ("all: a b\na: ; -@exit 3\nb: ; @true $(info make: *** [Makefile:2: a] Error 3)\n", "-s", {"a": "3", "b": "0"}),
+    "-s, and -include": ("-include a\nall: b\na: ; @exit 3\nb: ; @true\n", "-s", {"a": "3", "b": "0"}),
+    "-s, and - in the recipe of a makefile": ("-include a\nall: b\na: ; -@exit 3\nb: ; @true\n", "-s", {"a": "3", "b": "0"}),
+    "-s, and a line for a makefile that ends later": (
+        f"-include a\nall: b\na: p q ; @touch a\np: ; @exit 3\nq: ; @{WAIT % 'begun'}; touch ended; exit 5\nb: ; @touch begun; {WAIT % 'ended'}\n",
+        "-sj3", {"b": "0", "p": "3", "q": "5"},
+    ),
+    "-s, and a line that can't be started": ("all: a b\na: ; -@./nosuch\nb: ; @true\n", "-s", {"a": "127", "b": "0"}),
     "-include": ("-include a\nall: b\na: ; @exit 3\nb: ; @true $(info make: [Makefile:3: a] Error 3 (ignored))\n", "", {"a": "3", "b": "0"}),
     "-include, and -O": ("-include a\nall: b\na: ; @exit 3\nb: ; @true $(info make: [Makefile:3: a] Error 3 (ignored))\n", "-j2 -O", {"a": "3", "b": "0"}),
     "-include, -O and a line that can't be started": (
@@ -300,4 +325,4 @@ def shell_functions(checks, at):
         checks.expect(f"{make}: $(shell): double-colon rules", (status, summary_of(folder)), (0, {"all": "0", "d": "4"}))
 
 
-PARTS = (last_lines, languages, unknown_failures, killed_builds, printed_texts, messages, shell_functions)
+PARTS = (last_lines, silent_builds, languages, unknown_failures, killed_builds, printed_texts, messages, shell_functions)

@@ -638,6 +638,11 @@ def is_untold(rule):
     return rule.make.is_err_lost or (rule.make.is_silent and is_tolerated)
 
 
+def is_unknown(rule):
+    """Whether a line of the recipe may fail and nobody can know whether make ignores that."""
+    return is_untold(rule) and (rule.make.is_err_lost or any(line.kind == "missing" for line in rule.lines))
+
+
 def compared(seed, folder, tool=TOOL, program=PROGRAM):
     """Runs both builds and returns the differences, and what else is wrong."""
     build = Build(seed)
@@ -649,7 +654,9 @@ def compared(seed, folder, tool=TOOL, program=PROGRAM):
                 build.recipe_count[make.name(local)] += bool(rule.lines)
                 makers.update({(make, make.name(local))} if rule.lines else ())
     build.maker_count = Counter(name for _, name in makers)
-    build.untold = {make.name(local) for make in build.makes for rule in make.rules for local in rule.locals if is_untold(rule)}
+    build.untold, build.unknown = (
+        {make.name(local) for make in build.makes for rule in make.rules for local in rule.locals if holds(rule)} for holds in (is_untold, is_unknown)
+    )
     plain = Outcome(build, folder, "plain", build.command)
     summary = os.path.join(folder, "summary")
     captured = Outcome(build, folder, "captured", [tool, *build.options, "--summary", summary, *build.command])
@@ -778,7 +785,7 @@ def status_differences(build, plain, logs, words, summary):
     if unknown:
         yield f"unknown targets in the summary: {unknown}"
     for name, status in statuses.items():
-        if name in build.untold:
+        if name in build.unknown:
             continue
         wanted = possible.get(name, {0})
         if status not in map(str, wanted):
@@ -845,8 +852,8 @@ def message_differences(build, captured, printed, words):
     is_cut = any(re.search(r"\d+ more|\d+ of them", message) for message in printed.messages if "failed" in message)
     if failed - named - shared and not is_cut:
         yield f"not named as failed: {failed - named - shared}; named: {named}"
-    if named - untolerated - shared - build.untold:
-        yield f"named as failed: {named - untolerated - shared - build.untold}"
+    if named - untolerated - shared - build.unknown:
+        yield f"named as failed: {named - untolerated - shared - build.unknown}"
 
 
 def named_by(message):
