@@ -4,6 +4,7 @@
 #include <errno.h>
 #include <fcntl.h>
 #include <limits.h>
+#include <signal.h>
 #include <stdlib.h>
 #include <string.h>
 #include <sys/file.h>
@@ -152,8 +153,8 @@ static int lock_directory(void) {
   return -1;
 }
 
-/* Returns whether another process has the lock, and sets its number; 0 if it hasn't written that yet. Other runs aren't noticed if the
-   file system has no locks. */
+/* Returns whether another process has the lock, and sets its number; 0 if it hasn't written that yet. The file may still have the number of
+   an earlier process. Other runs aren't noticed if the file system has no locks. */
 static int acquire_lock(int *owner) {
   char number[32] = "", *line = xasprintf("%d\n", (int)getpid());
   int is_locked = lock_directory();
@@ -166,6 +167,7 @@ static int acquire_lock(int *owner) {
   }
   free(line);
   *owner = atoi(number);
+  if (*owner > 0 && kill(*owner, 0) < 0 && errno == ESRCH) *owner = 0;
   return is_locked == 1;
 }
 

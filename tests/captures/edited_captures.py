@@ -218,17 +218,22 @@ def refused(checks, at):
 
 
 def locked_without_number(checks, at):
-    """Another process has just locked the directory, and hasn't written its number yet."""
+    """Another process has just locked the directory, and hasn't written its number yet. An earlier process may have left its own."""
     folder = placed(at("locked"))
     make(folder, "-s", "N=1")
     write(f"{folder}/{CAPTURES}/.capture/run", "running 1\n")
     before = sorted((name, read(f"{folder}/{CAPTURES}/{name}")) for name in os.listdir(f"{folder}/{CAPTURES}") if name != ".capture")
-    with open(f"{folder}/{CAPTURES}/.capture/lock", "w", encoding="utf-8") as lock:
-        fcntl.flock(lock, fcntl.LOCK_EX)
-        told = f"{CAPTURES} is in use by another build"
-        checks.expect("locked, without a number: finished", ran(folder, [TOOL, "--finish"]), (1, "", f"redo-log-capture: {told}\n"))
-        (status, out, _), reports = built(folder, [TOOL], "N=2")
-        checks.expect("locked, without a number: make", (status, out, reports), (0, "made\n", [f"{told}: this build is not captured"]))
+    earlier = subprocess.Popen(["true"])
+    earlier.wait()
+    for what, number, named in (("without a number", "", ""), ("an earlier number", f"{earlier.pid}\n", ""), ("a number", f"{os.getpid()}\n", f", process {os.getpid()}")):
+        with open(f"{folder}/{CAPTURES}/.capture/lock", "w", encoding="utf-8") as lock:
+            fcntl.flock(lock, fcntl.LOCK_EX)
+            lock.write(number)
+            lock.flush()
+            told = f"{CAPTURES} is in use by another build{named}"
+            checks.expect(f"locked, {what}: finished", ran(folder, [TOOL, "--finish"]), (1, "", f"redo-log-capture: {told}\n"))
+            (status, out, _), reports = built(folder, [TOOL], "N=2")
+            checks.expect(f"locked, {what}: make", (status, out, reports), (0, "made\n", [f"{told}: this build is not captured"]))
     checks.expect("locked, without a number: the journal", read(f"{folder}/{CAPTURES}/.capture/run"), "running 1\n")
     after = sorted((name, read(f"{folder}/{CAPTURES}/{name}")) for name in os.listdir(f"{folder}/{CAPTURES}") if name != ".capture")
     checks.expect("locked, without a number: the captures", after, before)
