@@ -364,6 +364,13 @@ def summaries(checks, at):
     checks.expect("where it can't be", make(folder, "A=0", options=["--summary", "none/sum"]), (1, "", told))
     checks.expect("without a name", make(folder, options=["--summary="])[0::2], (2, "redo-log-capture: --summary: no file given\n"))
 
+    # Only the first of two makes counts. `a` ends before `b` begins, and notes the time before its make begins.
+    folder = project(at("twice"), "NOW = date +%s.%N >$@.time\nall: b\na: ; @$(NOW); $(MAKE) -s x\nb: a ; @$(NOW); sleep 0.1; $(MAKE) -s x\nx: ; @true\n")
+    checks.expect("a target made twice: make", make(folder, options=["--summary", "sum"])[0], 0)
+    seconds = {row.split()[3]: float(row.split()[1]) for row in contents(os.path.join(folder, "sum")).splitlines()}
+    between = float(contents(os.path.join(folder, "b.time"))) - float(contents(os.path.join(folder, "a.time")))
+    checks.expect(f"a target made twice, {seconds}, {between}", seconds["x"] <= between + 0.002, True)
+
     # Files beside it stay, even one that is a link.
     folder = project(at("beside"), "all: ; @true\n")
     for name in ("sum.new", "kept", "sum.tmp1"):
