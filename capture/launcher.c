@@ -5,7 +5,6 @@
 #include "run_variable.h"
 #include "terminal.h"
 #include <signal.h>
-#include <spawn.h>
 #include <stdlib.h>
 #include <string.h>
 #include <sys/resource.h>
@@ -131,21 +130,16 @@ static void export_command_run(int pipe) {
   set_run_variable(&run);
 }
 
-static pid_t spawn_command(char **command, int pipe, const sigset_t *former_mask) {
-  posix_spawnattr_t attributes;
-  posix_spawn_file_actions_t actions;
-  pid_t process;
-  posix_spawnattr_init(&attributes);
-  posix_spawnattr_setsigmask(&attributes, former_mask);
-  posix_spawnattr_setflags(&attributes, POSIX_SPAWN_SETSIGMASK);
-  posix_spawn_file_actions_init(&actions);
-  posix_spawn_file_actions_adddup2(&actions, pipe, 2);
-  if (welcome.captures_output) posix_spawn_file_actions_adddup2(&actions, pipe, 1);
-  int error = posix_spawnp(&process, command[0], &actions, &attributes, command, environ);
-  if (!error) return process;
-  struct failed failed = {FAILED, 0, wall_clock_ms()};
-  send_message(notes_socket, &failed, sizeof failed, NULL, 0, -1);
-  die_cannot_run(command[0], error);
+/* Starts the command. A message that it can't be run is output of the recipe. If no process can be created, this one becomes the command,
+   and nobody reports its end. */
+static pid_t fork_command(char **command, int pipe, const sigset_t *former_mask, void (*former_handler)(int)) {
+  pid_t process = fork();
+  if (process > 0) return process;
+  dup2(pipe, 2);
+  if (welcome.captures_output) dup2(pipe, 1);
+  signal(SIGCHLD, former_handler);
+  sigprocmask(SIG_SETMASK, former_mask, NULL);
+  exec_command(command);
 }
 
 /* Waits for the command. Forwards signals, except signals from a terminal, which reach the command too. Sets `is_stopping` if a signal
@@ -179,8 +173,8 @@ static _Noreturn void run_command(char **command, int pipe) {
   sigemptyset(&blocked);
   for (int i = 0; i < 5; i++) sigaddset(&blocked, (int[]){SIGHUP, SIGINT, SIGQUIT, SIGTERM, SIGCHLD}[i]);
   sigprocmask(SIG_BLOCK, &blocked, &former_mask);
-  signal(SIGCHLD, SIG_DFL);
-  struct started started = {STARTED, spawn_command(command, pipe, &former_mask)};
+  void (*former_handler)(int) = signal(SIGCHLD, SIG_DFL);
+  struct started started = {STARTED, fork_command(command, pipe, &former_mask, former_handler)};
   send_message(notes_socket, &started, sizeof started, NULL, 0, -1);
   close(pipe);
   struct rusage usage;

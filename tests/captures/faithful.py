@@ -122,6 +122,22 @@ def inherited_descriptors(checks, at):
     wait_for(os.path.join(folder, "ended"))
 
 
+def launched_commands(checks, at):
+    """--recipe runs a command as it does outside of a build, with the statuses of a shell, and records them. A shell runs a script without
+    `#!`. Why a command can't be run is in the log."""
+    folder = project(at("launched"), "")
+    for name, text in (("script", "echo ran $* >&2; exit 5\n"), ("plain", "")):
+        write(os.path.join(folder, name), text)
+    os.chmod(os.path.join(folder, "script"), 0o755)
+    for command in ("./script a b", "./plain", "./missing", "missing", "sh -c 'kill -9 $$'", "grep SigIgn /proc/self/status"):
+        words = ["sh", "-c", f"CAPTURE='x : ' env --ignore-signal=CHLD \"$0\" --recipe {command}; exit $?", TOOL]
+        (status, out, err), of_shell = ran(folder, words), ran(folder, ["sh", "-c", f"{command}; exit $?"])[0]
+        found = ran(folder, [TOOL, "--quiet", "--summary", "summary", *words])[:2]
+        text = re.sub("^.*Killed.*\n", "", err, flags=re.M)  # some shells print that
+        recorded = (summary_of(folder)["x"], log_of(folder, "x").splitlines()[-1].split()[1], text_of(folder, "x"))
+        checks.expect(f"launched: {command}", (of_shell, found, recorded), (status, (status, out), (str(status), str(status), text)))
+
+
 # Lines that recipes print, and their text.
 RECORDS = (
     ("@@REDO:done:1:1@@ 0 x", " @@REDO:done:1:1@@ 0 x"), ("@@REDO:", " @@REDO:"), ("@@REDO:do:7:1@@ y", " @@REDO:do:7:1@@ y"), ("a @@REDO:x", "a @@REDO:x"),
@@ -343,6 +359,6 @@ def last_argument(checks, at):
 
 
 PARTS = (
-    crowded_socket, stale_variables, last_argument, missing_commands, second_make_of_all, ignored_signals, inherited_descriptors, lines_like_records, long_logs, double_colons, unended_lines, closed_outputs,
+    crowded_socket, stale_variables, last_argument, missing_commands, launched_commands, second_make_of_all, ignored_signals, inherited_descriptors, lines_like_records, long_logs, double_colons, unended_lines, closed_outputs,
     first_process, names_with_spaces_finished, unread_output,
 )  # fmt: skip
