@@ -158,6 +158,7 @@ struct failure {
   struct caller caller; /* of the make */
   int is_ignored;       /* the make is known to have ignored it */
   int is_interrupted;   /* it failed after a signal had stopped the build */
+  int is_unstarted;     /* make could not start the line */
   int has_cause;        /* set by report.c: a line that a sub-make ran meanwhile failed */
   struct failure *next; /* the target's failure before this one */
   struct failure *next_in_make;

@@ -363,5 +363,6 @@ void fail_line(struct make *make, uint32_t recipe, struct target *target, pid_t 
   set_up_line(&line);
   target->run.process = process, target->run.is_interrupted = 0;
   end_target_line(&line, 127, time);
+  target->run.failures->is_unstarted = 1;
   close_log_soon(target);
 }

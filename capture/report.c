@@ -71,12 +71,14 @@ static int are_logs_empty(const struct target_group *group) {
   return 1;
 }
 
-static void report_failed(const struct target_group *failed) {
+static void report_failed(const struct target_group *failed, int has_unstarted) {
   char *command = show_command("", failed);
   int is_one = failed->count == 1;
   if (failed->count > MAX_NAMED) warn("%zu targets failed, %d of them: %s", failed->count, MAX_NAMED, command);
   else warn("%zu %s failed: %s", failed->count, is_one ? "target" : "targets", command);
-  if (!captures_output && are_logs_empty(failed))
+  if (has_unstarted)
+    warn("make could not start %s", is_one ? "its command; see make's own message" : "some of their commands; see make's own messages");
+  else if (!captures_output && are_logs_empty(failed))
     warn("%s empty; --both also captures standard output", is_one ? "its log is" : "their logs are");
 }
 
@@ -139,10 +141,17 @@ static int is_final(const struct target *target, const struct failure *failure) 
   return 0;
 }
 
-/* Whether a line of the target failed, nobody ignored that, and no line of a sub-make was the cause. */
-static int is_cause(const struct target *target) {
-  for (const struct failure *failure = target->run.failures; failure; failure = failure->next)
-    if (!failure->is_interrupted && !failure->has_cause && is_final(target, failure)) return 1;
+/* Returns the last failure of a line of the target that nobody ignored, and for which no line of a sub-make was the cause; or NULL. */
+static const struct failure *cause_of(const struct target *target) {
+  const struct failure *failure = target->run.failures;
+  while (failure && (failure->is_interrupted || failure->has_cause || !is_final(target, failure))) failure = failure->next;
+  return failure;
+}
+
+/* Whether make could not start the last line of a target that is named. */
+static int has_unstarted(const struct target_group *failed) {
+  for (size_t i = 0; i < named_count(failed); i++)
+    if (cause_of(failed->targets[i])->is_unstarted) return 1;
   return 0;
 }
 
@@ -172,7 +181,7 @@ static void group_targets(struct groups *groups) {
   for (size_t i = 0; i < count; i++) {
     struct target *target = sorted[i];
     if (target->run.is_interrupted || target->run.status < 0 || target->running_lines > 0) add_to_group(&groups->running, target);
-    else if (is_cause(target)) add_to_group(&groups->failed, target);
+    else if (cause_of(target)) add_to_group(&groups->failed, target);
     else if (has_final_failure(target)) continue;
     else {
       if (target->run.failures) add_to_group(&groups->ignored, target);
@@ -190,7 +199,7 @@ void report(const char *command, int is_quiet) {
   /* The build may have ignored the signal. */
   int is_stopped = command_status != 0 && (command_signal || (stop_signal && (was_stopped || groups.failed.count == 0)));
   if (is_stopped) report_interruption(command, &groups.running);
-  if (command_status != 0 && groups.failed.count > 0) report_failed(&groups.failed);
+  if (command_status != 0 && groups.failed.count > 0) report_failed(&groups.failed, has_unstarted(&groups.failed));
   if (show_mode == SHOW_FAILED && !is_quiet && !captures_output) report_printed(&groups.texts);
   if (command_status != 0 && groups.failed.count == 0 && !is_stopped) {
     if (groups.ignored.count == 0) warn("no recipe failed; see %s's own message", base_name(command));

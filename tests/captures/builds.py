@@ -24,12 +24,14 @@ def said(name, status, command, text="", directory=""):
     return f"redo-log-capture: {name} (exit {status}){directory and ', in ' + directory}\n{command}\n{text}"
 
 
-def failed(*names, words=None, printed=(), is_empty=False):
+def failed(*names, words=None, printed=(), is_empty=False, is_unstarted=False):
     """The last lines of a failed build: the targets that failed, and those that printed something and did not fail. `is_empty`: the
-    logs of those that failed have no text."""
+    logs of those that failed have no text. `is_unstarted`: make could not start a command of them."""
     count = "1 target" if len(names) == 1 else f"{len(names)} targets"
     named = words or " ".join(names[:10])
     lines = [f"{count} failed{', 10 of them' if len(names) > 10 else ''}: redo-log {named}"]
+    if is_unstarted:
+        lines.append("make could not start " + ("its command; see make's own message" if len(names) == 1 else "some of their commands; see make's own messages"))
     if is_empty:
         lines.append(("its log is" if len(names) == 1 else "their logs are") + " empty; --both also captures standard output")
     return "".join(f"redo-log-capture: {line}\n" for line in [*lines, *printed_by(*printed), "show all logs: redo-log -r all"])

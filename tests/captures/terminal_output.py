@@ -37,6 +37,16 @@ def what_failed(checks, at):
     folder = project(at("nothing"), "all: ; @exit 3\n")
     checks.expect("one that says nothing", make(folder), (2, "", said("all", 3, "exit 3") + "make: *** [Makefile:1: all] Error 3\n" + failed("all", is_empty=True)))
 
+    # make itself says why, in the log of the recipe that runs it or on the terminal.
+    folder = project(at("unstarted"), "all: ; @$(MAKE) -s sub\nsub: ; @nosuchcommand x\nempty: ; @exit 3\nlast:\n\t@echo first >&2\n\t@./Makefile\n")
+    for words, names in (["all"], ["sub"]), (["last"], ["last"]), (["-k", "all", "empty"], ["empty", "sub"]):
+        message = re.search(r"^make.*: (No such file or directory|Permission denied)\n", ran(folder, ["make", "-s", *words])[2], re.M)[0]
+        for option in ("--both", "--live"):
+            status, _, told = make(folder, "-s", *words, options=[option])
+            checks.expect(f"make can't start a command, {words}", (status, last_lines(3, told), message in told), (2, failed(*names, is_unstarted=True), True))
+    folder = project(at("unstarted and ignored"), "x:: ; @exit 3\nx:: ; -@nosuchcommand x\n")
+    checks.expect("make can't start a command, and ignores that", last_lines(3, make(folder, "-k")[2]), failed("x", is_empty=True))
+
     folder = project(at("bytes"), "all: ; @./print\n")
     write(os.path.join(folder, "print"), "#!/bin/sh\nprintf 'a\\000b\\033[1m\\377\\n@@REDO:hint:7:1@@ x\\nend' >&2; exit 3\n")
     os.chmod(os.path.join(folder, "print"), 0o755)
@@ -183,7 +193,7 @@ def ignored_failures(checks, at):
     first, rest = said("check", 2, "make -s probe 2>/dev/null"), text + failed("check", is_empty=True)
     checks.expect("a line after a sub-make whose failure is ignored", make(folder, "check"), (2, "3 of 5 failed\n", first + rest))
     folder = project(at("missing"), "check:\n\t-@$(MAKE) -s probe 2>/dev/null\n\t@./nosuch x\n" + probe)
-    checks.expect("a line that can't be started", last_lines(3, make(folder, "check")[2]), failed("check", is_empty=True))
+    checks.expect("a line that can't be started", last_lines(3, make(folder, "check")[2]), failed("check", is_unstarted=True))
     folder = project(at("or"), "all: a b\na:\n\t@$(MAKE) -s probe >/dev/null 2>&1 || echo no probe >&2\n\t@echo a >&2; exit 3\n" + probe + "b: ; @true\n")
     text = said("a", 3, "echo a >&2; exit 3", "no probe\na\n") + "make: *** [Makefile:4: a] Error 3\nmake: Target 'all' not remade because of errors.\n"
     checks.expect("a sub-make whose failure the shell handles", make(folder, "-k"), (2, "", text + failed("a")))
