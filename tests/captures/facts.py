@@ -186,7 +186,8 @@ def recorded(checks, at):
     plain = ran(folder, ["make", "-k"])
     checks.expect("facts: commands that can't be run", (plain[0], plain[2].count("No such file")), (2, 2))
     captured(folder, "-k", options=["--summary", "sum"])
-    checks.expect("facts: its command", all_facts(folder)[b"x"]["commands"], [("command", b"./x.sh 1")])
+    found = [all_facts(folder)[name]["commands"] for name in (b"x", b"y")]
+    checks.expect("facts: the command that make has found", found, [[("command", b"./x.sh 1")], []])
     rows = [line.split() for line in open(os.path.join(folder, "sum"), encoding="utf-8")]
     checks.expect("facts: nothing was run", [(row[0], *row[3:]) for row in rows], [("127", "x", "-", "-"), ("127", "y", "-", "-")])
 
