@@ -101,7 +101,7 @@ static void report_printed(const struct target_group *texts) {
 static void report_uncaptured(void) {
   char *names = xasprintf("%s/names", directory_path);
   if (access(names, F_OK) < 0) warn("no recipe was captured");
-  else if (command_status != 0) warn("no recipe was captured; %s has an earlier build", directory_name);
+  else if (command_status != 0) warn("no recipe was captured; %s has another build", directory_name);
   free(names);
 }
 
