@@ -28,7 +28,10 @@ mod names_file;
 mod output;
 mod process;
 mod program;
+mod remedy;
 mod reports;
+mod suggestions;
+mod text;
 
 pub use baseline::{BaselineFiles, BaselineLogs, open_baseline, read_baseline};
 pub use baseline_fault::BaselineFault;

@@ -4,7 +4,7 @@ use Rattle.std.specs.List.{flat_map}
 use Rattle.std.proofs.lemmas.List.{take_rest}
 use Rattle.redo_command.specs.Private.Suggested.{after_comma}
 use Rattle.redo_command.proofs.SuggestionLemmas.{listed_from, on_ok}
-use Rattle.redo_command.proofs.explanation.push_listed.Goals as goal
+use Rattle.redo_command.proofs.suggestions.push_listed.Goals as goal
 
 pub returns-in_ok-push-in-len1-up : goal.returns-in_ok-push-in-len1-up
 returns-in_ok-push-in-len1-up c =

@@ -4,7 +4,7 @@ use Rattle.std.proofs.lemmas.Result.{IfOk-weaker}
 use Rattle.redo_index.specs.Index.{listed_targets}
 use Rattle.redo_command.specs.Explanation.{ending_with}
 use Rattle.redo_command.proofs.SuggestionLemmas.{first_taken, second_taken}
-use Rattle.redo_command.proofs.explanation.suggestions.Goals as goal
+use Rattle.redo_command.proofs.suggestions.suggestions.Goals as goal
 
 pub returns-then-is_empty : goal.returns-then-is_empty
 returns-then-is_empty c =

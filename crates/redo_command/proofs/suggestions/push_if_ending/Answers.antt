@@ -1,7 +1,7 @@
 use Rattle.std.proofs.Common.{◌∙◌, sym}
 use Rattle.redo_options.specs.Arguments.{argument_bytes}
 use Rattle.redo_command.proofs.SuggestionLemmas.{not_pushed, pushed}
-use Rattle.redo_command.proofs.explanation.push_if_ending.Goals as goal
+use Rattle.redo_command.proofs.suggestions.push_if_ending.Goals as goal
 
 pub returns-then-not-ends_with : goal.returns-then-not-ends_with
 returns-then-not-ends_with c =

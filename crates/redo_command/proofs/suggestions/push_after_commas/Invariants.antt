@@ -1,7 +1,7 @@
 use Rattle.std.proofs.Common.{◌≡◌, ◌++◌, take}
 use Rattle.std.specs.List.{flat_map}
 use Rattle.redo_command.specs.Private.Suggested.{after_comma}
-use Rattle.redo_command.proofs.explanation.push_after_commas.Given as goal
+use Rattle.redo_command.proofs.suggestions.push_after_commas.Given as goal
 
 -- Everything so far was appended.
 abbrev pub invariant-loop-name : goal.invariant-loop-name

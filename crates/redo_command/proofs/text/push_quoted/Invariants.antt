@@ -1,7 +1,7 @@
 use Rattle.std.proofs.Common.{◌≡◌, ◌++◌, take}
 use Rattle.std.specs.List.{flat_map}
 use Rattle.redo_command.specs.Explanation.{quoted_byte}
-use Rattle.redo_command.proofs.explanation.push_quoted.Given as goal
+use Rattle.redo_command.proofs.text.push_quoted.Given as goal
 
 -- Everything so far was appended.
 abbrev pub invariant-loop-byte : goal.invariant-loop-byte

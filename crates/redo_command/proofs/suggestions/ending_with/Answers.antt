@@ -3,7 +3,7 @@ use Rattle.std.proofs.lemmas.Option.{get_or_from_slice_get, slice_get_within}
 use Rattle.redo_index.specs.Index.{listed_targets}
 use Rattle.redo_options.specs.Arguments.{argument_bytes}
 use Rattle.redo_command.proofs.SuggestionLemmas.{count_of, five_found, next_found, still_few}
-use Rattle.redo_command.proofs.explanation.ending_with.Goals as goal
+use Rattle.redo_command.proofs.suggestions.ending_with.Goals as goal
 
 pub returns-then-len-eq-MAX_SUGGESTIONS : goal.returns-then-len-eq-MAX_SUGGESTIONS
 returns-then-len-eq-MAX_SUGGESTIONS c =
