@@ -10,8 +10,11 @@ mod PositionsLemmas
 mod StatusLemmas
 mod SummaryLemmas
 mod SweepLemmas
+mod TextLineLemmas
+mod TextLineRows
 mod TreeLemmas
 mod WarningLemmas
+pub mod FirstLines
 pub mod LogEntries
 pub mod Nodes
 pub mod OnlyTree

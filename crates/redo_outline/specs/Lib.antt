@@ -3,3 +3,4 @@ pub mod Facts
 pub mod Laws
 pub mod Outline
 pub mod Private
+pub mod TextLines

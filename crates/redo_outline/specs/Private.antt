@@ -3,3 +3,4 @@ pub mod Collecting
 pub mod LogFacts
 pub mod Positions
 pub mod Sweeping
+pub mod TextLines

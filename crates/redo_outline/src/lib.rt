@@ -9,6 +9,7 @@
 //! - *Contents*: the shown events, as a tree. `specs/Contents.antt` makes this tree of events. A law says what the tree of events is
 //!   (`IsTreeOf`), and that they have no other.
 //! - *Node*: the facts about a log that is opened. Its *position* is the number of nodes before it.
+//! - *Stretch*: text lines of a log that are stored together ([`TextLines`]).
 //! - *Silent*: a target that printed nothing and didn't fail, and so each target below it.
 #![tactic(auto)]
 
@@ -19,6 +20,7 @@ mod node;
 mod outline;
 mod positions;
 mod sweep;
+mod text_lines;
 
 pub use facts::target_at;
 pub use laws::{
@@ -27,3 +29,4 @@ pub use laws::{
 };
 pub use node::{Node, RunTimes};
 pub use outline::Outline;
+pub use text_lines::{TextLines, without_line_feed};
