@@ -13,6 +13,7 @@ pub mod PartLemmas
 pub mod PickedLemmas
 pub mod RoundLemmas
 mod RoundRows
+mod SkippingRows
 pub mod SourceLemmas
 mod SourceRows
 pub mod StepLemmas

@@ -6,4 +6,5 @@ pub mod Occurrences
 pub mod Outcomes
 pub mod Private
 pub mod Rounds
+pub mod Skipping
 pub mod Source

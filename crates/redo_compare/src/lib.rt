@@ -40,5 +40,6 @@ pub use laws::{
     new_are_counted, new_are_in_order, same_build_has_nothing_new, same_log_has_nothing_new,
     targets_of_one_build, when_nothing_is_new,
 };
+pub use log::skip_others;
 pub use log_changes::{LogChanges, compare_log};
 pub use outcome::{Outcome, is_fixed, newly_fails, outcome_in, outcome_of};
