@@ -7,13 +7,13 @@ use Rattle.std.proofs.lemmas.List.Filters.{length-filter_both}
 use Rattle.redo_device.specs.Sink.{Output}
 use Rattle.redo_diagnostics.specs.Counts.{AreCounts, stored, times_of}
 use Rattle.redo_diagnostics.specs.Diagnostic.{DiagnosticValue, diagnostic_of, with_key}
+use Rattle.redo_outline.specs.TextLines.{LinesLeft}
 use Rattle.redo_json.specs.Diagnostics.{diagnostics_of, first_flag, flagged, numbered_from, other_flags, placed_from, placed_if}
 use Rattle.redo_json.specs.Private.Diagnosing.{WroteDiagnostics}
-use Rattle.redo_json.specs.Private.LogLines.{Remaining}
 use Rattle.redo_json.specs.Private.Parts.{diagnostic_text, diagnostics_text}
 use Rattle.redo_json.proofs.WritingLemmas.{begin, left_is}
 
-pub begins : (output : Option Output) (flags : Option (List Bool)) (lines : List (List ℕ)) (left : Remaining) (counts : List (List ℕ × ℕ))
+pub begins : (output : Option Output) (flags : Option (List Bool)) (lines : List (List ℕ)) (left : LinesLeft) (counts : List (List ℕ × ℕ))
     (buffer : List ℕ) → left.left ≡ lines → left.done ≡ 0 → AreCounts counts [] → buffer ≡ []
     → WroteDiagnostics output output (diagnostics_text true (flagged flags (diagnostics_of lines))) true flags left counts buffer
 begins output flags lines left counts buffer is first none empty = record {
@@ -51,7 +51,7 @@ nth_is key keys lines nth few low is =
     let times = times_low key keys in
     is ∙ omega (arith, times, few, low)
 
-module _ (is_first : Bool) (flags : Option (List Bool)) (left next : Remaining) (line : List ℕ)
+module _ (is_first : Bool) (flags : Option (List Bool)) (left next : LinesLeft) (line : List ℕ)
     (is : left.left ≡ line ∷ next.left) (counted : next.done ≡ left.done + 1) where
   placed : placed_from left.done left.left ≡ placed_if left.done (diagnostic_of line) (placed_from next.done next.left)
   placed =

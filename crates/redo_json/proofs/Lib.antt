@@ -17,7 +17,6 @@ mod KindLemmas
 mod LawLemmas
 mod LeftLemmas
 mod LineLemmas
-mod LogLineLemmas
 mod MentionLemmas
 mod NeedLemmas
 mod NewLemmas

@@ -1,10 +1,9 @@
 -- The exact bytes of lines that are iterated over.
 use Rattle.std.proofs.Common.{◌≡◌, ℕ, zero, suc, ◌+◌, ◌<◌, true, false, List, [], ◌∷◌, ◌++◌, length, get_or, refl, sym, ap, ◌∙◌, subst, arith}
-use Rattle.std.specs.Prelude.{◌==◌, codes, decimal}
+use Rattle.std.specs.Prelude.{codes, decimal}
 use Rattle.std.specs.List.{flat_map}
 use Rattle.std.specs.Str.{IsAscii, IsCharBoundary, IsUtf8, is_utf8}
 use Rattle.std.proofs.Math.Seq.{get_or-append_seam}
-use Rattle.std.proofs.lemmas.Bool.{eqb-false}
 use Rattle.std.proofs.lemmas.List.{append-nil, drop_at, get_or_append_left, length-append, take_at}
 use Rattle.std.proofs.lemmas.Str.{IsCharBoundary-after_ascii, IsUtf8-drop, IsUtf8-from_is_utf8, IsUtf8-take, is_utf8-from_IsUtf8}
 use Rattle.simdutf8.proofs.StepsLemmas.{IsUtf8-append_ascii}
@@ -12,15 +11,14 @@ use Rattle.json.specs.Json.{string}
 use Rattle.json.specs.Print.{escape}
 use Rattle.redo_line.proofs.LineLemmas.{are_lines}
 use Rattle.redo_line.specs.Lines.{ended, line_feed, rest, with_line_feed}
-use Rattle.redo_logs.specs.Logs.{Log}
+use Rattle.redo_outline.specs.TextLines.{AreNextLines, IsStretch, LinesLeft}
 use Rattle.redo_json.specs.Fields.{Field, exact_fields, exact_items, exact_list, exact_name, field}
 use Rattle.redo_json.specs.Text.{base64_of, exact_of}
-use Rattle.redo_json.specs.Private.LogLines.{AreNextLines, AreUtf8, IsNextExactLine, Remaining, texts_from}
+use Rattle.redo_json.specs.Private.LogLines.{AreUtf8, IsNextExactLine}
 use Rattle.redo_json.specs.Private.Parts.{comma_fields, exact_item}
-use Rattle.redo_json.proofs.LogLineLemmas.{some_lines}
 use Rattle.redo_json.proofs.PartLemmas.{exact_parts, no_exact, one_exact}
 
-module _ (before after : Remaining) (line : List ℕ) (is : before.left ≡ line ∷ after.left) (counted : after.done ≡ before.done + 1) where
+module _ (before after : LinesLeft) (line : List ℕ) (is : before.left ≡ line ∷ after.left) (counted : after.done ≡ before.done + 1) where
   line_step : exact_items before.done before.left ≡ exact_fields (decimal before.done) (exact_of line) ++ exact_items after.done after.left
   line_step =
       let next : suc before.done ≡ after.done = omega (arith, counted) in
@@ -38,7 +36,7 @@ module _ (before after : Remaining) (line : List ℕ) (is : before.left ≡ line
       ∙ ap (λ (n : ℕ). field (decimal n) (string (base64_of line)) ∷ exact_items after.done after.left) (sym same)
 
 -- A list with exact bytes.
-pub exact_line_parts : (name : List ℕ) (lines : List (List ℕ)) (before after : Remaining) (position : ℕ) (line : List ℕ)
+pub exact_line_parts : (name : List ℕ) (lines : List (List ℕ)) (before after : LinesLeft) (position : ℕ) (line : List ℕ)
     → before.left ≡ lines → before.done ≡ 0 → IsNextExactLine before after position line
     → (44 ∷ 34 ∷ (escape name ++ codes "_base64\":{"))
     ++ (exact_item position line ++ (comma_fields (exact_items after.done after.left) ++ 125 ∷ []))
@@ -100,17 +98,15 @@ no_exact_items position (line ∷ lines) all =
     ap (λ (fields : List Field). fields ++ exact_items (suc position) lines) (no_exact (decimal position) line all.0)
     ∙ no_exact_items (suc position) lines all.1
 
-module _ (logs : List Log) (number next after : ℕ) (bytes : List ℕ) (lines : AreNextLines logs number next bytes after) where
+module _ (bytes : List ℕ) (before after : LinesLeft) (stretch : IsStretch bytes) (next : AreNextLines bytes before after) where
   -- Each line of a stretch that is UTF-8 is UTF-8.
-  pub text_stretch : is_utf8 bytes ≡ true → AreUtf8 (texts_from logs number after) → AreUtf8 (texts_from logs number next)
+  pub text_stretch : is_utf8 bytes ≡ true → AreUtf8 after.left → AreUtf8 before.left
   text_stretch text all =
-      subst AreUtf8 (sym lines.split)
-      (utf8_more (ended bytes) (texts_from logs number after) (text_lines bytes lines.complete text) all)
+      subst AreUtf8 (sym next.lines) (utf8_more (ended bytes) after.left (text_lines bytes stretch.complete text) all)
 
   -- Fewer lines are left after a stretch.
-  pub fewer_left : (length bytes == 0) ≡ false → length (texts_from logs number after) < length (texts_from logs number next)
-  fewer_left some =
-      let count = some_lines bytes lines.complete (λ empty. eqb-false (length bytes) 0 some (ap length empty)) in
-      let split = ap length lines.split in
-      let sum = length-append (ended bytes) (texts_from logs number after) in
-      omega (arith, count, split, sum)
+  pub fewer_left : length after.left < length before.left
+  fewer_left =
+      let some = stretch.some in
+      let split = ap length next.lines in
+      omega (arith, some, split, length-append (ended bytes) after.left)

@@ -5,9 +5,9 @@ use Rattle.std.proofs.lemmas.Bool.{and_parts, eqb-true, or_cases}
 use Rattle.std.proofs.lemmas.List.Folds.{list_all-append}
 use Rattle.redo_line.proofs.LineLemmas.{are_lines}
 use Rattle.redo_line.specs.Lines.{HasNoLineFeed, ended, line_feed, rest, with_line_feed}
-use Rattle.redo_logs.specs.Logs.{Log}
+use Rattle.redo_outline.specs.TextLines.{AreNextLines, LinesLeft}
 use Rattle.redo_diagnostics.specs.Diagnostic.{HasNoTemporary}
-use Rattle.redo_json.specs.Private.LogLines.{AreNextLines, ArePlainLines, AreSimple, AreUtf8, texts_from}
+use Rattle.redo_json.specs.Private.LogLines.{ArePlainLines, AreSimple, AreUtf8}
 use Rattle.redo_json.specs.Private.Writing.{is_verbatim_byte, is_verbatim_or_feed}
 use Rattle.redo_json.proofs.KeyVerbatimLemmas.{Fit}
 use Rattle.redo_json.proofs.VerbatimLemmas.{plain_bytes, verbatim_bytes}
@@ -55,8 +55,8 @@ simple_lines [] more text plain none others = others
 simple_lines (line ∷ lines) more text plain none others =
     (record { utf8 = text.0; plain = plain.0; no_temporary = none.0 }, simple_lines lines more text.1 plain.1 none.1 others)
 
-pub simple_stretch : (logs : List Log) (number next after : ℕ) (bytes : List ℕ) → AreNextLines logs number next bytes after
+pub simple_stretch : (bytes : List ℕ) (before after : LinesLeft) → AreNextLines bytes before after
     → AreUtf8 (ended bytes) × ArePlainLines (ended bytes) → AllByRecursion HasNoTemporary (ended bytes)
-    → AreSimple (texts_from logs number after) → AreSimple (texts_from logs number next)
-simple_stretch logs number next after bytes are text none others =
-    subst AreSimple (sym are.split) (simple_lines (ended bytes) (texts_from logs number after) text.0 text.1 none others)
+    → AreSimple after.left → AreSimple before.left
+simple_stretch bytes before after next text none others =
+    subst AreSimple (sym next.lines) (simple_lines (ended bytes) after.left text.0 text.1 none others)

@@ -19,7 +19,7 @@ ghost use Rattle.redo_json.specs.Private.Parts.{comma_field, comma_fields, diagn
 use crate::field::write_bytes;
 use crate::joined::{join_diagnostic, object_end, object_start};
 use crate::kind::Kind;
-use crate::log_lines::LogLines;
+use crate::log_lines::next_candidate;
 use crate::part::{Part, write_parts};
 use crate::plain::{is_verbatim, plain_len};
 use memchr::{memchr, memmem};
@@ -28,6 +28,7 @@ use redo_diagnostics::{
     Diagnostic, Key, KeyCounts, Place, Severity, read_diagnostic, read_simple_diagnostic,
 };
 use redo_logs::LogTable;
+use redo_outline::TextLines;
 use redo_view::FormFault;
 use std::alloc::{AllocError, Global};
 
@@ -71,13 +72,13 @@ fn write_each<'t, W: Sink>(
     ensures { FormWrites (W.written out.old) (W.written out.new)
         (diagnostics_text true (flagged (option_copied flags.entry) (diagnostics_of (texts_of (entries_at number table.now))))) result }
 {
-    let mut lines = LogLines::new(table, number);
+    let mut lines = TextLines::new(table, number);
     let mut plain = Vec::new(alloc);
     let mut is_first = true;
     let mut left = flags;
     counts.clear();
     buffer.clear();
-    'each: while let Some((position, line)) = lines.next_candidate() {
+    'each: while let Some((position, line)) = next_candidate(&mut lines) {
         let is_known = is_simple(kind, line);
         if let Some((diagnostic, key)) = read_line(alloc, is_known, line, &mut plain)? {
             let (new, others) = next_flag(left);

@@ -19,13 +19,13 @@ use crate::field::is_text;
 use crate::joined::join_bytes;
 use crate::kind::Kind;
 use crate::list::write_exact_item;
-use crate::log_lines::{LogLines, next_lines};
 use crate::part::{Part, write_parts};
 use crate::plain::are_plain_lines;
 use crate::string::write_text;
 use memchr::memchr;
 use redo_device::{Broken, Sink, push_all};
 use redo_logs::LogTable;
+use redo_outline::TextLines;
 use std::alloc::AllocError;
 
 /// Writes a member with the texts of a log's lines, which are of this kind, and another one with the exact bytes of lines whose texts don't
@@ -65,18 +65,13 @@ fn write_texts<W: Sink>(
     requires { AreOfKind kind (texts_of (entries_at number table.now)) }
     ensures { Writes (W.written out.old) (W.written out.new) (items_text true (texts_of (entries_at number table.now))) result }
 {
-    let logs = table.numbered();
+    let mut left = TextLines::new(table, number);
     let mut is_first = true;
-    let mut next = 0;
-    'stretches: loop {
-        let (lines, _, after) = next_lines(&logs, number, next);
-        if lines.is_empty() {
-            return push_all(out, last_quote(is_first));
-        }
+    'stretches: while let Some(lines) = left.next_stretch() {
         write_stretch(kind, is_first, lines, buffer, out)?;
         is_first = false;
-        next = after;
     }
+    push_all(out, last_quote(is_first))
 }
 
 // Returns the quote that ends the last string, unless there is no string.
@@ -220,7 +215,7 @@ fn write_exact_lines<W: Sink>(
     ensures { Writes (W.written out.old) (W.written out.new)
         (comma_fields (exact_list (exact_name name.now) (exact_items 0 (texts_of (entries_at number table.now))))) result }
 {
-    let mut lines = LogLines::new(table, number);
+    let mut lines = TextLines::new(table, number);
     let Some((position, line)) = next_exact_line(&mut lines) else {
         return Ok(());
     };
@@ -238,7 +233,7 @@ fn write_exact_lines<W: Sink>(
 }
 
 // Writes the exact bytes of those lines that are left of which the texts don't have them, each after a comma.
-fn write_other_lines<W: Sink>(lines: &mut LogLines<'_>, out: &mut W) -> Result<(), Broken>
+fn write_other_lines<W: Sink>(lines: &mut TextLines<'_>, out: &mut W) -> Result<(), Broken>
     ensures { Writes (W.written out.old) (W.written out.new) (comma_fields (exact_items lines.old.done lines.old.left)) result }
 {
     'each: while let Some((position, line)) = next_exact_line(lines) {
@@ -249,14 +244,17 @@ fn write_other_lines<W: Sink>(lines: &mut LogLines<'_>, out: &mut W) -> Result<(
 }
 
 // Returns the next line of which the text doesn't have the exact bytes, and its position.
-fn next_exact_line<'a>(lines: &mut LogLines<'a>) -> Option<(usize, &'a [u8])>
+fn next_exact_line<'a>(lines: &mut TextLines<'a>) -> Option<(usize, &'a [u8])>
     ensures some { IfSome result (λ found. IsNextExactLine lines.old lines.new found.0 found.1.now) }
     ensures none { IfNone result (exact_items lines.old.done lines.old.left ≡ []) }
 {
-    'each: while let Some((position, line)) = lines.next_line() {
+    'each: loop {
+        let position = lines.position();
+        let Some(line) = lines.next_line() else {
+            return None;
+        };
         if !is_text(line) {
             return Some((position, line));
         }
     }
-    None
 }

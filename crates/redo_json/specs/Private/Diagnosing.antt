@@ -5,8 +5,8 @@ use Rattle.redo_view.specs.declared.form.FormFault.{FormFault}
 use Rattle.redo_view.specs.Form.{FormWrites}
 use Rattle.redo_diagnostics.specs.Counts.{AreCounts}
 use Rattle.redo_diagnostics.specs.Diagnostic.{DiagnosticValue, PlaceValue, diagnostic_of}
+use Rattle.redo_outline.specs.TextLines.{LinesLeft}
 use Rattle.redo_json.specs.Diagnostics.{flagged, numbered_from, placed_from}
-use Rattle.redo_json.specs.Private.LogLines.{Remaining}
 use Rattle.redo_json.specs.Private.Parts.{diagnostics_text}
 use Rattle.redo_json.specs.Private.Writing.{IsVerbatim, WroteUpTo}
 
@@ -24,7 +24,7 @@ Adds old new had has part result =
 
 -- Of a text, everything was written except what is in a buffer, and the diagnostics of these lines, which have these flags. `keys` are the
 -- keys of the diagnostics before them.
-pub record WroteDiagnostics (before after : Option Output) (text : List ℕ) (is_first : Bool) (flags : Option (List Bool)) (lines : Remaining)
+pub record WroteDiagnostics (before after : Option Output) (text : List ℕ) (is_first : Bool) (flags : Option (List Bool)) (lines : LinesLeft)
     (counts : List (List ℕ × ℕ)) (buffer : List ℕ) : Type 0 where
   pub keys : List (List ℕ)
   pub counted : AreCounts counts keys

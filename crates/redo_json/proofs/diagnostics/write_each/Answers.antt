@@ -1,4 +1,4 @@
-use Rattle.std.proofs.Common.{ap, ℕ, List, true, [], ◌∷◌, ◌++◌, refl, sym, ◌∙◌, subst, arith, option_copied}
+use Rattle.std.proofs.Common.{ap, ℕ, List, true, [], ◌∷◌, ◌++◌, length, refl, sym, ◌∙◌, subst, arith, option_copied}
 use Rattle.std.proofs.lemmas.List.{length-append}
 use Rattle.std.proofs.lemmas.Result.{err_from_is_err_and}
 use Rattle.redo_diagnostics.specs.Counts.{stored, times_of}
@@ -7,7 +7,7 @@ use Rattle.redo_diagnostics.specs.Diagnostic.{DiagnosticValue}
 use Rattle.redo_json.specs.Diagnostics.{diagnostics_of, flagged, numbered_from}
 use Rattle.redo_json.specs.Private.LogLines.{AreOfKind}
 use Rattle.redo_json.specs.Private.Parts.{diagnostics_text}
-use Rattle.redo_json.proofs.CandidateLemmas.{at_candidates}
+use Rattle.redo_json.proofs.CandidateLemmas.{at_candidates, fewer_candidates, kind_left}
 use Rattle.redo_json.proofs.DiagnosingLemmas.{begins, finds, found_is, none_is, nth_is, skips}
 use Rattle.redo_json.proofs.FormLemmas.{ran_out}
 use Rattle.redo_json.proofs.PendingLemmas.{ends}
@@ -25,7 +25,7 @@ each-init g c = (
 pub is_simple-is_known-requires : goal.is_simple-is_known-requires
 is_simple-is_known-requires g c =
     let found = c.in-Some.ensures.some in
-    (subst (AreOfKind c.args.kind) found.first (found.are.of_kind c.args.kind c.each.invariant.1)).0
+    (subst (AreOfKind c.args.kind) found.first (kind_left _ _ found.skipped c.args.kind c.each.invariant.1)).0
 
 pub read_line-requires : goal.read_line-requires
 read_line-requires g c = c.is_simple-is_known.ensures
@@ -55,7 +55,7 @@ returns-in_err-write_diagnostic g c =
     let is = (found_is _ _ c.in-Some-2.key (sym c.in_ok-diagnostic.ensures ∙ c.in-Some-2.is)).0 in
     let found = c.in-Some.ensures.some in
     let lines = found.candidates in
-    let so_far = at_candidates _ _ _ _ _ _ lines _ _ found.are c.each.invariant.0 in
+    let so_far = at_candidates _ _ _ _ _ _ lines _ _ found.skipped c.each.invariant.0 in
     let done = found.done in
     let room = c.in-Some.ensures.no_overflow in
     let key = c.in-Some-2.diagnostic.key in
@@ -63,29 +63,36 @@ returns-in_err-write_diagnostic g c =
     let given = err_from_is_err_and c.from_residual-in_err-write_diagnostic.result c.from_residual-in_err-write_diagnostic.ensures.1 in
     rw (given.1, given.2) (c.in_err-write_diagnostic.ensures.wrote so_far.keys so_far.counted (g.W.Sink.written c.args.out.now) whole _
     (left_is _ _ _ _ _ (ap (λ (l : List ℕ). c.each.buffer.items ++ l)
-    (finds c.each.is_first (option_copied c.each.left) lines c.next_candidate.new.self c.in-Some.line.now found.first
+    (finds c.each.is_first (option_copied c.each.left) lines c.next_candidate.new.lines c.in-Some.line.now found.first
     done so_far.keys
     c.in-Some-2.diagnostic c.in-Some.position (stored (times_of key so_far.keys)) _ _ is found.position_is nth
     c.next_flag-new.ensures.first c.next_flag-new.ensures.others)) so_far.wrote))
 
+pub each-smaller : goal.each-smaller
+each-smaller g c =
+    let found = c.in-Some.ensures.some in
+    let few = fewer_candidates _ _ found.skipped in
+    let size = ap length found.first in
+    omega (arith, few, size)
+
 pub each-preserved : goal.each-preserved
 each-preserved g c =
     let found = c.in-Some.ensures.some in (
-      skips c.each.is_first (option_copied c.each.left) found.candidates c.next_candidate.new.self c.in-Some.line.now found.first found.done
-          _ _ _ _ _ (none_is _ (sym c.in_ok-diagnostic.ensures ∙ c.in_default-2.is))
-          (at_candidates _ _ _ _ _ _ found.candidates _ _ found.are c.each.invariant.0),
-      (subst (AreOfKind c.args.kind) found.first (found.are.of_kind c.args.kind c.each.invariant.1)).1,
+      skips c.each.is_first (option_copied c.each.left) found.candidates c.next_candidate.new.lines c.in-Some.line.now found.first
+          found.done _ _ _ _ _ (none_is _ (sym c.in_ok-diagnostic.ensures ∙ c.in_default-2.is))
+          (at_candidates _ _ _ _ _ _ found.candidates _ _ found.skipped c.each.invariant.0),
+      (subst (AreOfKind c.args.kind) found.first (kind_left _ _ found.skipped c.args.kind c.each.invariant.1)).1,
     )
 
 pub each-preserved-in-Some-2 : goal.each-preserved-in-Some-2
 each-preserved-in-Some-2 g c =
-    let others : AreOfKind c.args.kind c.next_candidate.new.self.left =
+    let others : AreOfKind c.args.kind c.next_candidate.new.lines.left =
     (let found = c.in-Some.ensures.some in
-    (subst (AreOfKind c.args.kind) found.first (found.are.of_kind c.args.kind c.each.invariant.1)).1) in
+    (subst (AreOfKind c.args.kind) found.first (kind_left _ _ found.skipped c.args.kind c.each.invariant.1)).1) in
     let is = (found_is _ _ c.in-Some-2.key (sym c.in_ok-diagnostic.ensures ∙ c.in-Some-2.is)).0 in
     let found = c.in-Some.ensures.some in
     let lines = found.candidates in
-    let so_far = at_candidates _ _ _ _ _ _ lines _ _ found.are c.each.invariant.0 in
+    let so_far = at_candidates _ _ _ _ _ _ lines _ _ found.skipped c.each.invariant.0 in
     let done = found.done in
     let room = c.in-Some.ensures.no_overflow in
     let few = so_far.few in
@@ -97,7 +104,7 @@ each-preserved-in-Some-2 g c =
         few = omega (arith, few, done, length-append so_far.keys (key ∷ []));
         wrote = c.in_ok-write_diagnostic.ensures.wrote so_far.keys so_far.counted (g.W.Sink.written c.args.out.now) _ _
             (left_is _ _ _ _ _ (ap (λ (l : List ℕ). c.each.buffer.items ++ l)
-            (finds c.each.is_first (option_copied c.each.left) lines c.next_candidate.new.self c.in-Some.line.now found.first done
+            (finds c.each.is_first (option_copied c.each.left) lines c.next_candidate.new.lines c.in-Some.line.now found.first done
             so_far.keys c.in-Some-2.diagnostic c.in-Some.position (stored (times_of key so_far.keys)) _ _ is found.position_is nth
             c.next_flag-new.ensures.first c.next_flag-new.ensures.others)) so_far.wrote);
       },

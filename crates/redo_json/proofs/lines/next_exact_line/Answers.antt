@@ -13,8 +13,8 @@ returns-then-not-is_text-clause-some c =
     record {
       fewer = omega (arith, size, low);
       fields = c.each.invariant.fields
-          ∙ found_line _ _ _ c.in-Some.ensures.line c.in-Some.ensures.done _ c.in-Some.ensures.position
-          (sym c.is_text.ensures ∙ c.if-not-is_text.true);
+          ∙ found_line c.each.lines c.next_line.new.self c.in-Some.line.now c.in-Some.ensures.line c.in-Some.ensures.done _
+          c.position-position.ensures (sym c.is_text.ensures ∙ c.if-not-is_text.true);
     }
 
 pub each-smaller : goal.each-smaller
@@ -27,8 +27,9 @@ each-preserved c =
     record {
       fewer = omega (arith, size, low);
       fields = c.each.invariant.fields
-          ∙ skip_line _ _ _ c.in-Some.ensures.line c.in-Some.ensures.done (sym c.is_text.ensures ∙ c.if-not-is_text.false);
+          ∙ skip_line c.each.lines c.next_line.new.self c.in-Some.line.now c.in-Some.ensures.line c.in-Some.ensures.done
+          (sym c.is_text.ensures ∙ c.if-not-is_text.false);
     }
 
-pub returns-clause-none : goal.returns-clause-none
-returns-clause-none c = c.each.invariant.fields ∙ ap (exact_items c.each.lines.done) c.in_default.ensures.line
+pub returns-in_default-clause-none : goal.returns-in_default-clause-none
+returns-in_default-clause-none c = c.each.invariant.fields ∙ ap (exact_items c.each.lines.done) c.in_default.ensures.line
