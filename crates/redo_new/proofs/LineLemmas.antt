@@ -1,47 +1,15 @@
--- The lines of a log whose diagnostics are new, entry by entry.
-use Rattle.std.proofs.Common.{◌≡◌, ◌∙◌, ◌<◌, ◌+◌, ℕ, zero, suc, Bool, true, false, List, [], ◌∷◌, ◌++◌, Option, None, Some, drop, filter, is_some, length, refl, sym, ap, arith, append_assoc}
-use Rattle.std.specs.Prelude.{if◌then◌else◌, option_and_then}
-use Rattle.std.specs.List.{list_any}
-use Rattle.redo_diagnostics.specs.Diagnostic.{diagnostic_of}
+-- The lines of a log whose diagnostics are new, line by line.
+use Rattle.std.proofs.Common.{◌≡◌, ◌∙◌, ◌<◌, ◌+◌, ℕ, zero, suc, Bool, true, false, List, [], ◌∷◌, ◌++◌, Option, None, drop, filter, is_some, length, refl, sym, ap, arith, append_assoc}
+use Rattle.std.specs.List.{AllByRecursion, list_any}
+use Rattle.std.proofs.lemmas.List.{length-append}
+use Rattle.redo_diagnostics.specs.Diagnostic.{DiagnosticValue, diagnostic_of}
 use Rattle.redo_line.specs.Lines.{with_line_feed}
-use Rattle.redo_line.specs.declared.entry.Entry.{Entry}
-use Rattle.redo_logs.specs.Logs.{Log, entry_at}
-use Rattle.redo_outline.proofs.LogEntries.{drop_here, drop_none, entry_is}
-use Rattle.redo_outline.specs.Facts.{entries_at, text_of, texts_of}
+use Rattle.redo_outline.specs.TextLines.{LinesLeft}
 use Rattle.redo_compare.specs.Rounds.{picked}
+use Rattle.redo_compare.specs.Skipping.{AreSkipped}
 use Rattle.redo_new.specs.News.{new_line}
-use Rattle.redo_new.specs.Private.Sections.{diagnostic_in, flagged, line_if_diagnostic, new_among, new_text, texts_after}
+use Rattle.redo_new.specs.Private.Sections.{flagged, new_among, new_text}
 use Rattle.redo_new.proofs.LawLemmas as laws
-
-abbrev added : Option (List ℕ) → List (List ℕ) → List (List ℕ)
-added None lines = lines
-added (Some line) lines = line ∷ lines
-
-added_is : (entry : Entry) (entries : List Entry) → texts_of (entry ∷ entries) ≡ added (text_of entry) (texts_of entries)
-added_is entry entries = by (text_of entry) refl
-  where
-    by : (text : Option (List ℕ)) → text_of entry ≡ text → texts_of (entry ∷ entries) ≡ added text (texts_of entries)
-    by None is = rw is refl
-    by (Some line) is = rw is refl
-
-module _ (logs : List Log) (number : ℕ) where
-  pub none_after : (at : ℕ) → entry_at number at logs ≡ None → texts_after logs number at ≡ []
-  none_after at is = ap texts_of (drop_none (entries_at number logs) at (sym (entry_is logs number at) ∙ is))
-
-  entries_from : (at : ℕ) (entry : Entry) → entry_at number at logs ≡ Some entry
-      → drop at (entries_at number logs) ≡ entry ∷ drop (at + 1) (entries_at number logs)
-  entries_from at entry is = drop_here (entries_at number logs) at entry (sym (entry_is logs number at) ∙ is)
-
-  pub after_entry : (at : ℕ) (entry : Entry) → entry_at number at logs ≡ Some entry
-      → texts_after logs number at ≡ added (text_of entry) (texts_after logs number (at + 1))
-  after_entry at entry is =
-      ap texts_of (entries_from at entry is) ∙ added_is entry (drop (at + 1) (entries_at number logs))
-
-  pub fewer_after : (at : ℕ) (entry : Entry) → entry_at number at logs ≡ Some entry
-      → length (drop (at + 1) (entries_at number logs)) < length (drop at (entries_at number logs))
-  fewer_after at entry is = let size = ap length (entries_from at entry is) in omega (arith, size)
-
--- ---- flags
 
 picked-nil : (flags : List Bool) → picked {X = List ℕ} flags [] ≡ []
 picked-nil [] = refl
@@ -93,41 +61,33 @@ module _ (target : List ℕ) (flags : List Bool) (next : ℕ) where
           ap (λ (l : List ℕ). with_line_feed (new_line target first) ++ l) (new_text-append one other)
           ∙ sym (append_assoc (with_line_feed (new_line target first)) (new_text target one) (new_text target other))
 
-  -- An entry that is no diagnostic.
-  pub other_next : (logs : List Log) (number at : ℕ) (entry : Entry) → entry_at number at logs ≡ Some entry → diagnostic_in entry ≡ None
-      → left (texts_after logs number at) ≡ left (texts_after logs number (at + 1))
-  other_next logs number at entry is none = ap left (after_entry logs number at entry is) ∙ by (text_of entry) none
+  -- Lines that were skipped.
+  pub after_skipped : (before after : LinesLeft) → AreSkipped before after → left before.left ≡ left after.left
+  after_skipped before after skipped = ap left skipped.left ∙ others_skipped skipped.lines after.left skipped.others
     where
-      by_line : (line : List ℕ) (test : Bool) → is_some (diagnostic_of line) ≡ test
-          → (if test then Some line else None) ≡ None
-          → left (line ∷ texts_after logs number (at + 1)) ≡ left (texts_after logs number (at + 1))
-      by_line line true test_is none = absurd (cc)
-      by_line line false test_is none = other_line line (texts_after logs number (at + 1)) test_is
+      others_skipped : (lines more : List (List ℕ)) → AllByRecursion (λ line. diagnostic_of line ≡ None) lines
+          → left (lines ++ more) ≡ left more
+      others_skipped [] more none = refl
+      others_skipped (line ∷ lines) more none =
+          other_line line (lines ++ more) (ap (λ (found : Option DiagnosticValue). is_some found) none.0)
+          ∙ others_skipped lines more none.1
 
-      by : (text : Option (List ℕ)) → option_and_then line_if_diagnostic text ≡ None
-          → left (added text (texts_after logs number (at + 1))) ≡ left (texts_after logs number (at + 1))
-      by None none = refl
-      by (Some line) none = by_line line (is_some (diagnostic_of line)) refl none
+  -- After skipped lines, a line that is no diagnostic.
+  pub other_next : (before between : LinesLeft) (line : List ℕ) (after : List (List ℕ)) → AreSkipped before between
+      → between.left ≡ line ∷ after → is_some (diagnostic_of line) ≡ false → left before.left ≡ left after
+  other_next before between line after skipped is none = after_skipped before between skipped ∙ ap left is ∙ other_line line after none
 
-  -- An entry that is one.
-  pub diagnostic_next : (logs : List Log) (number at : ℕ) (entry : Entry) (line : List ℕ) → entry_at number at logs ≡ Some entry
-      → diagnostic_in entry ≡ Some line
-      → left (texts_after logs number at)
-      ≡ new_text target (flagged flags next line) ++ new_text target (new_among flags (next + 1) (texts_after logs number (at + 1)))
-  diagnostic_next logs number at entry line is one = ap left (after_entry logs number at entry is) ∙ by (text_of entry) one
-    where
-      behind : List ℕ
-      behind = new_text target (new_among flags (next + 1) (texts_after logs number (at + 1)))
+  -- After skipped lines, a line that is one.
+  pub diagnostic_next : (before between : LinesLeft) (line : List ℕ) (after : List (List ℕ)) → AreSkipped before between
+      → between.left ≡ line ∷ after → is_some (diagnostic_of line) ≡ true
+      → left before.left ≡ new_text target (flagged flags next line) ++ new_text target (new_among flags (next + 1) after)
+  diagnostic_next before between line after skipped is one =
+      after_skipped before between skipped ∙ ap left is ∙ diagnostic_line line after one
 
-      by_line : (text : List ℕ) (test : Bool) → is_some (diagnostic_of text) ≡ test → (if test then Some text else None) ≡ Some line
-          → left (text ∷ texts_after logs number (at + 1)) ≡ new_text target (flagged flags next line) ++ behind
-      by_line text false test_is one = absurd (cc)
-      by_line text true test_is one =
-          let same : text ≡ line = cc in
-          diagnostic_line text (texts_after logs number (at + 1)) test_is
-          ∙ ap (λ (l : List ℕ). new_text target (flagged flags next l) ++ behind) same
-
-      by : (text : Option (List ℕ)) → option_and_then line_if_diagnostic text ≡ Some line
-          → left (added text (texts_after logs number (at + 1))) ≡ new_text target (flagged flags next line) ++ behind
-      by None one = absurd (cc)
-      by (Some text) one = by_line text (is_some (diagnostic_of text)) refl one
+-- Fewer lines are left after skipped lines and another one.
+pub fewer_after : (before between : LinesLeft) (line : List ℕ) (after : List (List ℕ)) → AreSkipped before between
+    → between.left ≡ line ∷ after → length after < length before.left
+fewer_after before between line after skipped is =
+    let split = ap length skipped.left in
+    let size = ap length is in
+    omega (arith, split, size, length-append skipped.lines between.left)

@@ -1,19 +1,19 @@
 //! The lines of a log whose diagnostics are new.
-ghost use Rattle.std.specs.Prelude.{◌≡◌, ◌∷◌, ◌++◌, ◌≤◌, ◌+◌, ◌<◌, ◌^◌, ℕ, List, IfOk, is_some, option_copied};
+ghost use Rattle.std.specs.Prelude.{◌≡◌, IfOk, is_some};
 ghost use Rattle.std.specs.List.{list_any};
-ghost use Rattle.redo_logs.specs.EntryRef.{entry_value};
 ghost use Rattle.redo_diagnostics.specs.Diagnostic.{diagnostic_of};
 ghost use Rattle.redo_compare.specs.Rounds.{picked};
 ghost use Rattle.redo_outline.specs.Facts.{target_at};
 ghost use Rattle.redo_view.specs.Form.{FormWrites};
 ghost use Rattle.redo_new.specs.News.{diagnostic_lines};
-ghost use Rattle.redo_new.specs.Private.Sections.{diagnostic_in, flagged, new_text};
+ghost use Rattle.redo_new.specs.Private.Sections.{flagged, new_text};
 
 use crate::writing::write_new;
+use redo_compare::skip_others;
 use redo_device::Sink;
 use redo_diagnostics::read_diagnostic;
-use redo_logs::{EntryRef, LogTable};
-use redo_outline::target_at;
+use redo_logs::LogTable;
+use redo_outline::{TextLines, target_at};
 use redo_view::FormFault;
 use std::alloc::{AllocError, Global};
 
@@ -43,7 +43,7 @@ fn is_any_set(flags: &[bool]) -> bool
     flags.iter().any(|is_set| *is_set)
 }
 
-// Like `write_new_lines`, but reads all lines.
+// Like `write_new_lines`, but reads the lines.
 fn write_flagged<W: Sink>(
     alloc: Global,
     table: &LogTable,
@@ -55,35 +55,26 @@ fn write_flagged<W: Sink>(
         (new_text (target_at table.now number) (picked flags.now (diagnostic_lines table.now number))) result }
 {
     let target = target_at(table, number);
-    let mut at = 0;
+    let mut lines = TextLines::new(table, number);
+    let mut plain = Vec::new(alloc);
     let mut next = 0;
-    'entries: loop {
-        let Some(entry) = table.entry(number, at) else {
+    'lines: loop {
+        skip_others(&mut lines);
+        let Some(line) = lines.next_line() else {
             return Ok(());
         };
-        if let Some(line) = diagnostic_in(alloc, entry)? {
+        if is_diagnostic(line, &mut plain)? {
             write_if_set(target, line, flags, next, out)?;
             next += 1;
         }
-        at += 1;
     }
 }
 
-// Returns the line of an entry, if it is a diagnostic.
-fn diagnostic_in<'a>(alloc: Global, entry: EntryRef<'a>) -> Result<Option<&'a [u8]>, AllocError>
-    ensures { IfOk result (λ line. option_copied line ≡ diagnostic_in (entry_value entry.entry)) }
-{
-    match entry {
-        EntryRef::Text(line) if is_diagnostic(alloc, line)? => Ok(Some(line)),
-        _ => Ok(None),
-    }
-}
-
-fn is_diagnostic(alloc: Global, line: &[u8]) -> Result<bool, AllocError>
+// Returns whether a line is a diagnostic. `plain` is overwritten.
+fn is_diagnostic(line: &[u8], plain: &mut Vec<u8>) -> Result<bool, AllocError>
     ensures { IfOk result (λ is. is ≡ is_some (diagnostic_of line.now)) }
 {
-    let mut plain = Vec::new(alloc);
-    Ok(read_diagnostic(line, &mut plain)?.is_some())
+    Ok(read_diagnostic(line, plain)?.is_some())
 }
 
 // Writes the line of diagnostic `next`, if its flag is set.

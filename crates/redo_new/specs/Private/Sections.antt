@@ -1,11 +1,10 @@
 -- The text in sections, one for each kind of fact.
-use Rattle.std.specs.Prelude.{ℕ, Bool, false, List, [], ◌∷◌, Option, None, Some, drop, filter, get_or, is_some, map, option_and_then, if◌then◌else◌}
+use Rattle.std.specs.Prelude.{ℕ, Bool, false, List, [], ◌∷◌, drop, filter, get_or, is_some, map, if◌then◌else◌}
 use Rattle.std.specs.List.{flat_map}
 use Rattle.redo_diagnostics.specs.Diagnostic.{diagnostic_of}
 use Rattle.redo_line.specs.Lines.{with_line_feed}
-use Rattle.redo_line.specs.declared.entry.Entry.{Entry}
 use Rattle.redo_logs.specs.Logs.{Log}
-use Rattle.redo_outline.specs.Facts.{entries_at, target_at, text_of, texts_of}
+use Rattle.redo_outline.specs.Facts.{target_at}
 use Rattle.redo_outline.specs.declared.node.Node.{Node}
 use Rattle.redo_compare.specs.Baseline.{BaselineValue, target_changes}
 use Rattle.redo_compare.specs.Rounds.{picked}
@@ -42,14 +41,3 @@ flagged flags next line = line_if (get_or flags next false) line
 -- The new ones among the diagnostics of these lines, if the flags of the diagnostics from number `next` on are theirs.
 abbrev pub new_among : List Bool → ℕ → List (List ℕ) → List (List ℕ)
 new_among flags next lines = picked (drop next flags) (filter (λ (line : List ℕ). is_some (diagnostic_of line)) lines)
-
--- The text lines of log `number` from entry `at` on.
-abbrev pub texts_after : List Log → ℕ → ℕ → List (List ℕ)
-texts_after logs number at = texts_of (drop at (entries_at number logs))
-
-abbrev pub line_if_diagnostic : List ℕ → Option (List ℕ)
-line_if_diagnostic line = if is_some (diagnostic_of line) then Some line else None
-
--- The line of an entry, if it is a diagnostic.
-abbrev pub diagnostic_in : Entry → Option (List ℕ)
-diagnostic_in entry = option_and_then line_if_diagnostic (text_of entry)
