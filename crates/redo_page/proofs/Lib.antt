@@ -47,7 +47,6 @@ mod PageTags
 mod PartLemmas
 mod PartLoops
 mod PartNames
-mod PrintedLemmas
 mod RecipeLemmas
 mod RecipeParts
 mod RecipeRows

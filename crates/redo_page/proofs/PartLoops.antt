@@ -9,14 +9,14 @@ use Rattle.redo_html.specs.Lines.{line_parts, style_after, style_after_lines}
 use Rattle.redo_html.specs.Parts.{Part}
 use Rattle.redo_html.specs.Parts.Part.{LogPart}
 use Rattle.redo_line.specs.Lines.{ended, with_line_feed}
+use Rattle.redo_outline.specs.TextLines.{IsWholeLine}
+use Rattle.redo_outline.proofs.FirstLines.{whole_ended}
 use Rattle.redo_page.specs.declared.writer.PageWriter.{PageWriter}
 use Rattle.redo_page.specs.Article.{output_line_parts}
 use Rattle.redo_page.specs.Errors.{is_error}
 use Rattle.redo_page.specs.Excerpt.{emphasized_if}
-use Rattle.redo_page.specs.Private.Printed.{IsWholeLine}
 use Rattle.redo_page.specs.Private.Writing.{WroteParts, WroteUnless, WrotePartsUpTo}
 use Rattle.redo_page.specs.Targets.{parts_if}
-use Rattle.redo_page.proofs.PrintedLemmas.{whole_ended}
 use Rattle.redo_page.proofs.WriterLemmas.{wrote_then}
 
 unless_nothing : (failed : Bool) (output : Option Output) → WroteUnless failed output output [] failed

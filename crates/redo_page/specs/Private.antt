@@ -1,7 +1,6 @@
 -- Definitions that only clauses of private functions cite. They help in proofs and need not be trusted.
 pub mod Excerpting
 pub mod PageTexts
-pub mod Printed
 pub mod Referring
 pub mod Streaming
 pub mod Texts

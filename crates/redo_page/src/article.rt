@@ -9,7 +9,7 @@ ghost use Rattle.redo_outline.specs.Facts.{entries_at, texts_of};
 ghost use Rattle.redo_page.specs.Article.{article_of, article_parts, article_took, cause_of_node, cause_parts, line_of_node, no_failure_below, nothing_parts, output_line_parts, output_parts, path_parts, whole_parts};
 ghost use Rattle.redo_page.specs.Targets.{name_parts};
 ghost use Rattle.redo_outline.specs.Facts.{target_at};
-ghost use Rattle.redo_page.specs.Private.Printed.{IsWholeLine};
+ghost use Rattle.redo_outline.specs.TextLines.{IsWholeLine};
 ghost use Rattle.redo_page.specs.Private.Writing.{WroteParts};
 
 use crate::cause::{find_cause, find_line, is_error};
@@ -18,7 +18,6 @@ use crate::labels::{
     MIDDLE_DOT, MORE_ABOVE, NO_FAILURE_BELOW, NOTHING_CAPTURED, PATH_SEPARATOR, PLACE_IN_TREE,
 };
 use crate::nodes::{is_short, node_at};
-use crate::printed::{Printed, without_line_feed};
 use crate::recipe::write_recipe;
 use crate::targets::{write_badge, write_name};
 use crate::words::write_words;
@@ -27,7 +26,7 @@ use redo_device::Sink;
 use redo_facts::Facts;
 use redo_html::{Markup, Piece, Style};
 use redo_logs::LogTable;
-use redo_outline::{Node, target_at};
+use redo_outline::{Node, TextLines, target_at, without_line_feed};
 use redo_units::duration;
 
 const MAX_CAUSE: usize = 160;
@@ -55,7 +54,7 @@ fn write_output_line<W: Sink>(style: &mut Style, whole: &[u8], page: &mut PageWr
 fn write_lines<W: Sink>(table: &LogTable, number: u32, page: &mut PageWriter<'_, W>)
     ensures { WroteParts W.written page.old page.new (output_line_parts plain_style (texts_of (entries_at number table.now))) }
 {
-    let mut printed = Printed::new(table, number);
+    let mut printed = TextLines::new(table, number);
     let mut style = Style::PLAIN;
     'lines: while let Some(whole) = printed.next_whole_line() {
         write_output_line(&mut style, whole, page);

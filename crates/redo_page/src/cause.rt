@@ -5,9 +5,9 @@ ghost use Rattle.redo_html.specs.Symbols.{sequence_len};
 ghost use Rattle.redo_outline.specs.Facts.{entries_at, texts_of};
 ghost use Rattle.redo_page.specs.Errors.{begins_with, begins_with_error, cause_of, is_blank, is_error, is_letter, is_word_byte, is_word_end, unless_blank};
 
-use crate::printed::Printed;
 use redo_html::{ESCAPE, sequence_size};
 use redo_logs::LogTable;
+use redo_outline::TextLines;
 
 const ERROR_WORDS: &[&[u8]] = &[
     b"error",
@@ -135,7 +135,7 @@ fn last_filled<'a>(line: &'a [u8], last: Option<&'a [u8]>) -> Option<&'a [u8]>
 pub fn find_cause<'a>(table: &'a LogTable, number: u32) -> Option<&'a [u8]>
     ensures { option_copied result ≡ cause_of (texts_of (entries_at number table.now)) }
 {
-    let mut printed = Printed::new(table, number);
+    let mut printed = TextLines::new(table, number);
     let mut last = None;
     'lines: while let Some(line) = printed.next_line() {
         if is_error(line) {
@@ -152,7 +152,7 @@ pub fn find_cause<'a>(table: &'a LogTable, number: u32) -> Option<&'a [u8]>
 pub fn find_line<'a>(table: &'a LogTable, number: u32, position: u64) -> Option<&'a [u8]>
     ensures { option_copied result ≡ slice_get (texts_of (entries_at number table.now)) position }
 {
-    let mut printed = Printed::new(table, number);
+    let mut printed = TextLines::new(table, number);
     let mut before = position;
     'lines: while let Some(line) = printed.next_line() {
         if before == 0 {

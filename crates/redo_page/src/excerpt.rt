@@ -7,12 +7,12 @@ ghost use Rattle.redo_page.specs.Private.Writing.{WroteParts};
 
 use crate::cause::is_error;
 use crate::labels::{IN_ITS_LOG, MORE_LINE, MORE_LINES};
-use crate::printed::Printed;
 use crate::targets::plural;
 use crate::writer::PageWriter;
 use redo_device::Sink;
 use redo_html::{Markup, Piece, Style, cut_len};
 use redo_logs::LogTable;
+use redo_outline::TextLines;
 
 const MAX_EXCERPT_LINE: usize = 1000;
 
@@ -85,7 +85,7 @@ impl Extent {
         ensures count { result.count ≡ length (texts_of (entries_at number table.now)) }
         ensures error { result.error ≡ error_position (texts_of (entries_at number table.now)) }
     {
-        let mut printed = Printed::new(table, number);
+        let mut printed = TextLines::new(table, number);
         let mut count = 0;
         let mut error = None;
         'lines: while let Some(line) = printed.next_line() {
@@ -223,7 +223,7 @@ pub fn write_excerpt<W: Sink>(
     ensures { WroteParts W.written page.old page.new (excerpt_parts position (texts_of (entries_at number table.now))) }
 {
     let extent = Extent::of(table, number);
-    let mut printed = Printed::new(table, number);
+    let mut printed = TextLines::new(table, number);
     let mut current = OpenStretch::Nothing;
     let mut at = 0;
     'lines: while let Some(line) = printed.next_line() {

@@ -7,8 +7,7 @@
 //! - The page, in order, with what its head, its header and its end say: `page.rt`, `verdict.rt`, `command.rt`.
 //! - Templates: `frame.rt` (head, header and end), `summary.rt`, and `timeline.rt`, around the chart of `redo_chart`. `template.rt` says
 //!   what templates consist of, and `scope.rt` what they say about a build.
-//! - What failed, a template of lists, and the articles in it: `failed.rt`, `article.rt`, `recipe.rt`, `cause.rt`, `excerpt.rt`,
-//!   `printed.rt`.
+//! - What failed, a template of lists, and the articles in it: `failed.rt`, `article.rt`, `recipe.rt`, `cause.rt`, `excerpt.rt`.
 //! - What is new since an earlier build, a template of lists: `news.rt`.
 //! - All logs: `tree.rt`, `step.rt`, `logs.rt`, `items.rt`, `block.rt`, `level.rt`, `texts.rt`. `limits.rt` says how much of each log is
 //!   shown.
@@ -32,7 +31,6 @@ mod logs;
 mod news;
 mod nodes;
 mod page;
-mod printed;
 mod recipe;
 mod scope;
 mod step;

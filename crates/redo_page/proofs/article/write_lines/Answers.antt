@@ -3,7 +3,7 @@ use Rattle.redo_html.specs.Style.{plain_style}
 use Rattle.redo_line.specs.Lines.{ended}
 use Rattle.redo_outline.specs.Facts.{entries_at, texts_of}
 use Rattle.redo_page.specs.Article.{output_line_parts}
-use Rattle.redo_page.proofs.PrintedLemmas.{whole_ended}
+use Rattle.redo_outline.proofs.FirstLines.{whole_ended}
 use Rattle.redo_page.proofs.PartLoops.{lines_end, lines_next, lines_start}
 use Rattle.redo_page.proofs.article.write_lines.Goals as goal
 

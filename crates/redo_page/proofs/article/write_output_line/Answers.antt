@@ -1,7 +1,7 @@
 use Rattle.std.proofs.Common.{false, true, ap, sym, ◌∙◌}
 use Rattle.redo_page.specs.Errors.{is_error}
 use Rattle.redo_page.proofs.PartLoops.{wrote_line}
-use Rattle.redo_page.proofs.PrintedLemmas.{whole_rest}
+use Rattle.redo_outline.proofs.FirstLines.{whole_rest}
 use Rattle.redo_page.proofs.WriterLemmas.{wrote_then}
 use Rattle.redo_page.proofs.article.write_output_line.Goals as goal
 
