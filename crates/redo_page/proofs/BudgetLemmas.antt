@@ -34,13 +34,13 @@ use Rattle.redo_trim.specs.declared.limit.Gauge.{Gauge}
 use Rattle.redo_trim.specs.declared.limit.Limit.{Limit}
 use Rattle.redo_trim.specs.Laws.{head_and_tail}
 use Rattle.redo_trim.specs.Trim.{after_shown, gauge_of, kept, limit_of, no_limit, trim, with_shown_all}
-use Rattle.redo_page.specs.Laws.{PositionedLine, event_lines, positioned_bytes, positioned_lines, unmoved_lines}
-use Rattle.redo_page.proofs.PartNames.{log_bytes}
+use Rattle.redo_page.specs.Laws.{PositionedLine, event_lines, positioned_bytes, positioned_lines}
+use Rattle.redo_page.proofs.PartNames.{log_bytes, unmoved}
 use Rattle.redo_page.specs.Page.{Request, options_of, page_contents, page_events, page_outline, run_times}
-use Rattle.redo_page.specs.Limits.{at_most, bytes_shown, cap_for, fit_in, highest_cap, limit_at, limit_if, limits_from, limits_of, min_cap, position_limit, tree_limits}
+use Rattle.redo_page.specs.Limits.{at_most, bytes_shown, cap_for, fit_in, highest_cap, limit_at, limit_if, limits_of, min_cap, position_limit, tree_limits}
 use Rattle.redo_page.specs.Tree.{Build, articles, is_moved, is_moved_if, node_at, position_of}
 use Rattle.redo_page.specs.Private.Streaming.{streamed_tree}
-use Rattle.redo_page.proofs.LimitLemmas.{highest_fits}
+use Rattle.redo_page.proofs.LimitLemmas.{highest_fits, limit_in, limits_from}
 use Rattle.redo_page.proofs.OpeningLemmas.{AreNamed, ArePlaced, NamesItsLog, contents_named, target_named, trim_named}
 use Rattle.redo_page.proofs.PageIds.{outline_counted}
 use Rattle.redo_page.proofs.PageNames.{page_placed}
@@ -193,11 +193,11 @@ shown_bytes cap bytes = at_most cap bytes
 
 module _ (build : Build) (cap : ℕ) where
   limit_found : (first count k : ℕ) → k < count
-      → limit_of (limits_from build cap first count) k ≡ limit_if build cap (position_of build.nodes (first + k))
+      → limit_of (limits_from build cap first count) k ≡ limit_in build cap (first + k)
   limit_found first zero k below = absurd (omega (arith, below))
-  limit_found first (suc count) zero below = ap (λ (n : ℕ). limit_if build cap (position_of build.nodes n)) (omega arith)
+  limit_found first (suc count) zero below = ap (limit_in build cap) (omega arith)
   limit_found first (suc count) (suc k) below =
-      limit_found (suc first) count k (omega (arith, below)) ∙ ap (λ (n : ℕ). limit_if build cap (position_of build.nodes n)) (omega arith)
+      limit_found (first + 1) count k (omega (arith, below)) ∙ ap (limit_in build cap) (omega arith)
 
 -- The rest of a log has at most the bytes that it may show.
 abbrev Bounds : Type 0
@@ -205,7 +205,7 @@ Bounds = (limit : Limit) (lines : List (List ℕ)) → text_size (head_and_tail 
 
 position_bound : (bounds : Bounds) (build : Build) (cap position : ℕ) (lines : List (List ℕ)) → is_moved build position ≡ false
     → (node_at build.nodes position).bytes ≡ text_size lines
-    → text_size (head_and_tail (position_limit build cap position) lines) ≤ min (text_size lines) cap
+    → text_size (head_and_tail (position_limit build.articles build.nodes cap position) lines) ≤ min (text_size lines) cap
 position_bound bounds build cap position lines moved size =
     by (nat_lt cap (node_at build.nodes position).bytes) (is_moved build position) refl moved
   where
@@ -237,7 +237,7 @@ module _ (build : Build) where
   own_size around lines = if is_moved_if build around then 0 else text_size lines
 
   abbrev size : List PositionedLine → ℕ
-  size lines = length (positioned_bytes (unmoved_lines build lines))
+  size lines = length (positioned_bytes (unmoved build lines))
 
   -- The bytes of the logs that are opened in some contents.
   abbrev log_sizes : ℕ → Contents → ℕ
@@ -249,7 +249,7 @@ module _ (build : Build) where
 
   size-append : (lines others : List PositionedLine) → size (lines ++ others) ≡ size lines + size others
   size-append lines others = ap length (bytes-append build lines others)
-      ∙ length-append (positioned_bytes (unmoved_lines build lines)) (positioned_bytes (unmoved_lines build others))
+      ∙ length-append (positioned_bytes (unmoved build lines)) (positioned_bytes (unmoved build others))
 
   own-append : (around : Option ℕ) (lines others : List (List ℕ))
       → own_size around (lines ++ others) ≡ own_size around lines + own_size around others
@@ -438,7 +438,7 @@ module _ (bounds : Bounds) (logs : List Log) (options : Options) (nodes : List N
   build_of = record { logs = logs; options = options; nodes = nodes; articles = articles nodes }
 
   abbrev left_lines : ℕ → List (List ℕ)
-  left_lines number = head_and_tail (limit_of (tree_limits logs options nodes budget) number) (lines_of_log number logs)
+  left_lines number = head_and_tail (limit_of (tree_limits logs nodes budget) number) (lines_of_log number logs)
 
   printed_is : (number : ℕ) → saturated (printed_size logs number) ≡ text_size (lines_of_log number logs)
   printed_is number =
@@ -452,7 +452,7 @@ module _ (bounds : Bounds) (logs : List Log) (options : Options) (nodes : List N
   log_bound position number at below few moved = by (cap_for budget nodes)
     where
       by : (cap : Option ℕ)
-          → text_size (head_and_tail (limit_of (limits_of build_of cap (length logs)) number) (lines_of_log number logs))
+          → text_size (head_and_tail (limit_of (limits_of (articles nodes) nodes cap (length logs)) number) (lines_of_log number logs))
           ≤ at_most cap (saturated (printed_size logs number))
       by None =
           let bound = bounds no_limit (lines_of_log number logs) in
@@ -462,9 +462,10 @@ module _ (bounds : Bounds) (logs : List Log) (options : Options) (nodes : List N
           let found : position_of nodes number ≡ Some position =
           ap (position_of nodes) (sym at) ∙ found_once logs nodes position once below in
           let start : 0 + number ≡ number = omega arith in
-          let limit : limit_of (limits_from build_of most_bytes 0 (length logs)) number ≡ position_limit build_of most_bytes position =
+          let limit : limit_of (limits_from build_of most_bytes 0 (length logs)) number
+          ≡ position_limit (articles nodes) nodes most_bytes position =
           limit_found build_of most_bytes 0 (length logs) number few
-          ∙ ap (λ (n : ℕ). limit_if build_of most_bytes (position_of nodes n)) start ∙ ap (limit_if build_of most_bytes) found in
+          ∙ ap (limit_in build_of most_bytes) start ∙ ap (limit_if (articles nodes) nodes most_bytes) found in
           let size : (node_at nodes position).bytes ≡ text_size (lines_of_log number logs) =
           sizes position below ∙ ap (λ (n : ℕ). saturated (printed_size logs n)) at ∙ printed_is number in
           let bound = position_bound bounds build_of most_bytes position (lines_of_log number logs) moved size in
@@ -473,15 +474,15 @@ module _ (bounds : Bounds) (logs : List Log) (options : Options) (nodes : List N
           ≤ at_most (Some most_bytes) (saturated (printed_size logs number))) (sym limit) (omega (arith, bound, is))
 
   -- The tree shows at most these bytes.
-  tree_bytes : (contents : Contents) → 0 < budget → AreNamed logs (trim (tree_limits logs options nodes budget) [] contents)
-      → ArePlaced nodes 0 (trim (tree_limits logs options nodes budget) [] contents)
-      → 0 + log_count (trim (tree_limits logs options nodes budget) [] contents) ≤ length nodes
-      → Have left_lines (trim (tree_limits logs options nodes budget) [] contents) → direct_lines contents ≡ []
+  tree_bytes : (contents : Contents) → 0 < budget → AreNamed logs (trim (tree_limits logs nodes budget) [] contents)
+      → ArePlaced nodes 0 (trim (tree_limits logs nodes budget) [] contents)
+      → 0 + log_count (trim (tree_limits logs nodes budget) [] contents) ≤ length nodes
+      → Have left_lines (trim (tree_limits logs nodes budget) [] contents) → direct_lines contents ≡ []
       → most logs (cap_for budget nodes) contents ≡ bytes_shown (cap_for budget nodes) nodes
-      → length (log_bytes (streamed_tree logs options nodes (trim (tree_limits logs options nodes budget) [] contents)))
+      → length (log_bytes (streamed_tree logs options nodes (trim (tree_limits logs nodes budget) [] contents)))
       ≤ max budget (4096 * length nodes)
   tree_bytes contents some named placed within have none all =
-      let limits = tree_limits logs options nodes budget in
+      let limits = tree_limits logs nodes budget in
       let shown = trim limits [] contents in
       let text = ap length (tree_text logs options nodes shown) in
       let sizes_are = all_sizes build_of None 0 shown in
@@ -543,7 +544,7 @@ module _ (bounds : Bounds) (request : Request) (logs : List Log) (requested : Li
   whole = contents_of events
 
   abbrev page_limits : List Limit
-  page_limits = tree_limits logs (options_of request) page_nodes request.max_bytes
+  page_limits = tree_limits logs page_nodes request.max_bytes
 
   abbrev status : ℕ → Option ℤ
   status = target_status logs events

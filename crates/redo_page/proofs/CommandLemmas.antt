@@ -1,8 +1,8 @@
 -- Lemmas about the command that writes the same logs as one text.
-use Rattle.std.proofs.Common.{◌≡◌, ℕ, ◌+◌, ◌/◌, ◌%◌, ◌<◌, Bool, true, false, cond, List, [], ◌∷◌, ◌++◌, refl, sym, ◌∙◌, ap, arith, ⊎_elim}
+use Rattle.std.proofs.Common.{◌≡◌, ℕ, ◌+◌, ◌/◌, ◌<◌, Bool, true, false, cond, List, [], ◌∷◌, ◌++◌, refl, ◌∙◌, arith}
 use Rattle.std.specs.Prelude.{◌==◌, ◌||◌, ◌&&◌, not, nat_eq, codes}
 use Rattle.std.specs.List.{flat_map, list_all, starts_with}
-use Rattle.std.proofs.lemmas.Bool.{agree_below_at, and_parts, and_from, cond_both, ltb-true, not-true, or_cases}
+use Rattle.std.proofs.lemmas.Bool.{agree_below_at, and_parts, and_from, cond_both, ltb-true}
 use Rattle.std.proofs.lemmas.Bool.Decides.{nat_tests}
 use Rattle.std.proofs.lemmas.List.Folds.{list_all-append}
 use Rattle.redo_html.specs.declared.text_kind.TextKind.TheVariants.{Monochrome}

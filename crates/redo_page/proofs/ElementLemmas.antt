@@ -22,8 +22,8 @@ use Rattle.redo_outline.specs.Outline.{log_count}
 use Rattle.redo_page.specs.declared.block.Pending.{Pending}
 use Rattle.redo_page.specs.declared.block.Pending.TheVariants as pending
 use Rattle.redo_page.specs.declared.level.Level.{Level}
-use Rattle.redo_page.specs.Laws.{IsInside, PositionedLine, is_within, log_text, positioned_bytes, positioned_lines, target_id, unmoved_lines}
-use Rattle.redo_page.proofs.PartNames.{log_bytes, target_ids}
+use Rattle.redo_page.specs.Laws.{IsInside, PositionedLine, is_within, log_text, positioned_bytes, positioned_lines, target_id}
+use Rattle.redo_page.proofs.PartNames.{log_bytes, target_ids, unmoved}
 use Rattle.redo_page.specs.Tree.{Build, articles, closing_parts, depth_parts, empty_start, flat_end, flat_start, heading_parts, is_empty, is_expanded, level_of, max_depth, moved_parts, nested_start, node_at, opening_parts, section_end, section_start, top_level, nested_end}
 use Rattle.redo_page.specs.Private.Streaming.{after_log, after_shown, contents_parts, end_parts, group_end, group_left, group_start, shown_parts, streamed_tree}
 use Rattle.redo_page.proofs.Ids.{Bare, same_found, target_id_part}
@@ -283,7 +283,7 @@ module _ (build : Build) (lines : List PositionedLine) where
   -- Parts show exactly the lines of the log at a position and of the logs below it.
   abbrev ShowsLinesFrom : ℕ → List Part → Type 0
   ShowsLinesFrom position parts =
-      log_bytes parts ≡ positioned_bytes (unmoved_lines build (left position (node_at build.nodes position).below lines))
+      log_bytes parts ≡ positioned_bytes (unmoved build (left position (node_at build.nodes position).below lines))
 
   -- If the element of a log begins with this tag, it contains the lines of this log.
   abbrev pub ShowsItsLines : Markup → List Part → Type 0
@@ -378,13 +378,13 @@ module _ (build : Build) (all : List PositionedLine) where
           );
         }
 
-    between_text : log_bytes between_tags ≡ positioned_bytes (unmoved_lines build (left position (node_at build.nodes position).below all))
+    between_text : log_bytes between_tags ≡ positioned_bytes (unmoved build (left position (node_at build.nodes position).below all))
     between_text =
         flat_map-append log_text start_inside (in_log ++ MarkupPart markup.EndUnordered ∷ [])
         ∙ ap (λ (t : List ℕ). t ++ log_bytes (in_log ++ MarkupPart markup.EndUnordered ∷ [])) start_quiet
         ∙ flat_map-append log_text in_log (MarkupPart markup.EndUnordered ∷ []) ∙ append-nil (log_bytes in_log)
         ∙ contents_text build (level_of build level position) (suc position) pending.Nothing inside
-        ∙ ap (λ (lines : List PositionedLine). positioned_bytes (unmoved_lines build lines)) (sym own)
+        ∙ ap (λ (lines : List PositionedLine). positioned_bytes (unmoved build lines)) (sym own)
       where
         start_quiet : log_bytes start_inside ≡ []
         start_quiet =
@@ -403,7 +403,7 @@ module _ (build : Build) (all : List PositionedLine) where
         (then_show start_shows (then_show in_log_shows (bare_shows (MarkupPart markup.EndUnordered ∷ []) refl)))
 
     here : (rest found after : List Part) → found ++ (end ∷ after) ≡ between_tags ++ (end ∷ rest) → Closed found
-        → log_bytes found ≡ positioned_bytes (unmoved_lines build (left position (node_at build.nodes position).below all))
+        → log_bytes found ≡ positioned_bytes (unmoved build (left position (node_at build.nodes position).below all))
     here rest found after is closed =
         ap log_bytes (one_end end (λ others. refl) found between_tags after rest closed between_closed is) ∙ between_text
 

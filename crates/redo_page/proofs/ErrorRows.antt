@@ -4,7 +4,7 @@ use Rattle.std.specs.List.{filter, range_with_len}
 use Rattle.std.specs.Prelude.{codes}
 use Rattle.redo_html.specs.Symbols.{is_sequence, sequence_len}
 use Rattle.redo_diagnostics.specs.Plain.{plain_after}
-use Rattle.redo_page.specs.Errors.{begins_with, begins_with_error, cause_of, has_error, is_blank, is_error, is_letter, is_word_byte, is_word_end, last_filled, unless_blank}
+use Rattle.redo_page.specs.Errors.{begins_with, begins_with_error, cause_of, has_error, is_blank, is_error, is_letter, is_word_byte, is_word_end}
 
 -- ---- words
 
@@ -110,15 +110,9 @@ filled_lines_are :
 unfolding is_sequence plain_after sequence_len
 filled_lines_are = refl
 
-filled_are :
-    (unless_blank (codes " ") ≡ None) × (unless_blank (codes "a") ≡ Some (codes "a")) × (last_filled [] ≡ None)
-    × (last_filled (codes "a" ∷ codes "b" ∷ codes " " ∷ []) ≡ Some (codes "b"))
-unfolding is_sequence plain_after sequence_len
-filled_are = (refl, refl, refl, refl)
-
 causes_are :
     (cause_of (codes "a" ∷ codes "error 1" ∷ codes "error 2" ∷ codes "b" ∷ []) ≡ Some (codes "error 1"))
     × (cause_of (codes "a" ∷ codes "b" ∷ codes " " ∷ []) ≡ Some (codes "b"))
-    × (cause_of (codes " " ∷ []) ≡ None)
+    × (cause_of (codes " " ∷ []) ≡ None) × (cause_of [] ≡ None)
 unfolding begins_with is_sequence plain_after sequence_len
-causes_are = (refl, refl, refl)
+causes_are = (refl, refl, refl, refl)

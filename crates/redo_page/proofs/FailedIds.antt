@@ -22,8 +22,7 @@ use Rattle.redo_page.specs.Excerpt.Stretch.{Shown, LeftOut}
 use Rattle.redo_units.specs.Durations.{duration_words}
 use Rattle.redo_page.specs.Article.{article_of, article_parts, article_took, cause_of_node, cause_parts, line_of_node, max_path, nothing_parts, output_line_parts, output_parts, path_parts, printed_by, whole_parts}
 use Rattle.redo_page.specs.Recipe.{recipe_at}
-use Rattle.redo_page.specs.Laws.{is_among}
-use Rattle.redo_page.specs.Tree.{articles, is_root_failure, root_failures, is_short, max_articles, node_at, positions_where}
+use Rattle.redo_page.specs.Tree.{articles, is_root_failure, root_failures, is_short, max_articles, node_at, positions_where, is_among}
 use Rattle.redo_page.proofs.FailedOrder.{sort-passes}
 use Rattle.redo_page.proofs.RecipeLemmas.{recipe_bare}
 use Rattle.redo_page.proofs.Ids.{Bare, Refer, badge_bare, bare_refers, bare_then, link_refers, refer_each, same_refer, then_refer, words_bare}

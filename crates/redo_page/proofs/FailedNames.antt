@@ -39,7 +39,7 @@ use Rattle.redo_page.specs.Excerpt.{Stretch, cut_to, emphasized_if, error_positi
 use Rattle.redo_page.specs.Excerpt.Stretch.{Shown, LeftOut}
 use Rattle.redo_page.specs.Article.{article_of, article_parts, article_took, cause_of_node, cause_parts, line_of_node, max_path, nothing_parts, output_line_parts, output_parts, path_parts, printed_by, whole_parts}
 use Rattle.redo_page.specs.Failed.{failed_parts}
-use Rattle.redo_page.specs.Laws.{BeginWith, IsList, IsRow, TellsItsTarget, item_with, line_item, list_item, target_name}
+use Rattle.redo_page.specs.Laws.{BeginWith, IsList, IsRow, TellsItsTarget, cause_at, item_with, line_item, target_name}
 use Rattle.redo_page.specs.NewSection.{news_parts}
 use Rattle.redo_page.specs.Scope.{View, count_of, holds, max_rows, measure_words, positions_of, row_name, row_view, rows_of, target_view}
 use Rattle.redo_page.specs.Recipe.{recipe_at, recipe_parts}
@@ -223,8 +223,11 @@ module _ (view : View) where
       (bare_tell (known_in view) view.logs view.nodes (badge_parts node.status) (badge_bare node.status))
       (then_tell (known_in view) view.logs view.nodes line_tells (calm (MarkupPart markup.EndItem ∷ []) refl))))
 
+  abbrev list_item : (ℕ → Markup) → Bool → ℕ → List Part
+  list_item link causes position = item_with view.logs view.nodes (parts_if causes (cause_at view.logs view.nodes position)) link position
+
   item_tells_target : (link : ℕ → Markup) (causes : Bool) → LinksTell link → (position : ℕ)
-      → TellingOf (list_item view.logs view.nodes link causes position)
+      → TellingOf (list_item link causes position)
   item_tells_target link causes tells position =
       item_with_tells (parts_if causes (cause_parts (cause_of (printed_by view.logs (node_at view.nodes position)))))
       (tell_if (known_in view) view.logs view.nodes causes
@@ -264,9 +267,9 @@ module _ (view : View) where
       → TellsItsTarget view.logs view.nodes view.recipes view.facts.recipes list after)
       → (positions : List ℕ) (others : List Part) → TellingOf others
       → TellingOf (MarkupPart list
-      ∷ (flat_map (list_item view.logs view.nodes link causes) positions ++ (MarkupPart markup.EndOrdered ∷ others)))
+      ∷ (flat_map (list_item link causes) positions ++ (MarkupPart markup.EndOrdered ∷ others)))
   list_then link causes tells list says positions others more =
-      items_then (list_item view.logs view.nodes link causes) (item_tells_target link causes tells) list positions
+      items_then (list_item link causes) (item_tells_target link causes tells) list positions
       (λ rest begins. says rest (causes, positions, begins)) others more
 
   abbrev in_list : Block (Block (Unit {0})) → List Part
@@ -303,7 +306,7 @@ module _ (view : View) where
       → (these : Listed) (heading : List ℕ)
       → TellingOf (MarkupPart markup.MoreDetails ∷ MarkupPart markup.Summary ∷ NumberPart (count_of view (All these)) ∷ TextPart heading
       ∷ MarkupPart markup.EndSummary ∷ MarkupPart list
-      ∷ (flat_map (list_item view.logs view.nodes (λ position. markup.TargetLink position) causes) (listed_of these)
+      ∷ (flat_map (list_item (λ position. markup.TargetLink position) causes) (listed_of these)
       ++ (MarkupPart markup.EndOrdered ∷ more_end these)))
   more_tell list causes says these heading =
       then_tell (known_in view) view.logs view.nodes

@@ -11,13 +11,14 @@ use Rattle.redo_html.specs.declared.markup.Markup.TheVariants.{FailedSection, Ne
 use Rattle.redo_html.specs.Chart.{drawing_links}
 use Rattle.redo_html.specs.Parts.{Part}
 use Rattle.redo_html.specs.Parts.Part.{MarkupPart, LogPart, TextPart, NumberPart, TitlePart, StylePart, ChartPart, MeterPart}
-use Rattle.redo_page.specs.declared.labels.TheConstants.{FACT_DOT}
-use Rattle.redo_page.specs.Laws.{target_id, target_link, article_id, article_link, is_among}
+use Rattle.redo_page.specs.declared.labels.TheConstants.{FACT_DOT, WARNING, WARNING_BELOW, WARNINGS, WARNINGS_BELOW}
+use Rattle.redo_page.specs.Laws.{target_id, target_link, article_id, article_link}
+use Rattle.redo_page.specs.Tree.{is_among}
 use Rattle.redo_page.proofs.PartNames.{target_ids, target_links, article_ids, article_links}
 use Rattle.redo_line.specs.declared.entry.How.{How}
 use Rattle.redo_outline.specs.declared.node.Node.{Node}
 use Rattle.redo_outline.specs.Facts.{is_failure}
-use Rattle.redo_page.specs.Targets.{name_parts, exit_parts, badge_parts, lines_parts, warnings_parts, below_parts, warnings_below_parts, facts_parts, how_parts, linked_parts, parts_if, took_parts}
+use Rattle.redo_page.specs.Targets.{name_parts, exit_parts, badge_parts, lines_parts, warnings_parts, below_parts, facts_parts, how_parts, linked_parts, parts_if, took_parts}
 use Rattle.redo_page.specs.Words.{word_part, words_parts}
 use Rattle.redo_units.specs.Durations.{duration_words}
 use Rattle.redo_units.specs.Words.{WordValue}
@@ -238,8 +239,8 @@ badge_bare (Some status) = bare_if (is_failure (Some status)) (exit_parts status
 lines_bare : (lines : ℕ) → Bare (lines_parts lines)
 lines_bare lines = bare_if (not (lines == 0)) _ refl
 
-warnings_bare : (warnings : ℕ) → Bare (warnings_parts warnings)
-warnings_bare warnings = bare_if (not (warnings == 0)) _ refl
+warnings_bare : (warnings : ℕ) (one many : List ℕ) → Bare (warnings_parts warnings one many)
+warnings_bare warnings one many = bare_if (not (warnings == 0)) _ refl
 
 below_bare : (below : ℕ) → Bare (below_parts below)
 below_bare below = bare_if (not (below == 0)) _ refl
@@ -258,18 +259,15 @@ pub took_bare : (took : Option ℕ) → Bare (took_parts took)
 took_bare None = refl
 took_bare (Some ms) = words_bare (TextPart (codes " ") ∷ MarkupPart Small ∷ TextPart FACT_DOT.now ∷ []) (MarkupPart EndSmall ∷ []) (duration_words ms) refl refl
 
-warnings_below_bare : (warnings : ℕ) → Bare (warnings_below_parts warnings)
-warnings_below_bare warnings = bare_if (not (warnings == 0)) _ refl
-
 pub facts_bare : (node : Node) → Bare (facts_parts node)
 facts_bare node = simp (
   flat_map-append,
   badge_bare node.status,
   took_bare node.took,
   lines_bare node.lines,
-  warnings_bare node.warnings,
+  warnings_bare node.warnings WARNING.now WARNINGS.now,
   below_bare node.below,
-  warnings_below_bare node.warnings_below,
+  warnings_bare node.warnings_below WARNING_BELOW.now WARNINGS_BELOW.now,
 )
 
 pub how_bare : (shown : Bool) (how : How) → Bare (how_parts shown how)

@@ -20,9 +20,9 @@ use Rattle.redo_trim.specs.declared.limit.Limit.{Limit}
 use Rattle.redo_trim.specs.Laws.{FitsInto64Bits, head_and_tail, lines_in}
 use Rattle.redo_trim.specs.Trim.{after_shown, gauge_of, kept, limit_of, no_limit, trim, with_shown_all}
 use Rattle.redo_page.specs.Laws.{lines_at, positioned_lines, texts_of}
-use Rattle.redo_page.specs.Limits.{bytes_shown, fit_in, highest_cap, limit_at, limit_if, limits_from, limits_of, min_cap, position_limit, tree_limits}
+use Rattle.redo_page.specs.Limits.{bytes_shown, fit_in, highest_cap, limit_at, limit_if, limits_of, min_cap, position_limit, tree_limits}
 use Rattle.redo_page.specs.Tree.{Build, articles, is_moved, no_node, node_at, position_of}
-use Rattle.redo_page.proofs.LimitLemmas.{fits, last_within}
+use Rattle.redo_page.proofs.LimitLemmas.{fits, last_within, limits_from}
 use Rattle.redo_page.proofs.PageLines.{Have, HaveLines, direct_lines, opened_lines, texts_at}
 
 -- ---- numbers of logs
@@ -163,29 +163,29 @@ module _ (build : Build) (small : (position : ℕ) → IsSmall (node_at build.no
   limit_fits : (bytes : ℕ) → IsSmall bytes → FitsInto64Bits (limit_at cap bytes)
   limit_fits bytes few = record { head = omega (arith, low); tail = omega (arith, few) }
 
-  position_fits : (position : ℕ) → FitsInto64Bits (position_limit build cap position)
+  position_fits : (position : ℕ) → FitsInto64Bits (position_limit build.articles build.nodes cap position)
   position_fits position = by (nat_lt cap (node_at build.nodes position).bytes && not (is_moved build position))
     where
       by : (cut : Bool) → FitsInto64Bits (if cut then limit_at cap (node_at build.nodes position).bytes else no_limit)
       by true = limit_fits (node_at build.nodes position).bytes (small position)
       by false = no_limit_fits
 
-  if_fits : (position : Option ℕ) → FitsInto64Bits (limit_if build cap position)
+  if_fits : (position : Option ℕ) → FitsInto64Bits (limit_if build.articles build.nodes cap position)
   if_fits None = no_limit_fits
   if_fits (Some position) = position_fits position
 
   each_fits : (first count number : ℕ) → FitsInto64Bits (limit_of (limits_from build cap first count) number)
   each_fits first zero number = no_limit_fits
   each_fits first (suc count) zero = if_fits (position_of build.nodes first)
-  each_fits first (suc count) (suc number) = each_fits (suc first) count number
+  each_fits first (suc count) (suc number) = each_fits (first + 1) count number
 
 pub limits_fit : (logs : List Log) (options : Options) (nodes : List Node) (budget : ℕ) → budget < 2 ^ 64
     → ((position : ℕ) → IsSmall (node_at nodes position).bytes) → (number : ℕ)
-    → FitsInto64Bits (limit_of (tree_limits logs options nodes budget) number)
+    → FitsInto64Bits (limit_of (tree_limits logs nodes budget) number)
 limits_fit logs options nodes budget small bytes number = by (budget == 0 || fit_in None budget nodes)
   where
     by : (none : Bool) → FitsInto64Bits
-        (limit_of (limits_of (record { logs = logs; options = options; nodes = nodes; articles = articles nodes })
+        (limit_of (limits_of (articles nodes) nodes
         (if none then None else Some (max min_cap (highest_cap budget nodes))) (length logs)) number)
     by true = no_limit_fits
     by false =
@@ -196,11 +196,11 @@ limits_fit logs options nodes budget small bytes number = by (budget == 0 || fit
 -- ---- nothing is cut if everything fits
 
 pub fitting_limits : (logs : List Log) (options : Options) (nodes : List Node) (budget : ℕ) → bytes_shown None nodes ≤ budget
-    → tree_limits logs options nodes budget ≡ []
+    → tree_limits logs nodes budget ≡ []
 fitting_limits logs options nodes budget fit = by (budget == 0) (fit_in None budget nodes) (le-leb (bytes_shown None nodes) budget fit)
   where
     by : (zero fits : Bool) → fits ≡ true
-        → limits_of (record { logs = logs; options = options; nodes = nodes; articles = articles nodes })
+        → limits_of (articles nodes) nodes
         (if zero || fits then None else Some (max min_cap (highest_cap budget nodes))) (length logs) ≡ []
     by true fits is = refl
     by false true is = refl

@@ -37,9 +37,9 @@ use Rattle.redo_page.specs.Article.{whole_parts}
 use Rattle.redo_page.specs.NewSection.{no_news}
 use Rattle.redo_page.specs.Page.{build_view}
 use Rattle.redo_page.specs.Scope.{View, count_of, holds, measure_words}
-use Rattle.redo_page.specs.Targets.{below_parts, exit_parts, lines_parts, plural, took_parts, warnings_below_parts, warnings_parts}
+use Rattle.redo_page.specs.Targets.{below_parts, exit_parts, lines_parts, plural, took_parts, warnings_parts}
 use Rattle.redo_page.specs.Template.{around_parts}
-use Rattle.redo_page.specs.Tree.{Build, are_group, depth_parts, group_start_of, has_article, no_node, node_at, note_parts, note_prefix}
+use Rattle.redo_page.specs.Tree.{Build, are_group, depth_parts, group_start_of, is_among, no_node, node_at, note_parts, note_prefix}
 use Rattle.redo_page.specs.Tree.{opening_position, position_of}
 use Rattle.redo_page.specs.Verdict.{share_text, titled, verdict_text}
 use Rattle.redo_summary.specs.Summary.{Facts}
@@ -215,11 +215,11 @@ abbrev numbers : List Part → List ℕ
 numbers parts = flat_map numbers_of parts
 
 large_facts :
-    (numbers (lines_parts 12345) ≡ 12345 ∷ []) × (numbers (warnings_parts 12345) ≡ 12345 ∷ []) × (numbers (below_parts 12345) ≡ 12345 ∷ [])
-    × (numbers (warnings_below_parts 12345) ≡ 12345 ∷ []) × (numbers (took_parts (Some 604800000)) ≡ 168 ∷ 0 ∷ 0 ∷ [])
+    (numbers (lines_parts 12345) ≡ 12345 ∷ []) × (numbers (warnings_parts 12345 [] []) ≡ 12345 ∷ [])
+    × (numbers (below_parts 12345) ≡ 12345 ∷ []) × (numbers (took_parts (Some 604800000)) ≡ 168 ∷ 0 ∷ 0 ∷ [])
     × (numbers (took_parts (Some 0)) ≡ 0 ∷ 0 ∷ 0 ∷ [])
 unfolding duration_words
-large_facts = (refl, refl, refl, refl, refl, refl)
+large_facts = (refl, refl, refl, refl, refl)
 
 abbrev texts_of : Part → List (List ℕ)
 texts_of (TextPart text) = text ∷ []
@@ -244,7 +244,7 @@ positions = (refl, refl, refl, refl)
 abbrev build : Build
 build = record { logs = []; options = options; nodes = []; articles = range_with_len 100 10 }
 
-articles : map (has_article build) (99 ∷ 100 ∷ 108 ∷ 109 ∷ 110 ∷ []) ≡ false ∷ true ∷ true ∷ true ∷ false ∷ []
+articles : map (is_among build.articles) (99 ∷ 100 ∷ 108 ∷ 109 ∷ 110 ∷ []) ≡ false ∷ true ∷ true ∷ true ∷ false ∷ []
 articles = refl
 
 large_numbers : (numbers (group_start_of 1500) ≡ 1500 ∷ []) × (numbers (depth_parts 300) ≡ 300 ∷ [])

@@ -1,6 +1,8 @@
 -- Rows of the definitions that state the laws.
 use Rattle.std.proofs.Common.{◌≡◌, ℕ, true, false, List, [], ◌∷◌, Option, None, Some, pos, refl, inl, inr, arith, ◌++◌, length, length-append, map, ap, replicate}
 use Rattle.std.specs.Prelude.{codes, drop}
+use Rattle.std.specs.Char.{encode_utf8}
+use Rattle.std.specs.Fmt.{digits}
 use Rattle.std.specs.List.{flat_map}
 use Rattle.std.proofs.lemmas.Option.{none-some, same_Some}
 use Rattle.redo_line.specs.declared.entry.Entry.TheVariants.{Text, Done, Closing, Note}
@@ -11,14 +13,17 @@ use Rattle.redo_html.specs.declared.chart.GroupKind.TheVariants.{Recipes}
 use Rattle.redo_html.specs.declared.markup.Markup.TheVariants as markup
 use Rattle.redo_html.specs.Chart.{Drawing, Shape}
 use Rattle.redo_html.specs.Chart.Shape.{BarShape}
+use Rattle.redo_html.specs.Html.Token.{Character, Lost, Tag}
 use Rattle.redo_html.specs.Parts.{Part}
 use Rattle.redo_html.specs.Parts.Part.{MarkupPart, LogPart, TextPart, NumberPart, TitlePart, StylePart, ChartPart, MeterPart}
+use Rattle.redo_html.specs.Shown.{is_unprintable, notation, number_text, unprintable_text}
 use Rattle.redo_html.specs.Style.{plain_style}
+use Rattle.redo_html.specs.Symbols.{code_point_len, first_code_point, first_symbol, is_sequence, symbol_len, symbols_after}
 use Rattle.redo_outline.specs.declared.node.Node.{Node}
 use Rattle.redo_outline.specs.Contents.{Contents}
 use Rattle.redo_outline.specs.Contents.Contents.{Nothing, Shown, Opened}
-use Rattle.redo_page.specs.Laws.{IsListedBefore, PositionedLine, blank_event, blanked, event_lines, is_among, lines_at, positioned_bytes, positioned_lines, texts_of, unmoved_lines, IsPartOf, IsOwnTag, are_timed, article_id, article_link, log_text, markup_of, section_id, section_link, target_id, target_link, part_chart}
-use Rattle.redo_page.specs.Tree.{Build, no_node}
+use Rattle.redo_page.specs.Laws.{IsListedBefore, PositionedLine, blank_event, blanked, event_lines, lines_at, positioned_bytes, positioned_lines, texts_of, IsPartOf, IsOwnTag, are_timed, article_id, article_link, log_text, markup_of, section_id, section_link, target_id, target_link, text_tokens, part_chart, unmoved_lines, is_moved_at}
+use Rattle.redo_page.specs.Tree.{no_node, is_among}
 use Rattle.redo_summary.specs.declared.target.Target.{Target}
 use Rattle.redo_page.proofs.OtherTags.{script_is_not_own}
 
@@ -67,6 +72,19 @@ section_links_are = refl
 
 section_ids_are : flat_map section_id framed ≡ codes "tree" ∷ codes "summary" ∷ codes "new" ∷ codes "failed" ∷ codes "timeline" ∷ []
 section_ids_are = refl
+
+-- ESC is unprintable in words.
+tokens_are :
+    flat_map text_tokens (MarkupPart markup.Title1 ∷ TextPart (97 ∷ 27 ∷ codes "[m") ∷ NumberPart 12 ∷ [])
+    ≡ Tag (codes "h1") ∷ Character 97 ∷ Tag (codes "i") ∷ Character 94 ∷ Character 91 ∷ Tag (codes "/i") ∷ Character 91 ∷ Character 109
+    ∷ Character 49 ∷ Character 50 ∷ []
+unfolding symbols_after first_symbol symbol_len is_sequence first_code_point code_point_len is_unprintable notation unprintable_text number_text encode_utf8 digits
+tokens_are = refl
+
+no_words_are :
+    flat_map text_tokens (LogPart plain_style (codes "a") ∷ TitlePart (codes "a") ∷ StylePart ∷ ChartPart drawing ∷ MeterPart 1 ∷ [])
+    ≡ Lost ∷ Lost ∷ Lost ∷ Lost ∷ Lost ∷ []
+no_words_are = refl
 
 log_bytes_are : flat_map log_text parts ≡ codes "a\nd\n"
 log_bytes_are = refl
@@ -173,17 +191,16 @@ bytes_are = refl
 lines_at_are : lines_at 0 (positioned_lines None 0 contents) ≡ at 0 (codes "a") ∷ at 0 (codes "d") ∷ []
 lines_at_are = refl
 
--- The log at position 1 has an article that shows its output.
-abbrev build : Build
-build = record {
-  logs = [];
-  options =
-      record { recursive = true; unchanged = false; details = true; debug_locks = false; debug_pids = false };
-  nodes = no_node ∷ record no_node { lines = 1; bytes = 3 } ∷ no_node ∷ [];
-  articles = 1 ∷ [];
-}
+-- The target at position 1 failed. So it has an article, which shows its output.
+abbrev one_failed : List Node
+one_failed = no_node ∷ record no_node { status = Some (pos 1); lines = 1; bytes = 3 } ∷ no_node ∷ []
 
-unmoved_are : unmoved_lines build (positioned_lines None 0 contents) ≡ at 0 (codes "a") ∷ at 0 (codes "d") ∷ at 2 (codes "e") ∷ []
+moved_are :
+    map (is_moved_at one_failed) (None ∷ Some 0 ∷ Some 1 ∷ Some 2 ∷ []) ≡ false ∷ false ∷ true ∷ false ∷ []
+    × (is_moved_at (no_node ∷ record no_node { status = Some (pos 1); lines = 301; bytes = 3 } ∷ []) (Some 1) ≡ false)
+moved_are = (refl, refl)
+
+unmoved_are : unmoved_lines one_failed (positioned_lines None 0 contents) ≡ at 0 (codes "a") ∷ at 0 (codes "d") ∷ at 2 (codes "e") ∷ []
 unmoved_are = refl
 
 event_lines_are : event_lines (EntryShown 1 (Text (codes "a"))) ∷ event_lines (EntryShown 1 (Note 9 (codes "n") (codes "t")))

@@ -47,6 +47,7 @@ mod PageTags
 mod PartLemmas
 mod PartLoops
 mod PartNames
+mod ReadLemmas
 mod RecipeLemmas
 mod RecipeParts
 mod RecipeRows

@@ -1,11 +1,12 @@
 -- The highest cap at which logs fit into a budget.
 use Rattle.std.proofs.Common.{◌≡◌, ℕ, zero, suc, ◌+◌, ◌-◌, ◌<◌, ◌≤◌, min, ◌⊎◌, inl, inr, Bool, true, false, List, [], ◌∷◌, ◌++◌, Some, refl, ◌∙◌, ap, arith}
-use Rattle.std.specs.Prelude.{if◌then◌else◌}
+use Rattle.std.specs.Prelude.{map, if◌then◌else◌}
+use Rattle.std.specs.List.{range_with_len}
 use Rattle.std.proofs.lemmas.Bool.{cases_lt, le-leb, leb-false, leb-true, lt-leb}
 use Rattle.redo_outline.specs.declared.node.Node.{Node}
 use Rattle.redo_html.proofs.CutLemmas.{last_below}
 use Rattle.redo_html.specs.Cut.{last_where}
-use Rattle.redo_page.specs.Limits.{at_most, bytes_shown, fit_in, highest_cap, limit_if, limits_from}
+use Rattle.redo_page.specs.Limits.{at_most, bytes_shown, fit_in, highest_cap, limit_if}
 use Rattle.redo_page.specs.Tree.{Build, position_of}
 use Rattle.redo_trim.specs.declared.limit.Limit.{Limit}
 use Rattle.std.proofs.lemmas.List.{append_assoc}
@@ -91,16 +92,24 @@ none_higher budget nodes cap above within =
 
 -- ---- limits, one by one
 
+-- The limit of the log with a number.
+abbrev pub limit_in : Build → ℕ → ℕ → Limit
+limit_in build cap number = limit_if build.articles build.nodes cap (position_of build.nodes number)
+
+-- The limits of `count` logs, from the one with the number `number` on.
+abbrev pub limits_from : Build → ℕ → ℕ → ℕ → List Limit
+limits_from build cap number count = map (limit_in build cap) (range_with_len number count)
+
 -- The limit of one log more.
 pub next_limit : (build : Build) (cap number count : ℕ) → number < count → (limits after : List Limit) (limit : Limit)
-    → limit ≡ limit_if build cap (position_of build.nodes number) → after ≡ limits ++ (limit ∷ [])
+    → limit ≡ limit_in build cap number → after ≡ limits ++ (limit ∷ [])
     → limits ++ limits_from build cap number (count - number) ≡ limits_from build cap 0 count
     → after ++ limits_from build cap (number + 1) (count - (number + 1)) ≡ limits_from build cap 0 count
 next_limit build cap number count below limits after limit limit_is after_is so_far =
-    let rest = limits_from build cap (suc number) (count - suc number) in
+    let rest = limits_from build cap (number + 1) (count - suc number) in
     let next : number + 1 ≡ suc number = omega arith in
     let left : suc (count - suc number) ≡ count - number = omega (arith, below) in
-    ap (λ (n : ℕ). after ++ limits_from build cap n (count - n)) next
+    ap (λ (n : ℕ). after ++ limits_from build cap (number + 1) (count - n)) next
     ∙ ap (λ (ls : List Limit). ls ++ rest) after_is
     ∙ append_assoc limits (limit ∷ []) rest
     ∙ ap (λ (l : Limit). limits ++ (l ∷ rest)) limit_is

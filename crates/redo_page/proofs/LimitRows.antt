@@ -3,10 +3,9 @@ use Rattle.std.proofs.Common.{◌≡◌, ℕ, true, false, List, [], ◌∷◌, 
 use Rattle.std.specs.Prelude.{codes}
 use Rattle.redo_logs.specs.declared.log_state.LogState.TheVariants.{Ended}
 use Rattle.redo_logs.specs.Logs.{Log}
-use Rattle.redo_options.specs.declared.options.Options.{Options}
 use Rattle.redo_outline.specs.declared.node.Node.{Node}
-use Rattle.redo_page.specs.Limits.{at_most, bytes_shown, fit_in, highest_cap, cap_for, limit_at, limit_if, limits_from, limits_of, min_cap, position_limit, tree_limits}
-use Rattle.redo_page.specs.Tree.{Build, no_node}
+use Rattle.redo_page.specs.Limits.{at_most, bytes_shown, fit_in, highest_cap, cap_for, limit_at, limit_if, limits_of, min_cap, position_limit, tree_limits}
+use Rattle.redo_page.specs.Tree.{no_node}
 use Rattle.redo_trim.specs.declared.limit.Limit.{Limit}
 
 -- ---- values
@@ -68,9 +67,6 @@ limits_are :
     × (limit_at 5000 3000 ≡ limit 1250 0)
 limits_are = (refl, refl, refl, refl)
 
-abbrev options : Options
-options = record { recursive = true; unchanged = false; details = true; debug_locks = false; debug_pids = false }
-
 abbrev log : List ℕ → Log
 log target = record { target = target; entries = []; state = Ended }
 
@@ -82,25 +78,25 @@ logs = log (codes "a") ∷ log (codes "b") ∷ log (codes "c") ∷ log (codes "d
 abbrev nodes : List Node
 nodes = printed 2 (Some (pos 0)) 20000 ∷ printed 3 (Some (pos 1)) 40000 ∷ printed 0 (Some (pos 1)) 40001 ∷ []
 
-abbrev build : Build
-build = record { logs = logs; options = options; nodes = nodes; articles = 1 ∷ 2 ∷ [] }
+abbrev those : List ℕ
+those = 1 ∷ 2 ∷ []
 
 -- A log that has as many bytes as the cap is shown whole.
 positions_are :
-    (position_limit build 5000 0 ≡ limit 1250 16250) × (position_limit build 19999 0 ≡ limit 4999 5000)
-    × (position_limit build 20000 0 ≡ whole) × (position_limit build 5000 1 ≡ whole)
-    × (position_limit build 5000 2 ≡ limit 1250 36251) × (position_limit (record build { articles = [] }) 5000 1 ≡ limit 1250 36250)
-    × (limit_if build 5000 None ≡ whole) × (limit_if build 5000 (Some 0) ≡ limit 1250 16250)
+    (position_limit those nodes 5000 0 ≡ limit 1250 16250) × (position_limit those nodes 19999 0 ≡ limit 4999 5000)
+    × (position_limit those nodes 20000 0 ≡ whole) × (position_limit those nodes 5000 1 ≡ whole)
+    × (position_limit those nodes 5000 2 ≡ limit 1250 36251) × (position_limit [] nodes 5000 1 ≡ limit 1250 36250)
+    × (limit_if those nodes 5000 None ≡ whole) × (limit_if those nodes 5000 (Some 0) ≡ limit 1250 16250)
 positions_are = (refl, refl, refl, refl, refl, refl, refl, refl)
 
 numbers_are :
-    (limits_from build 5000 0 4 ≡ limit 1250 36251 ∷ whole ∷ limit 1250 16250 ∷ whole ∷ [])
-    × (limits_from build 5000 2 1 ≡ limit 1250 16250 ∷ []) × (limits_from build 5000 0 0 ≡ [])
-    × (limits_of build None 4 ≡ []) × (limits_of build (Some 5000) 3 ≡ limit 1250 36251 ∷ whole ∷ limit 1250 16250 ∷ [])
-numbers_are = (refl, refl, refl, refl, refl)
+    (limits_of those nodes (Some 5000) 4 ≡ limit 1250 36251 ∷ whole ∷ limit 1250 16250 ∷ whole ∷ [])
+    × (limits_of those nodes (Some 5000) 0 ≡ []) × (limits_of those nodes None 4 ≡ [])
+    × (limits_of those nodes (Some 5000) 3 ≡ limit 1250 36251 ∷ whole ∷ limit 1250 16250 ∷ [])
+numbers_are = (refl, refl, refl, refl)
 
 -- The logs have 100,001 bytes. A limit of 10 still allows 4,096 of each.
 trees_are :
-    (tree_limits logs options nodes 0 ≡ []) × (tree_limits logs options nodes 100001 ≡ [])
-    × (tree_limits logs options nodes 10 ≡ limit 1024 36929 ∷ whole ∷ limit 1024 16928 ∷ whole ∷ [])
+    (tree_limits logs nodes 0 ≡ []) × (tree_limits logs nodes 100001 ≡ [])
+    × (tree_limits logs nodes 10 ≡ limit 1024 36929 ∷ whole ∷ limit 1024 16928 ∷ whole ∷ [])
 trees_are = (refl, refl, refl)

@@ -216,8 +216,8 @@ module _ (request : Request) (logs : List Log) (requested : List (List ℕ)) (so
   abbrev Lists : NewsValue → Type 0
   Lists news =
       (0 < length news.lines → IsPartOf (line_list logs nodes (take max_rows news.lines)) (page_parts request logs requested))
-      × IsListed logs nodes false (page_parts request logs requested) news.failing
-      × IsListed logs nodes false (page_parts request logs requested) news.fixed
+      × IsListed logs nodes (λ position. []) (page_parts request logs requested) news.failing
+      × IsListed logs nodes (λ position. []) (page_parts request logs requested) news.fixed
 
   in_section : {inner : List Part} → IsPartOf inner (after view 0) → IsPartOf inner (page_parts request logs requested)
   in_section part = top_in_page request logs requested (section_in_top view compared part)

@@ -13,13 +13,13 @@ use Rattle.redo_logs.specs.Logs.{Log}
 use Rattle.redo_outline.specs.declared.node.Node.{Node}
 use Rattle.redo_page.specs.declared.block.Pending.TheVariants as pending
 use Rattle.redo_page.specs.Frame.{footer_parts}
-use Rattle.redo_page.specs.Laws.{IsArticle, IsInside, IsLog, IsPartOf, IsTree, article_id, is_among, kept_lines, kept_within, positioned_bytes, unmoved_lines}
-use Rattle.redo_page.proofs.PartNames.{log_bytes}
-use Rattle.redo_page.specs.Page.{Request, options_of, page_build, page_contents, page_outline, page_parts, page_view, top_parts}
+use Rattle.redo_page.specs.Laws.{IsArticle, IsInside, IsLog, IsPartOf, IsTree, article_id, kept_lines, kept_within, positioned_bytes, unmoved_lines}
+use Rattle.redo_page.proofs.PartNames.{log_bytes, page_build}
+use Rattle.redo_page.specs.Page.{Request, options_of, page_contents, page_outline, page_parts, page_view, top_parts}
 use Rattle.redo_page.specs.Private.Streaming.{contents_parts, streamed_tree}
 use Rattle.redo_page.specs.Scope.{View}
 use Rattle.redo_page.specs.Timeline.{timeline_parts}
-use Rattle.redo_page.specs.Tree.{articles, top_level}
+use Rattle.redo_page.specs.Tree.{articles, top_level, is_among}
 use Rattle.redo_page.proofs.ElementLemmas.{ShowsItsLines, tree_shows}
 use Rattle.redo_page.proofs.ElementParts.{around_items, article_inside, article_is, tree_inside, tree_is}
 use Rattle.redo_page.proofs.FailedNesting.{article_inside_nests}
@@ -147,6 +147,6 @@ module _ (request : Request) (logs : List Log) (requested : List (List ℕ)) whe
 
     pub log_shows : (position : ℕ) (inside : List Part) → IsLog request logs requested position inside
         → log_bytes inside
-        ≡ positioned_bytes (unmoved_lines (page_build request logs requested) (kept_within request logs requested position))
+        ≡ positioned_bytes (unmoved_lines (page_outline request logs requested) (kept_within request logs requested position))
     log_shows position inside (inl closed) = shows_lines (markup.Details position) inside closed
     log_shows position inside (inr expanded) = shows_lines (markup.OpenDetails position) inside expanded

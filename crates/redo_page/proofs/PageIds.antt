@@ -28,7 +28,7 @@ use Rattle.redo_page.specs.declared.scope.Rows.TheVariants as rows
 use Rattle.redo_page.specs.declared.summary.TheConstants.{SECTION}
 use Rattle.redo_page.specs.Failed.{failed_parts, is_dependent_failure, is_unclosed}
 use Rattle.redo_page.specs.Frame.{footer_parts}
-use Rattle.redo_page.specs.Laws.{HasTimeline, is_among, part_chart, section_id, section_link, heading_tag}
+use Rattle.redo_page.specs.Laws.{HasTimeline, part_chart, section_id, section_link, heading_tag}
 use Rattle.redo_page.proofs.PartNames.{article_ids, article_links, charts, section_ids, section_links, target_ids, target_links}
 use Rattle.redo_page.specs.Page.{Request, options_of, page_contents, page_events, page_facts, page_outline, page_parts, page_view, run_times, top_parts}
 use Rattle.redo_page.specs.Scope.{View, positions_of, rows_of}
@@ -36,7 +36,7 @@ use Rattle.redo_page.specs.NewSection.{news_parts}
 use Rattle.redo_page.specs.Summary.{summary_parts}
 use Rattle.redo_page.proofs.NewsLemmas.{failing_below, fixed_below, news_below}
 use Rattle.redo_page.specs.Template.{Template, template_parts}
-use Rattle.redo_page.specs.Tree.{articles, max_articles, root_failures}
+use Rattle.redo_page.specs.Tree.{articles, max_articles, root_failures, is_among}
 use Rattle.redo_page.proofs.Ids.{Refers, is_section, section, then_refer}
 use Rattle.redo_page.proofs.FailedIds.{all_among, articles_below, others_below, where_are_below}
 use Rattle.redo_page.proofs.TemplateIds.{AreRows, is_listed, some_if, template_only, template_refers}
@@ -376,7 +376,7 @@ module _ (have : HavePositions) (memory : HavePositionsOfMemory) (lead : BarsLea
   own_target_ids : target_ids parts ≡ numbers_from 0 (length nodes)
   own_target_ids =
       page_refers.target_ids_are ∙ append-nil (numbers_from 0 (log_count shown))
-      ∙ ap (numbers_from 0) (keep (tree_limits logs (options_of request) nodes request.max_bytes) (contents_of events)
+      ∙ ap (numbers_from 0) (keep (tree_limits logs nodes request.max_bytes) (contents_of events)
       ∙ sym (outline_counted request logs requested))
 
   pub page_target_ids : target_ids parts ≡ range_with_len 0 (length nodes)

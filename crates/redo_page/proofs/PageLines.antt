@@ -24,8 +24,8 @@ use Rattle.redo_outline.specs.Facts.{entries_at}
 use Rattle.redo_outline.specs.Facts as facts
 use Rattle.redo_outline.specs.Laws.{events_of}
 use Rattle.redo_outline.specs.Outline.{log_count, nodes_of}
-use Rattle.redo_page.specs.Laws.{PositionedLine, event_lines, is_among, lines_at, positioned_lines, texts_of}
-use Rattle.redo_page.specs.Tree.{no_node}
+use Rattle.redo_page.specs.Laws.{PositionedLine, event_lines, lines_at, positioned_lines, texts_of}
+use Rattle.redo_page.specs.Tree.{no_node, is_among}
 use Rattle.redo_page.proofs.TreeIds.{nodes_counted}
 
 -- ---- all lines

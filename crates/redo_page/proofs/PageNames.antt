@@ -132,7 +132,7 @@ module _ (request : Request) (logs : List Log) (requested : List (List ℕ)) whe
 
   pub page_placed : ArePlaced nodes 0 (page_contents request logs requested)
   page_placed =
-      trim_placed (tree_limits logs (options_of request) nodes request.max_bytes) nodes [] 0 shown
+      trim_placed (tree_limits logs nodes request.max_bytes) nodes [] 0 shown
       (same_placed (outline_of logs events) nodes (timed_node (map run_times request.times) (outline_of logs events)) 0 shown
       (nodes_placed logs (target_status logs events) None 0 shown [] [] (outline_of logs events) refl
       (append-nil (outline_of logs events))))
@@ -186,7 +186,7 @@ module _ (request : Request) (logs : List Log) (requested : List (List ℕ)) whe
   unfolding page_parts footer_parts
   page_tells ranks =
       let view = page_view request logs requested in
-      let limits = tree_limits logs (options_of request) nodes request.max_bytes in
+      let limits = tree_limits logs nodes request.max_bytes in
       then_tell recipes logs nodes (top_tells view (values ranks))
       (then_tell recipes logs nodes
       (then_tell recipes logs nodes (timeline_tells view (values ranks))

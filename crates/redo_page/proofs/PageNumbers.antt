@@ -5,9 +5,7 @@ use Rattle.std.specs.List.{flat_map, list_any}
 use Rattle.std.proofs.lemmas.List.{append_assoc, append-nil}
 use Rattle.redo_logs.specs.Logs.{Log}
 use Rattle.redo_html.specs.declared.markup.Markup.TheVariants as markup
-use Rattle.std.proofs.lemmas.Grind.{flat_map-append}
-use Rattle.redo_html.specs.Html.{read}
-use Rattle.redo_html.specs.Parts.{Part, part_tokens}
+use Rattle.redo_html.specs.Parts.{Part}
 use Rattle.redo_html.specs.Parts.Part.{MarkupPart, TextPart, NumberPart}
 use Rattle.redo_html.specs.Shown.{number_text}
 use Rattle.redo_outline.specs.declared.node.Node.{Node}
@@ -18,8 +16,8 @@ use Rattle.redo_page.specs.declared.verdict.Verdict.{Verdict}
 use Rattle.redo_page.specs.declared.verdict.Verdict.TheVariants.{Failed, Unfinished, Made}
 use Rattle.redo_page.specs.Failed.{failed_parts, is_dependent_failure}
 use Rattle.redo_page.specs.Frame.{footer_parts, head_parts, header_parts}
-use Rattle.redo_page.specs.Laws.{IsPartOf, IsRead, end_shown, heading_shown, heading_with, number_of, requested_shown, root_count, summary_shown, tile, took_shown}
-use Rattle.redo_page.specs.Page.{Request, body_parts, heading_of, options_of, page_html, page_facts, page_outline, page_parts, page_view, top_parts}
+use Rattle.redo_page.specs.Laws.{IsPartOf, end_shown, heading_shown, heading_with, number_of, requested_shown, root_count, summary_shown, tile, took_shown}
+use Rattle.redo_page.specs.Page.{Request, body_parts, heading_of, options_of, page_facts, page_outline, page_parts, page_view, top_parts}
 use Rattle.redo_page.specs.Scope.{View}
 use Rattle.redo_page.specs.NewSection.{news_parts}
 use Rattle.redo_page.specs.Summary.{summary_parts}
@@ -42,7 +40,7 @@ use Rattle.redo_units.specs.Sizes.{size_words, tenths_words}
 abbrev verdict_if : Bool → Bool → Verdict
 verdict_if failed unfinished = if failed then Failed else if unfinished then Unfinished else Made
 
-abbrev heading_if : List Node → Bool → Bool → List Part
+abbrev pub heading_if : List Node → Bool → Bool → List Part
 heading_if nodes failed unfinished =
     if failed then heading_with FAILED_SIGN.now
     (number_text (root_count nodes) ++ (OF.now ++ number_of (length nodes) TARGET_FAILED.now TARGETS_FAILED.now))
@@ -243,14 +241,3 @@ module _ (request : Request) (logs : List Log) (requested : List (List ℕ)) whe
 
   pub page_has_took : IsPartOf (took_shown (known_times targets)) (page_parts request logs requested)
   page_has_took = header_has_part (took_shown (known_times targets)) header_took
-
-  -- A browser reads the parts that a page has.
-  module _ (are_read : read (page_html request logs requested) ≡ flat_map part_tokens (page_parts request logs requested)) where
-    pub part_read : (inner : List Part) → IsPartOf inner (page_parts request logs requested) → IsRead inner request logs requested
-    part_read inner part = record {
-      before = flat_map part_tokens part.before;
-      after = flat_map part_tokens part.after;
-      splits =
-          ap (λ t. flat_map part_tokens part.before ++ t) (sym (flat_map-append part_tokens inner part.after))
-          ∙ sym (flat_map-append part_tokens part.before (inner ++ part.after)) ∙ ap (flat_map part_tokens) part.splits ∙ sym are_read;
-    }

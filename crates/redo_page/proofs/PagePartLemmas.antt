@@ -18,7 +18,7 @@ use Rattle.redo_page.specs.declared.scope.Test.TheVariants.{HasAny, HasFailed, H
 use Rattle.redo_page.specs.Article.{article_parts, cause_of_node}
 use Rattle.redo_page.specs.Failed.{failed_parts}
 use Rattle.redo_page.specs.Frame.{footer_parts, head_parts, header_parts}
-use Rattle.redo_page.specs.Laws.{IsPartOf, ListsFailures, is_among, list_item, target_list}
+use Rattle.redo_page.specs.Laws.{IsPartOf, ListsFailures, cause_at, item_with, target_list}
 use Rattle.redo_page.specs.Timeline.{timeline_parts}
 use Rattle.redo_page.specs.Page.{Request, options_of, page_contents, page_outline, page_parts, page_view, top_parts}
 use Rattle.redo_page.specs.Scope.{View, count_of, holds, max_rows, positions_of}
@@ -26,7 +26,7 @@ use Rattle.redo_page.specs.NewSection.{news_parts}
 use Rattle.redo_page.specs.Summary.{summary_parts}
 use Rattle.redo_page.specs.Targets.{parts_if}
 use Rattle.redo_page.specs.Template.{Block, block_parts, nothing, parts_of_items}
-use Rattle.redo_page.specs.Tree.{articles, max_articles, root_failures, tree_parts}
+use Rattle.redo_page.specs.Tree.{articles, max_articles, root_failures, tree_parts, is_among}
 
 whole_part : (parts : List Part) → IsPartOf parts parts
 whole_part parts = record { before = []; after = []; splits = append-nil parts }
@@ -100,11 +100,17 @@ module _ (view : View) where
 
   -- ---- lists
 
+  -- The line of an item, which may say why its target failed.
+  abbrev pub line_if : Bool → ℕ → List Part
+  line_if causes position = parts_if causes (cause_at view.logs view.nodes position)
+
   abbrev rows : (ℕ → Markup) → Bool → Listed → List Part
-  rows link causes these = flat_map (list_item view.logs view.nodes link causes) (take max_rows (positions_of view these))
+  rows link causes these =
+      flat_map (λ position. item_with view.logs view.nodes (line_if causes position) link position)
+      (take max_rows (positions_of view these))
 
   pub list_in : (front : List Part) (link : ℕ → Markup) (causes : Bool) (these : Listed) (back : List Part)
-      → IsPartOf (target_list view.logs view.nodes link causes (take max_rows (positions_of view these)))
+      → IsPartOf (target_list view.logs view.nodes link (line_if causes) (take max_rows (positions_of view these)))
       (front ++ (rows link causes these ++ (MarkupPart markup.EndOrdered ∷ back)))
   list_in front link causes these back = record {
     before = front;
@@ -128,9 +134,10 @@ module _ (view : View) where
   abbrev pub IsMore : Bool → Listed → List Part → Type 0
   IsMore causes these parts =
       IsPartOf
-      (target_list view.logs view.nodes (λ position. markup.TargetLink position) causes (take max_rows (positions_of view these))) parts
+      (target_list view.logs view.nodes (λ position. markup.TargetLink position) (line_if causes) (take max_rows (positions_of view these)))
+      parts
 
-  articles_listed : IsPartOf (target_list view.logs view.nodes (λ position. markup.OutputLink position) true
+  articles_listed : IsPartOf (target_list view.logs view.nodes (λ position. markup.OutputLink position) (line_if true)
       (take max_rows (positions_of view Articles))) (in_list LIST)
   unfolding cause_of_node
   articles_listed = list_in (MarkupPart markup.Ordered ∷ []) (λ position. markup.OutputLink position) true Articles []
@@ -203,7 +210,7 @@ module _ (request : Request) (logs : List Log) (requested : List (List ℕ)) whe
         (some_parts (holds view (HasSeveral Articles)) (lt-ltb 1 (length (positions_of view Articles)) several)
         (subst
         (λ (all : List ℕ). IsPartOf
-        (target_list view.logs view.nodes (λ position. markup.OutputLink position) true all) (in_list view LIST))
+        (target_list view.logs view.nodes (λ position. markup.OutputLink position) (line_if view true) all) (in_list view LIST))
         (all_articles view) (articles_listed view)))));
     others = λ any_other. in_section (after_articles view (part_earlier (after view 7)
         (some_parts (holds view (HasAny Others)) (any view Others any_other) (others_listed view))));

@@ -39,7 +39,8 @@ use Rattle.redo_page.specs.Command.{is_safe}
 use Rattle.redo_page.specs.Frame.{footer_parts}
 use Rattle.redo_page.specs.Recipe.{commands_parts, recipe_parts}
 use Rattle.redo_page.specs.Summary.{summary_parts}
-use Rattle.redo_page.specs.Laws.{AreBeginnings, HasSameShape, page_processor, positioned_lines, BeginWith, IsList, line_item, line_list, list_item, article_id, article_link, log_text}
+use Rattle.redo_page.specs.Targets.{parts_if}
+use Rattle.redo_page.specs.Laws.{AreBeginnings, HasSameShape, page_processor, positioned_lines, BeginWith, IsList, cause_at, item_with, line_item, line_list, article_id, article_link, log_text}
 use Rattle.redo_summary.specs.Summary.{is_timed}
 use Rattle.redo_summary.specs.declared.rank.Rank.{Rank}
 use Rattle.redo_page.specs.NewSection.{news_parts}
@@ -159,6 +160,9 @@ begins_pass p (line ∷ lines) bytes (inr found) all =
 
 abbrev log : List ℕ → List Entry → Log
 log target entries = record { target = target; entries = entries; state = Ended }
+
+abbrev pub list_item : List Log → List Node → (ℕ → Markup) → Bool → ℕ → List Part
+list_item logs nodes link causes position = item_with logs nodes (parts_if causes (cause_at logs nodes position)) link position
 
 -- The first item of a list, or its end.
 module _ {T : Type 0} (item_of : T → List Part) (after : List Part) where

@@ -7,8 +7,8 @@ use Rattle.redo_html.specs.Parts.Part.{MarkupPart, TextPart}
 use Rattle.redo_line.specs.declared.entry.How.{How}
 use Rattle.redo_outline.specs.declared.node.Node.{Node}
 use Rattle.redo_outline.specs.Facts.{is_failure}
-use Rattle.redo_page.specs.declared.labels.TheConstants.{FACT_DOT}
-use Rattle.redo_page.specs.Targets.{name_parts, exit_parts, badge_parts, lines_parts, warnings_parts, below_parts, warnings_below_parts, facts_parts, how_parts, linked_parts, took_parts}
+use Rattle.redo_page.specs.declared.labels.TheConstants.{FACT_DOT, WARNING, WARNING_BELOW, WARNINGS, WARNINGS_BELOW}
+use Rattle.redo_page.specs.Targets.{name_parts, exit_parts, badge_parts, lines_parts, warnings_parts, below_parts, facts_parts, how_parts, linked_parts, took_parts}
 use Rattle.redo_page.specs.Words.{word_part, words_parts}
 use Rattle.redo_units.specs.Durations.{duration_words}
 use Rattle.redo_units.specs.Words.{WordValue}
@@ -28,14 +28,11 @@ badge_nests (Some status) = nest_if (is_failure (Some status)) (exit_nests statu
 lines_nest : (lines : ℕ) → Nest (lines_parts lines)
 lines_nest lines = nest_if (not (lines == 0)) (record { leads = λ around tags. refl })
 
-warnings_nest : (warnings : ℕ) → Nest (warnings_parts warnings)
-warnings_nest warnings = nest_if (not (warnings == 0)) (record { leads = λ around tags. refl })
+warnings_nest : (warnings : ℕ) (one many : List ℕ) → Nest (warnings_parts warnings one many)
+warnings_nest warnings one many = nest_if (not (warnings == 0)) (record { leads = λ around tags. refl })
 
 below_nests : (below : ℕ) → Nest (below_parts below)
 below_nests below = nest_if (not (below == 0)) (record { leads = λ around tags. refl })
-
-warnings_below_nest : (warnings : ℕ) → Nest (warnings_below_parts warnings)
-warnings_below_nest warnings = nest_if (not (warnings == 0)) (record { leads = λ around tags. refl })
 
 pub word_nests : (word : WordValue) → Nest (word_part word)
 word_nests (NumberWord number) = record { leads = λ around tags. refl }
@@ -59,9 +56,9 @@ facts_nest node = record {
     (badge_nests node.status).leads,
     (took_nests node.took).leads,
     (lines_nest node.lines).leads,
-    (warnings_nest node.warnings).leads,
+    (warnings_nest node.warnings WARNING.now WARNINGS.now).leads,
     (below_nests node.below).leads,
-    (warnings_below_nest node.warnings_below).leads,
+    (warnings_nest node.warnings_below WARNING_BELOW.now WARNINGS_BELOW.now).leads,
   );
 }
 

@@ -7,7 +7,8 @@ use Rattle.redo_html.specs.declared.markup.Markup.TheVariants as markup
 use Rattle.redo_html.specs.Parts.{Part}
 use Rattle.redo_html.specs.Parts.Part.{MarkupPart, TextPart, NumberPart}
 use Rattle.redo_outline.specs.declared.node.Node.{Node}
-use Rattle.redo_page.specs.Targets.{badge_parts, below_parts, exit_parts, facts_parts, how_parts, lines_parts, linked_parts, name_parts, parts_if, took_parts, warnings_below_parts, warnings_parts}
+use Rattle.redo_page.specs.declared.labels.TheConstants.{WARNING, WARNING_BELOW, WARNINGS, WARNINGS_BELOW}
+use Rattle.redo_page.specs.Targets.{badge_parts, below_parts, exit_parts, facts_parts, how_parts, lines_parts, linked_parts, name_parts, parts_if, took_parts, warnings_parts}
 use Rattle.redo_units.specs.Durations.{duration_words}
 use Rattle.redo_page.specs.Tree.{no_node}
 
@@ -64,25 +65,22 @@ lines_are :
 lines_are = (refl, refl, refl)
 
 warnings_are :
-    (warnings_parts 0 ≡ [])
-    × (warnings_parts 1 ≡ words (codes " ") ∷ tag markup.Small ∷ words fact_dot ∷ tag markup.Emphasis ∷ number 1 ∷ words (codes " warning")
-    ∷ tag markup.EndEmphasis ∷ tag markup.EndSmall ∷ [])
-    × (warnings_parts 2 ≡ words (codes " ") ∷ tag markup.Small ∷ words fact_dot ∷ tag markup.Emphasis ∷ number 2 ∷ words (codes " warnings")
-    ∷ tag markup.EndEmphasis ∷ tag markup.EndSmall ∷ [])
+    (warnings_parts 0 (codes "a") (codes "b") ≡ [])
+    × (warnings_parts 1 (codes "a") (codes "b") ≡ words (codes " ") ∷ tag markup.Small ∷ words fact_dot ∷ tag markup.Emphasis ∷ number 1
+    ∷ words (codes "a") ∷ tag markup.EndEmphasis ∷ tag markup.EndSmall ∷ [])
+    × (warnings_parts 2 (codes "a") (codes "b") ≡ words (codes " ") ∷ tag markup.Small ∷ words fact_dot ∷ tag markup.Emphasis ∷ number 2
+    ∷ words (codes "b") ∷ tag markup.EndEmphasis ∷ tag markup.EndSmall ∷ [])
 warnings_are = (refl, refl, refl)
+
+words_for_warnings_are :
+    (WARNING.now ≡ codes " warning") × (WARNINGS.now ≡ codes " warnings")
+    × (WARNING_BELOW.now ≡ codes " warning below") × (WARNINGS_BELOW.now ≡ codes " warnings below")
+words_for_warnings_are = (refl, refl, refl, refl)
 
 below_are :
     (below_parts 0 ≡ []) × (below_parts 1
     ≡ words (codes " ") ∷ tag markup.Small ∷ words fact_dot ∷ number 1 ∷ words (codes " below") ∷ tag markup.EndSmall ∷ [])
 below_are = (refl, refl)
-
-warnings_below_are :
-    (warnings_below_parts 0 ≡ [])
-    × (warnings_below_parts 1 ≡ words (codes " ") ∷ tag markup.Small ∷ words fact_dot ∷ tag markup.Emphasis ∷ number 1
-    ∷ words (codes " warning below") ∷ tag markup.EndEmphasis ∷ tag markup.EndSmall ∷ [])
-    × (warnings_below_parts 2 ≡ words (codes " ") ∷ tag markup.Small ∷ words fact_dot ∷ tag markup.Emphasis ∷ number 2
-    ∷ words (codes " warnings below") ∷ tag markup.EndEmphasis ∷ tag markup.EndSmall ∷ [])
-warnings_below_are = (refl, refl, refl)
 
 took_are :
     (took_parts None ≡ [])

@@ -16,7 +16,7 @@ use Rattle.redo_page.specs.declared.template.Item.{Item}
 use Rattle.redo_page.specs.declared.template.Item.TheVariants as item
 use Rattle.redo_page.specs.declared.verdict.Verdict.{Verdict}
 use Rattle.redo_page.specs.declared.verdict.Verdict.TheVariants.{Failed, Unfinished, Made}
-use Rattle.redo_page.specs.Laws.{is_among}
+use Rattle.redo_page.specs.Tree.{is_among}
 use Rattle.redo_page.specs.Scope.{View, began_parts, date_parts, holds, max_rows, measure_words, position_view, positions_of, row_name, row_view, rows_of, target_view}
 use Rattle.redo_page.specs.Targets.{parts_if}
 use Rattle.redo_page.specs.Template.{Block, Template, block_parts, parts_of_item, parts_of_items, nothing, template_parts}

@@ -26,7 +26,7 @@ use Rattle.redo_page.specs.declared.block.Pending.{Pending}
 use Rattle.redo_page.specs.declared.block.Pending.TheVariants as pending
 use Rattle.redo_page.specs.declared.level.Level.{Level}
 use Rattle.redo_page.specs.Targets.{facts_parts, how_parts, linked_parts, parts_if}
-use Rattle.redo_page.specs.Tree.{Build, articles, closing_parts, done_parts, empty_start, flat_end, flat_start, has_article, heading_parts, is_empty, is_expanded, is_moved_if, is_seen, is_short, no_node, level_of, max_depth, mention_parts, moved_parts, nested_start, node_at, note_parts, note_prefix, opening_parts, opening_position, position_of, position_of_name, request_parts, top_level, nested_end}
+use Rattle.redo_page.specs.Tree.{Build, articles, closing_parts, done_parts, empty_start, flat_end, flat_start, heading_parts, is_among, is_empty, is_expanded, is_moved_if, is_seen, is_short, no_node, level_of, max_depth, mention_parts, moved_parts, nested_start, node_at, note_parts, note_prefix, opening_parts, opening_position, position_of, position_of_name, request_parts, top_level, nested_end}
 use Rattle.redo_page.specs.Private.Streaming.{after_log, after_shown, contents_parts, end_parts, fits, group_end, group_left, group_parts, group_size, group_start, item_parts, line_parts, line_size, line_start, log_end, log_start, shown_parts, streamed_tree}
 use Rattle.redo_page.proofs.Ids.{Bare, IsBelow, Refer, Refers, article_link_refers, bare_if, bare_refers, bare_then, facts_bare, how_bare, linked_refers, references, same_refer, then_refer}
 
@@ -163,9 +163,9 @@ module _ (build : Build) where
   heading_bare (LogEnds depth) position = refl
 
   pub moved_refers : (position : ℕ) → InTree (moved_parts build position) []
-  moved_refers position = by (has_article build position) (is_short (node_at build.nodes position)) refl
+  moved_refers position = by (is_among build.articles position) (is_short (node_at build.nodes position)) refl
     where
-      by : (has short : Bool) → has_article build position ≡ has
+      by : (has short : Bool) → is_among build.articles position ≡ has
           → InTree (parts_if (has && short)
           (MarkupPart markup.NoteItem ∷ MarkupPart (markup.OutputLink position) ∷ TextPart SHOWN_ABOVE.now ∷ MarkupPart markup.EndLink
           ∷ MarkupPart markup.EndItem ∷ [])) []

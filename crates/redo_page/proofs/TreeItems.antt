@@ -16,10 +16,11 @@ use Rattle.redo_outline.specs.Outline.{log_count, node_of, nodes_of, outline_of,
 use Rattle.redo_trim.specs.declared.limit.Gauge.{Gauge}
 use Rattle.redo_trim.specs.declared.limit.Limit.{Limit}
 use Rattle.redo_trim.specs.Trim.{after_shown, gauge_of, kept, trim, with_shown_all}
+use Rattle.redo_page.proofs.PartNames.{page_build}
 use Rattle.redo_page.specs.declared.block.Pending.TheVariants as pending
 use Rattle.redo_page.specs.declared.level.Level.{Level}
 use Rattle.redo_page.specs.Limits.{tree_limits}
-use Rattle.redo_page.specs.Page.{Request, options_of, page_build, page_contents, page_events, page_outline, run_times}
+use Rattle.redo_page.specs.Page.{Request, options_of, page_contents, page_events, page_outline, run_times}
 use Rattle.redo_page.specs.Tree.{Build, is_in_level, items_of, items_parts, level_of, node_at, position_of_name, section_end, section_start, top_level, tree_parts}
 use Rattle.redo_page.specs.Tree.Items.{Seen}
 use Rattle.redo_page.specs.Private.Streaming.{contents_parts, streamed_tree}
@@ -165,7 +166,7 @@ module _ (request : Request) (logs : List Log) (requested : List (List ℕ)) whe
       let status = target_status logs events in
       let own = outline_of logs events in
       rows_counted (page_build request logs requested) logs status
-      (tree_limits logs (options_of request) nodes request.max_bytes) top_level [] 0
+      (tree_limits logs nodes request.max_bytes) top_level [] 0
       (contents_of events)
       (same_count logs status own nodes (timed_silent (map run_times request.times) own) 0 (contents_of events)
       (nodes_count logs status None 0 (contents_of events) [] [] own refl (append-nil own)))

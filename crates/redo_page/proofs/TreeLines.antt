@@ -24,8 +24,8 @@ use Rattle.redo_outline.specs.Outline.{log_count}
 use Rattle.redo_page.specs.declared.block.Pending.{Pending}
 use Rattle.redo_page.specs.declared.block.Pending.TheVariants as pending
 use Rattle.redo_page.specs.declared.level.Level.{Level}
-use Rattle.redo_page.specs.Laws.{PositionedLine, texts_of, log_text, positioned_bytes, positioned_lines, unmoved_lines}
-use Rattle.redo_page.proofs.PartNames.{log_bytes}
+use Rattle.redo_page.specs.Laws.{PositionedLine, texts_of, log_text, positioned_bytes, positioned_lines}
+use Rattle.redo_page.proofs.PartNames.{log_bytes, unmoved}
 use Rattle.redo_page.specs.Targets.{linked_parts, parts_if}
 use Rattle.redo_page.specs.Tree.{Build, articles, done_parts, empty_start, flat_start, heading_parts, is_empty, is_expanded, is_moved, is_moved_if, is_seen, level_of, max_depth, mention_parts, moved_parts, nested_start, node_at, note_parts, opening_parts, opening_position, position_of_name, request_parts, top_level}
 use Rattle.redo_page.specs.Private.Streaming.{after_log, after_shown, block_for, contents_parts, end_parts, group_left, group_start, item_parts, line_part, line_parts, line_size, line_start, log_end, log_start, shown_parts, streamed_tree}
@@ -79,7 +79,7 @@ module _ (build : Build) where
 
   -- The lines that are shown of an event.
   abbrev shown_lines : Option ℕ → Event → List ℕ
-  shown_lines around event = positioned_bytes (unmoved_lines build (positioned_at around event))
+  shown_lines around event = positioned_bytes (unmoved build (positioned_at around event))
 
   line_text : (before : Pending) (line : List ℕ) → log_bytes (line_parts before line) ≡ with_line_feed line ++ []
   line_text before line =
@@ -146,16 +146,16 @@ module _ (build : Build) where
   outside positioned = not (is_moved_if build positioned.position)
 
   pub bytes-append : (lines others : List PositionedLine)
-      → positioned_bytes (unmoved_lines build (lines ++ others))
-      ≡ positioned_bytes (unmoved_lines build lines) ++ positioned_bytes (unmoved_lines build others)
+      → positioned_bytes (unmoved build (lines ++ others))
+      ≡ positioned_bytes (unmoved build lines) ++ positioned_bytes (unmoved build others)
   bytes-append lines others = ap positioned_bytes (filter-append outside lines others)
-      ∙ ap (flat_map with_line_feed) (map-append (λ (positioned : PositionedLine). positioned.line) (unmoved_lines build lines)
-      (unmoved_lines build others)) ∙ flat_map-append with_line_feed (texts_of (unmoved_lines build lines))
-      (texts_of (unmoved_lines build others))
+      ∙ ap (flat_map with_line_feed) (map-append (λ (positioned : PositionedLine). positioned.line) (unmoved build lines)
+      (unmoved build others)) ∙ flat_map-append with_line_feed (texts_of (unmoved build lines))
+      (texts_of (unmoved build others))
 
   pub contents_text : (level : Level) (position : ℕ) (before : Pending) (contents : Contents)
       → log_bytes (contents_parts build level position before contents)
-      ≡ positioned_bytes (unmoved_lines build (positioned_lines level.position position contents))
+      ≡ positioned_bytes (unmoved build (positioned_lines level.position position contents))
   contents_text level position before Nothing = bare_quiet (end_parts before) (end_bare before)
   contents_text level position before (Shown event rest) =
       flat_map-append log_text (shown_parts build level before event)
@@ -176,14 +176,14 @@ module _ (build : Build) where
       ∙ ap (λ t. log_bytes in_log ++ t) (flat_map-append log_text end others
       ∙ ap (λ t. t ++ log_bytes others) (bare_quiet end (log_end_bare build level position left)))
       ∙ ap (λ t. t ++ log_bytes others) (contents_text (level_of build level position) (suc position) pending.Nothing inside)
-      ∙ ap (λ t. positioned_bytes (unmoved_lines build (positioned_lines (Some position) (suc position) inside)) ++ t)
+      ∙ ap (λ t. positioned_bytes (unmoved build (positioned_lines (Some position) (suc position) inside)) ++ t)
       (contents_text level (suc position + log_count inside) (after_log left) rest)
       ∙ sym (bytes-append (positioned_lines (Some position) (suc position) inside)
       (positioned_lines level.position (suc position + log_count inside) rest))
 
 pub tree_text : (logs : List Log) (options : Options) (nodes : List Node) (contents : Contents)
     → log_bytes (streamed_tree logs options nodes contents)
-    ≡ positioned_bytes (unmoved_lines (record { logs = logs; options = options; nodes = nodes; articles = articles nodes })
+    ≡ positioned_bytes (unmoved (record { logs = logs; options = options; nodes = nodes; articles = articles nodes })
     (positioned_lines None 0 contents))
 tree_text logs options nodes contents =
     let build : Build = record { logs = logs; options = options; nodes = nodes; articles = articles nodes } in

@@ -19,7 +19,7 @@ use Rattle.redo_outline.specs.declared.node.Node.{Node}
 use Rattle.redo_outline.specs.Contents.{Contents}
 use Rattle.redo_outline.specs.Contents.Contents.{Nothing, Shown, Opened}
 use Rattle.redo_page.specs.declared.level.Level.{Level}
-use Rattle.redo_page.specs.Tree.{Build, Items, are_group, closing_parts, depth_parts, details_markup, done_parts, empty_start, end_cmp, entry_parts, event_before, failure_cmp, flat_end, flat_start, group_start_of, has_article, has_failed, has_one_child, heading_parts, is_empty, is_expanded, is_in_level, is_moved, is_moved_if, is_root_failure, is_same_position, is_seen, is_silent, items_of, items_parts, leading_logs, level_of, line_before, log_before, log_parts, mention_parts, moved_parts, nested_end, nested_start, no_node, node_at, node_if, note_parts, opening_parts, opening_position, position_of, position_of_name, request_parts, root_failures, section_end, section_start, seen_parts, silent_parts, top_level, tree_parts}
+use Rattle.redo_page.specs.Tree.{Build, Items, are_group, closing_parts, depth_parts, details_markup, done_parts, empty_start, end_cmp, entry_parts, event_before, failure_cmp, flat_end, flat_start, group_start_of, is_among, has_failed, has_one_child, heading_parts, is_empty, is_expanded, is_in_level, is_moved, is_moved_if, is_root_failure, is_same_position, is_seen, is_silent, items_of, items_parts, leading_logs, level_of, line_before, log_before, log_parts, mention_parts, moved_parts, nested_end, nested_start, no_node, node_at, node_if, note_parts, opening_parts, opening_position, position_of, position_of_name, request_parts, root_failures, section_end, section_start, seen_parts, silent_parts, top_level, tree_parts}
 use Rattle.redo_page.specs.Tree.Items.{NoItems, Lines, Seen, LogItem, SilentLogs}
 
 -- A middle dot (U+00B7) in UTF-8, and a space.
@@ -154,7 +154,7 @@ positions_in_level_are = (refl, refl, refl, refl)
 -- ---- articles and levels
 
 moved_are :
-    (has_article build 1 ≡ true) × (has_article build 2 ≡ false) × (is_moved build 1 ≡ true)
+    (is_among build.articles 1 ≡ true) × (is_among build.articles 2 ≡ false) × (is_moved build 1 ≡ true)
     × (is_moved (build_of false nodes []) 1 ≡ false)
     × (is_moved (build_of false nodes (2 ∷ [])) 2 ≡ false) × (is_moved_if build None ≡ false) × (is_moved_if build (Some 1) ≡ true)
     × (is_moved_if build (Some 0) ≡ false)

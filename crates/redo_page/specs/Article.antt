@@ -83,7 +83,7 @@ module _ (logs : List Log) (nodes : List Node) where
   path_parts levels None = []
   path_parts zero (Some position) = TextPart MORE_ABOVE.now ∷ []
   path_parts (suc levels) (Some position) =
-      path_parts levels (node_at nodes position).parent ++ (name_parts (name_of logs (node_at nodes position)) ++ TextPart PATH_SEPARATOR.now ∷ [])
+      path_parts levels (node_at nodes position).parent ++ (name_parts (target_at logs (node_at nodes position).number) ++ TextPart PATH_SEPARATOR.now ∷ [])
 
   abbrev pub max_path : ℕ
   max_path = 4

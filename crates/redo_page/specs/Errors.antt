@@ -1,5 +1,5 @@
 -- Lines by which compilers, linkers, shells and tests report errors.
-use Rattle.std.specs.Prelude.{ℕ, zero, suc, ◌-◌, ◌==◌, ◌||◌, ◌&&◌, not, nat_le, Bool, true, false, List, [], ◌∷◌, Option, None, Some, codes, if◌then◌else◌}
+use Rattle.std.specs.Prelude.{ℕ, zero, suc, ◌-◌, ◌==◌, ◌||◌, ◌&&◌, not, nat_le, Bool, true, false, List, [], ◌∷◌, reverse, Option, codes}
 use Rattle.std.specs.Char.{is_ascii_alphanumeric, to_ascii_lowercase}
 use Rattle.std.specs.List.{find, list_all, list_any}
 use Rattle.std.specs.Option.{option_or}
@@ -54,14 +54,6 @@ is_error line = has_error 0 false line
 abbrev pub is_blank : List ℕ → Bool
 is_blank line = list_all (λ byte. nat_le byte 32) (plain_line line)
 
-abbrev pub unless_blank : List ℕ → Option (List ℕ)
-unless_blank line = if is_blank line then None else Some line
-
--- The last line that isn't blank.
-abbrev pub last_filled : List (List ℕ) → Option (List ℕ)
-last_filled [] = None
-last_filled (line ∷ lines) = option_or (last_filled lines) (unless_blank line)
-
 -- The line that tells best why a target failed: the first one that reports an error, or else the last one that isn't blank.
 abbrev pub cause_of : List (List ℕ) → Option (List ℕ)
-cause_of lines = option_or (find is_error lines) (last_filled lines)
+cause_of lines = option_or (find is_error lines) (find (λ line. not (is_blank line)) (reverse lines))

@@ -16,12 +16,16 @@ use Rattle.redo_view.specs.Event.Event.{Requested, Mentioned, EntryShown}
 use Rattle.redo_html.specs.declared.markup.Markup.{Markup}
 use Rattle.redo_html.specs.declared.markup.Markup.TheVariants.{BodyBad, BodyGood, BodyOpen, FailedSection, NewSection, EndSection, SummarySection, TimelineSection, TreeSection, FailedLink, NewLink, SummaryLink, TimelineLink, TreeLink, TargetLink, EndLink, OutputLink, Article, EndArticle, TargetItem, Details, OpenDetails, EndDetails, Summary, Title3, EndTitle3, MetaParagraph, Paragraph, QuietParagraph, EndParagraph, Ordered, OrderedFrom, EndOrdered, Item, EndItem, RowHeading, EndRowHeading, NumberCell, EndCell, Title1, EndTitle1, Sign, EndSign, DescriptionList, EndDescriptionList, Div, EndDiv, Term, EndTerm, Description, EndDescription, Code, EndCode, Pre, EndPre}
 use Rattle.redo_html.specs.declared.chart.GroupKind.{GroupKind}
+use Rattle.redo_html.specs.declared.text_kind.TextKind.TheVariants.{Monochrome}
 use Rattle.redo_html.specs.Chart.{Drawing, drawing_links}
-use Rattle.redo_html.specs.Html.{is_one_of, nests_in, read}
+use Rattle.redo_html.specs.Html.{Token, is_one_of, nests_in, read}
+use Rattle.redo_html.specs.Html.Token.{Character, Lost, Tag}
 use Rattle.redo_html.specs.Laws.{IsChartTag, is_highlight, markup_tag}
-use Rattle.redo_html.specs.Parts.{Part, part_tokens}
+use Rattle.redo_html.specs.Parts.{Part}
 use Rattle.redo_html.specs.Parts.Part.{MarkupPart, LogPart, TextPart, NumberPart, TitlePart, ChartPart}
+use Rattle.redo_html.specs.Passage.{passage_tokens}
 use Rattle.redo_html.specs.Shown.{number_text}
+use Rattle.redo_html.specs.Style.{plain_style}
 use Rattle.redo_html.specs.Tags.{markup_text}
 use Rattle.redo_outline.specs.declared.node.Node.{Node}
 use Rattle.redo_outline.specs.Contents.{Contents, contents_of}
@@ -50,7 +54,7 @@ use Rattle.redo_timeline.specs.Parallelism.{most_of}
 use Rattle.redo_timeline.specs.declared.span.Span.{Span}
 use Rattle.redo_timeline.specs.declared.span.Window.{Window}
 use Rattle.redo_times.specs.declared.times.Times.{Times}
-use Rattle.redo_page.specs.Tree.{Build, articles, is_moved_if, is_root_failure, max_articles, node_at, root_failures, positions_where}
+use Rattle.redo_page.specs.Tree.{articles, is_in_article, is_root_failure, max_articles, node_at, root_failures, positions_where}
 use Rattle.redo_page.specs.Verdict.{is_unfinished, unfinished_count}
 use Rattle.redo_page.specs.Limits.{tree_limits}
 use Rattle.redo_page.specs.Targets.{badge_parts, facts_parts, how_parts, name_parts, parts_if, plural}
@@ -125,9 +129,6 @@ section_link (MarkupPart TimelineLink) = codes "timeline" ∷ []
 section_link (MarkupPart TreeLink) = codes "tree" ∷ []
 section_link part = []
 
-abbrev pub is_among : List ℕ → ℕ → Bool
-is_among numbers number = list_any (λ other. number == other) numbers
-
 -- ---- names, statuses and durations
 
 -- Whether a list is in another one, in one piece.
@@ -176,37 +177,41 @@ module _ (logs : List Log) (nodes : List Node) where
       ++ MarkupPart (TargetLink position) ∷ TextPart PLACE_IN_TREE.now ∷ MarkupPart EndLink ∷ MarkupPart EndParagraph ∷ []))))))
       after
 
+  -- A link with the name of a target, the status of the target, and what follows them.
+  abbrev pub linked_with : Markup → ℕ → List Part → List Part
+  linked_with link position rest =
+      MarkupPart link
+      ∷ (name_parts (target_name position) ++ (MarkupPart EndLink ∷ (badge_parts (node_at nodes position).status ++ rest)))
+
   -- An item of a list: a link with the name of its target, the status of the target, and a line.
   abbrev pub item_with : List Part → (ℕ → Markup) → ℕ → List Part
-  item_with line link position =
-      MarkupPart Item ∷ MarkupPart (link position)
-      ∷ (name_parts (target_name position)
-      ++ (MarkupPart EndLink ∷ (badge_parts (node_at nodes position).status ++ (line ++ MarkupPart EndItem ∷ []))))
+  item_with line link position = MarkupPart Item ∷ linked_with (link position) position (line ++ MarkupPart EndItem ∷ [])
 
-  -- The line may say why the target failed.
-  abbrev pub list_item : (ℕ → Markup) → Bool → ℕ → List Part
-  list_item link causes position =
-      item_with (parts_if causes (cause_parts (cause_of (printed_by logs (node_at nodes position))))) link position
+  -- A list of these targets, up to its end. `line` is the line of each one.
+  abbrev pub target_list : (ℕ → Markup) → (ℕ → List Part) → List ℕ → List Part
+  target_list link line positions = flat_map (λ position. item_with (line position) link position) positions ++ MarkupPart EndOrdered ∷ []
 
-  -- A list of these targets, up to its end.
-  abbrev pub target_list : (ℕ → Markup) → Bool → List ℕ → List Part
-  target_list link causes positions = flat_map (list_item link causes) positions ++ MarkupPart EndOrdered ∷ []
+  -- A line that says why the target failed.
+  abbrev pub cause_at : ℕ → List Part
+  cause_at position = cause_parts (cause_of (printed_by logs (node_at nodes position)))
 
+  -- A list of targets, with such lines or without lines.
   abbrev pub IsList : (ℕ → Markup) → List Part → Type 0
-  IsList link after = (causes : Bool) × (positions : List ℕ) × BeginWith (target_list link causes positions) after
+  IsList link after =
+      (causes : Bool) × (positions : List ℕ) × BeginWith (target_list link (λ position. parts_if causes (cause_at position)) positions) after
 
   -- Whether parts have a list of these targets, unless there are none. It names at most 200.
-  abbrev pub IsListed : Bool → List Part → List ℕ → Type 0
-  IsListed causes parts positions =
-      0 < length positions → IsPartOf (target_list (λ position. TargetLink position) causes (take 200 positions)) parts
+  abbrev pub IsListed : (ℕ → List Part) → List Part → List ℕ → Type 0
+  IsListed line parts positions =
+      0 < length positions → IsPartOf (target_list (λ position. TargetLink position) line (take 200 positions)) parts
 
   -- The lists of what failed: the targets with articles, if there are several; the other root failures; the dependent failures; and the targets
   -- at the ends of paths that have no record of how they ended. The first two lists say why each target failed.
   pub record ListsFailures (parts : List Part) : Type 0 where
-    pub with_articles : 1 < length (articles nodes) → IsPartOf (target_list (λ position. OutputLink position) true (articles nodes)) parts
-    pub others : IsListed true parts (drop max_articles (root_failures nodes))
-    pub dependents : IsListed false parts (positions_where is_dependent_failure 0 nodes)
-    pub unclosed : IsListed false parts (positions_where is_unclosed 0 nodes)
+    pub with_articles : 1 < length (articles nodes) → IsPartOf (target_list (λ position. OutputLink position) cause_at (articles nodes)) parts
+    pub others : IsListed cause_at parts (drop max_articles (root_failures nodes))
+    pub dependents : IsListed (λ position. []) parts (positions_where is_dependent_failure 0 nodes)
+    pub unclosed : IsListed (λ position. []) parts (positions_where is_unclosed 0 nodes)
 
   -- An item of a list of lines: the line is one of the log that the link leads to.
   abbrev pub line_item : Rank → List Part
@@ -220,11 +225,9 @@ module _ (logs : List Log) (nodes : List Node) where
   -- A row of a table: a link with the name of its target, the status of the target, and a value.
   abbrev pub IsRowWith : List Part → ℕ → List Part → Type 0
   IsRowWith value position after =
-      BeginWith (MarkupPart (TargetLink position)
-      ∷ (name_parts (target_name position)
-      ++ (MarkupPart EndLink
-      ∷ (badge_parts (node_at nodes position).status
-      ++ (MarkupPart EndRowHeading ∷ MarkupPart NumberCell ∷ (value ++ MarkupPart EndCell ∷ [])))))) after
+      BeginWith
+      (linked_with (TargetLink position) position
+      (MarkupPart EndRowHeading ∷ MarkupPart NumberCell ∷ (value ++ MarkupPart EndCell ∷ []))) after
 
   -- `recipes` is what is known of recipes, by the numbers of their logs. `spans` are the spans of recipes that ran no others.
   module _ (recipes : List RecipeFacts) (spans : List Span) where
@@ -343,9 +346,16 @@ end_shown request requested nodes =
     NumberPart (length nodes) ∷ TextPart (plural (length nodes) LOG_IN.now LOGS_IN.now) ∷ MarkupPart Code ∷ TextPart request.dir ∷ MarkupPart EndCode
     ∷ TextPart AS_ONE_TEXT.now ∷ MarkupPart Code ∷ TextPart (command request.dir (options_of request) requested) ∷ MarkupPart EndCode ∷ []
 
--- A browser reads these parts in a page, next to each other.
+-- The tokens of a tag, of words and of a number. Any other part is `Lost` here, which no page has. So what is read has no such part.
+abbrev pub text_tokens : Part → List Token
+text_tokens (MarkupPart markup) = Tag (markup_text markup) ∷ []
+text_tokens (TextPart text) = passage_tokens Monochrome plain_style text
+text_tokens (NumberPart number) = map Character (number_text number)
+text_tokens part = Lost ∷ []
+
+-- A browser reads these tags, words and numbers in a page, next to each other.
 abbrev pub IsRead : List Part → Request → List Log → List (List ℕ) → Type 0
-IsRead inner request logs requested = IsPartOf (flat_map part_tokens inner) (read (page_html request logs requested))
+IsRead inner request logs requested = IsPartOf (flat_map text_tokens inner) (read (page_html request logs requested))
 
 -- ---- what failed
 
@@ -404,8 +414,8 @@ module _ (baseline : BaselineValue) (logs : List Log) (nodes : List Node) where
   pub record ListsNews (parts : List Part) : Type 0 where
     pub lines : 0 < length (new_lines baseline logs 0 nodes) →
         IsPartOf (line_list logs nodes (take 200 (new_lines baseline logs 0 nodes))) parts
-    pub failing : IsListed logs nodes false parts (newly_failing baseline logs nodes)
-    pub fixed : IsListed logs nodes false parts (fixed_since baseline logs nodes)
+    pub failing : IsListed logs nodes (λ position. []) parts (newly_failing baseline logs nodes)
+    pub fixed : IsListed logs nodes (λ position. []) parts (fixed_since baseline logs nodes)
 
 -- The item that leads to the section.
 abbrev pub news_link : List Part
@@ -484,9 +494,13 @@ AreCountable logs = AllByRecursion (λ (log : Log). text_size (facts.texts_of lo
 abbrev pub lines_at : ℕ → List PositionedLine → List PositionedLine
 lines_at position lines = filter (λ (positioned : PositionedLine). option_eq nat_eq positioned.position (Some position)) lines
 
+-- Whether the output of the log at a position is in its article, and not in the tree.
+abbrev pub is_moved_at : List Node → Option ℕ → Bool
+is_moved_at nodes position = is_in_article (articles nodes) nodes position
+
 -- The lines of the logs whose output isn't in an article.
-abbrev pub unmoved_lines : Build → List PositionedLine → List PositionedLine
-unmoved_lines build lines = filter (λ (positioned : PositionedLine). not (is_moved_if build positioned.position)) lines
+abbrev pub unmoved_lines : List Node → List PositionedLine → List PositionedLine
+unmoved_lines nodes lines = filter (λ (positioned : PositionedLine). not (is_moved_at nodes positioned.position)) lines
 
 -- Whether the log that contains a line is the one at a position, or one of the `below` logs below it. These have the next positions.
 abbrev pub is_within : ℕ → ℕ → Option ℕ → Bool
@@ -513,7 +527,7 @@ module _ (request : Request) (logs : List Log) (requested : List (List ℕ)) whe
   -- The limit of the log at a position.
   abbrev pub page_limit : ℕ → Limit
   page_limit position =
-      limit_of (tree_limits logs (options_of request) (page_outline request logs requested) request.max_bytes) (node_at (page_outline request logs requested) position).number
+      limit_of (tree_limits logs (page_outline request logs requested) request.max_bytes) (node_at (page_outline request logs requested) position).number
 
   -- What the section of the tree contains.
   abbrev pub IsTree : List Part → Type 0

@@ -1,10 +1,10 @@
 -- How much of long logs a page shows.
-use Rattle.std.specs.Prelude.{ℕ, zero, suc, ◌-◌, ◌/◌, ◌==◌, ◌||◌, ◌&&◌, max, min, not, nat_le, nat_lt, Bool, List, [], ◌∷◌, Option, None, Some, length, sum_by, if◌then◌else◌}
+use Rattle.std.specs.Prelude.{ℕ, ◌-◌, ◌/◌, ◌==◌, ◌||◌, ◌&&◌, max, min, not, nat_le, nat_lt, Bool, List, [], map, Option, None, Some, length, sum_by, if◌then◌else◌}
+use Rattle.std.specs.List.{range_with_len}
 use Rattle.redo_outline.specs.declared.node.Node.{Node}
 use Rattle.redo_html.specs.Cut.{last_where}
 use Rattle.redo_logs.specs.Logs.{Log}
-use Rattle.redo_options.specs.declared.options.Options.{Options}
-use Rattle.redo_page.specs.Tree.{Build, articles, is_moved, node_at, position_of}
+use Rattle.redo_page.specs.Tree.{articles, is_in_article, node_at, position_of}
 use Rattle.redo_trim.specs.declared.limit.Limit.{Limit}
 use Rattle.redo_trim.specs.Trim.{no_limit}
 
@@ -39,27 +39,22 @@ cap_for budget nodes = if budget == 0 || fit_in None budget nodes then None else
 abbrev pub limit_at : ℕ → ℕ → Limit
 limit_at cap bytes = record { head = cap / 4; tail = bytes - (cap - cap / 4) }
 
-module _ (build : Build) where
+-- `those` are the positions of the targets that have an article.
+module _ (those : List ℕ) (nodes : List Node) where
   -- The limit of the log at a position. An output that is in an article isn't cut.
   abbrev pub position_limit : ℕ → ℕ → Limit
   position_limit cap position =
-      if nat_lt cap (node_at build.nodes position).bytes && not (is_moved build position) then limit_at cap (node_at build.nodes position).bytes else no_limit
+      if nat_lt cap (node_at nodes position).bytes && not (is_in_article those nodes (Some position)) then limit_at cap (node_at nodes position).bytes else no_limit
 
   abbrev pub limit_if : ℕ → Option ℕ → Limit
   limit_if cap None = no_limit
   limit_if cap (Some position) = position_limit cap position
 
-  -- The limits of `count` logs, from the one with the number `number` on.
-  abbrev pub limits_from : ℕ → ℕ → ℕ → List Limit
-  limits_from cap number zero = []
-  limits_from cap number (suc count) = limit_if cap (position_of build.nodes number) ∷ limits_from cap (suc number) count
-
-  -- The limits of all logs, by their numbers.
+  -- The limits of `count` logs, by their numbers.
   abbrev pub limits_of : Option ℕ → ℕ → List Limit
   limits_of None count = []
-  limits_of (Some cap) count = limits_from cap 0 count
+  limits_of (Some cap) count = map (λ number. limit_if cap (position_of nodes number)) (range_with_len 0 count)
 
 -- The limits of all logs of a tree that shows at most `budget` bytes.
-abbrev pub tree_limits : List Log → Options → List Node → ℕ → List Limit
-tree_limits logs options nodes budget =
-    limits_of (record { logs = logs; options = options; nodes = nodes; articles = articles nodes }) (cap_for budget nodes) (length logs)
+abbrev pub tree_limits : List Log → List Node → ℕ → List Limit
+tree_limits logs nodes budget = limits_of (articles nodes) nodes (cap_for budget nodes) (length logs)

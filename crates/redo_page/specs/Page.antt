@@ -24,7 +24,7 @@ use Rattle.redo_page.specs.News.{NewsValue}
 use Rattle.redo_page.specs.Scope.{View}
 use Rattle.redo_page.specs.Summary.{summary_parts}
 use Rattle.redo_page.specs.Timeline.{timeline_parts}
-use Rattle.redo_page.specs.Tree.{Build, articles, no_node, root_failures, tree_parts, positions_where}
+use Rattle.redo_page.specs.Tree.{no_node, root_failures, tree_parts, positions_where}
 use Rattle.redo_trim.specs.Trim.{trim}
 use Rattle.redo_summary.specs.Summary.{Facts, summary_of}
 use Rattle.redo_summary.specs.Targets.{time_between}
@@ -99,7 +99,7 @@ run_times times = record { took = time_between times.began times.ended; ended = 
 
 -- The contents of the tree, without the middle of long logs. They have about `budget` bytes of text lines.
 abbrev pub tree_contents : List Log → Options → ℕ → List (List ℕ) → List Node → Contents
-tree_contents logs options budget requested nodes = trim (tree_limits logs options nodes budget) [] (contents_of (shown_events logs options requested))
+tree_contents logs options budget requested nodes = trim (tree_limits logs nodes budget) [] (contents_of (shown_events logs options requested))
 
 -- The timeline and the tree.
 abbrev pub body_parts : View → Options → ℕ → List (List ℕ) → List Part
@@ -120,10 +120,6 @@ module _ (request : Request) (logs : List Log) (requested : List (List ℕ)) whe
   -- What is new since the baseline.
   abbrev pub page_news : NewsValue
   page_news = news_of request.baseline logs page_outline
-
-  -- The build that the tree of the page shows.
-  abbrev pub page_build : Build
-  page_build = record { logs = logs; options = options_of request; nodes = page_outline; articles = articles page_outline }
 
   -- The contents of the tree.
   abbrev pub page_contents : Contents

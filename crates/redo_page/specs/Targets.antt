@@ -42,18 +42,13 @@ fact_parts parts = TextPart (codes " ") ∷ MarkupPart Small ∷ TextPart FACT_D
 abbrev pub lines_parts : ℕ → List Part
 lines_parts lines = parts_if (not (lines == 0)) (fact_parts (NumberPart lines ∷ TextPart (plural lines LINE.now LINES.now) ∷ []))
 
-abbrev pub warnings_parts : ℕ → List Part
-warnings_parts warnings =
+abbrev pub warnings_parts : ℕ → List ℕ → List ℕ → List Part
+warnings_parts warnings one many =
     parts_if (not (warnings == 0))
-    (fact_parts (MarkupPart Emphasis ∷ NumberPart warnings ∷ TextPart (plural warnings WARNING.now WARNINGS.now) ∷ MarkupPart EndEmphasis ∷ []))
+    (fact_parts (MarkupPart Emphasis ∷ NumberPart warnings ∷ TextPart (plural warnings one many) ∷ MarkupPart EndEmphasis ∷ []))
 
 abbrev pub below_parts : ℕ → List Part
 below_parts below = parts_if (not (below == 0)) (fact_parts (NumberPart below ∷ TextPart BELOW.now ∷ []))
-
-abbrev pub warnings_below_parts : ℕ → List Part
-warnings_below_parts warnings =
-    parts_if (not (warnings == 0))
-    (fact_parts (MarkupPart Emphasis ∷ NumberPart warnings ∷ TextPart (plural warnings WARNING_BELOW.now WARNINGS_BELOW.now) ∷ MarkupPart EndEmphasis ∷ []))
 
 -- How long a target took, if this is known.
 abbrev pub took_parts : Option ℕ → List Part
@@ -64,7 +59,8 @@ took_parts (Some ms) = fact_parts (words_parts (duration_words ms))
 abbrev pub facts_parts : Node → List Part
 facts_parts node =
     badge_parts node.status
-    ++ (took_parts node.took ++ (lines_parts node.lines ++ (warnings_parts node.warnings ++ (below_parts node.below ++ warnings_below_parts node.warnings_below))))
+    ++ (took_parts node.took ++ (lines_parts node.lines ++ (warnings_parts node.warnings WARNING.now WARNINGS.now
+    ++ (below_parts node.below ++ warnings_parts node.warnings_below WARNING_BELOW.now WARNINGS_BELOW.now))))
 
 -- What was done about a target's lock, as a word.
 abbrev pub how_word : How → List ℕ

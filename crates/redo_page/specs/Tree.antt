@@ -86,6 +86,15 @@ pub record Build : Type 0 where
 abbrev pub is_short : Node → Bool
 is_short node = not (node.lines == 0) && (nat_le node.lines 300 && nat_le node.bytes 40000)
 
+-- Whether a number is one of these.
+abbrev pub is_among : List ℕ → ℕ → Bool
+is_among numbers number = list_any (λ other. number == other) numbers
+
+-- Whether the output of the log at a position is in an article. `those` are the positions of the targets that have one.
+abbrev pub is_in_article : List ℕ → List Node → Option ℕ → Bool
+is_in_article those nodes None = false
+is_in_article those nodes (Some position) = is_among those position && is_short (node_at nodes position)
+
 abbrev pub is_empty : Node → Bool
 is_empty node = node.children == 0 && not node.others
 
@@ -199,16 +208,12 @@ note_parts kind text =
     else MarkupPart markup.NoteItem ∷ TextPart (note_prefix kind) ∷ TextPart text ∷ MarkupPart markup.EndItem ∷ []
 
 module _ (build : Build) where
-  abbrev pub has_article : ℕ → Bool
-  has_article position = list_any (λ other. position == other) build.articles
-
   -- Whether the output of a target is in its article.
   abbrev pub is_moved : ℕ → Bool
-  is_moved position = has_article position && is_short (node_at build.nodes position)
+  is_moved position = is_in_article build.articles build.nodes (Some position)
 
   abbrev pub is_moved_if : Option ℕ → Bool
-  is_moved_if None = false
-  is_moved_if (Some position) = is_moved position
+  is_moved_if position = is_in_article build.articles build.nodes position
 
   -- Whether a log is expanded when the page is opened: requested targets, those that failed, those around them, and the only log in an
   -- expanded one.

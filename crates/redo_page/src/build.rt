@@ -2,7 +2,7 @@
 ghost use Rattle.std.specs.Prelude.{◌≡◌};
 ghost use Rattle.redo_page.specs.Private.Referring.{build_value};
 ghost use Rattle.redo_outline.specs.Facts.{target_at};
-ghost use Rattle.redo_page.specs.Tree.{has_article, has_one_child, is_empty, is_expanded, is_moved, is_moved_if, is_same_position, is_silent, node_at, node_if, opening_position, position_of_name, is_in_level};
+ghost use Rattle.redo_page.specs.Tree.{has_one_child, is_among, is_empty, is_expanded, is_moved, is_moved_if, is_same_position, is_silent, node_at, node_if, opening_position, position_of_name, is_in_level};
 
 use crate::level::Level;
 use crate::nodes::{has_failed, is_short, node_at};
@@ -47,7 +47,7 @@ impl<'a> BuildRef<'a> {
     }
 
     fn has_article(&self, position: usize) -> bool
-        ensures { result ≡ has_article (build_value self.now) position }
+        ensures { result ≡ is_among (build_value self.now).articles position }
     {
         self.articles.iter().any(|other| position == *other)
     }

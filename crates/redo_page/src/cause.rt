@@ -1,9 +1,9 @@
 //! Why a target failed: the line of its output that tells it best.
-ghost use Rattle.std.specs.Prelude.{slice_get, ◌-◌, ◌<◌, ◌≡◌, length};
-ghost use Rattle.std.specs.Option.{option_copied, option_or};
+ghost use Rattle.std.specs.Prelude.{Some, if◌then◌else◌, slice_get, ◌-◌, ◌<◌, ◌≡◌, length};
+ghost use Rattle.std.specs.Option.{option_copied};
 ghost use Rattle.redo_html.specs.Symbols.{sequence_len};
 ghost use Rattle.redo_outline.specs.Facts.{entries_at, texts_of};
-ghost use Rattle.redo_page.specs.Errors.{begins_with, begins_with_error, cause_of, is_blank, is_error, is_letter, is_word_byte, is_word_end, unless_blank};
+ghost use Rattle.redo_page.specs.Errors.{begins_with, begins_with_error, cause_of, is_blank, is_error, is_letter, is_word_byte, is_word_end};
 
 use redo_html::{ESCAPE, sequence_size};
 use redo_logs::LogTable;
@@ -125,7 +125,7 @@ fn is_blank(line: &[u8]) -> bool
 
 // Returns the line unless it is blank, and otherwise the last one.
 fn last_filled<'a>(line: &'a [u8], last: Option<&'a [u8]>) -> Option<&'a [u8]>
-    ensures { option_copied result ≡ option_or (unless_blank line.now) (option_copied last.entry) }
+    ensures { option_copied result ≡ (if is_blank line.now then option_copied last.entry else Some line.now) }
 {
     if is_blank(line) { last } else { Some(line) }
 }

@@ -16,15 +16,15 @@ ghost use Rattle.redo_logs.specs.Logs.{Log};
 ghost use Rattle.redo_options.specs.declared.options.Options.{Options};
 ghost use Rattle.redo_view.specs.View.{find_unknown};
 ghost use Rattle.redo_outline.specs.declared.node.Node.{Node};
-ghost use Rattle.redo_page.specs.Laws.{AreBeginnings, AreNewLines, HasNewSection, ListsNews, news_shown, IsListedBefore, ContainRoots, ListsFailures, ShowsRecipe, HasSameShape, IsArticle, IsLog, IsOfTarget, IsOwnTag, IsRead, IsTree, IsRed, AreCountable, budget_of_tree, TellsItsTarget, article_id, article_link, event_lines, is_among, kept_lines, kept_within, lines_at, log_text, markup_of, page_lines, positioned_bytes, section_id, section_link, target_id, target_link, texts_of, unmoved_lines, part_chart, ChartsDraw, HasTimeline, end_shown, heading_shown, heading_tag, requested_shown, summary_shown, took_shown, page_limit, page_processor, page_targets, says_failed, title_in};
+ghost use Rattle.redo_page.specs.Laws.{AreBeginnings, AreNewLines, HasNewSection, ListsNews, news_shown, IsListedBefore, ContainRoots, ListsFailures, ShowsRecipe, HasSameShape, IsArticle, IsLog, IsOfTarget, IsOwnTag, IsRead, IsTree, IsRed, AreCountable, budget_of_tree, TellsItsTarget, article_id, article_link, event_lines, is_moved_at, kept_lines, kept_within, lines_at, log_text, markup_of, page_lines, positioned_bytes, section_id, section_link, target_id, target_link, texts_of, unmoved_lines, part_chart, ChartsDraw, HasTimeline, end_shown, heading_shown, heading_tag, requested_shown, summary_shown, took_shown, page_limit, page_processor, page_targets, says_failed, title_in};
 ghost use Rattle.redo_page.specs.Command.{command};
 ghost use Rattle.redo_page.specs.Failed.{is_dependent_failure};
 ghost use Rattle.redo_page.specs.Limits.{bytes_shown, highest_cap};
 ghost use Rattle.redo_page.specs.NewSection.{new_lines};
-ghost use Rattle.redo_page.specs.Page.{Request, page_build, page_events, page_html, page_outline, page_parts};
+ghost use Rattle.redo_page.specs.Page.{Request, page_events, page_html, page_outline, page_parts};
 ghost use Rattle.redo_page.specs.Article.{printed_by};
 ghost use Rattle.redo_page.specs.Recipe.{recipe_at};
-ghost use Rattle.redo_page.specs.Tree.{articles, root_failures, has_failed, is_moved, node_at, positions_where};
+ghost use Rattle.redo_page.specs.Tree.{articles, root_failures, has_failed, node_at, positions_where, is_among};
 ghost use Rattle.redo_html.specs.declared.chart.GroupKind.TheVariants.{Callers, Recipes, Untimed};
 ghost use Rattle.redo_trim.specs.Laws.{head_and_tail};
 ghost use Rattle.redo_summary.specs.Spans.{callers_of, marks_of, recipes_of, spans_of};
@@ -195,7 +195,7 @@ pub fn lines_are_shown()
         texts_of (page_lines request logs requested) ≡ flat_map event_lines (page_events request logs requested) }
     ensures tree { (request : Request) (logs : List Log) (requested : List (List ℕ)) (inside : List Part) →
         IsTree request logs requested inside → flat_map log_text inside
-        ≡ positioned_bytes (unmoved_lines (page_build request logs requested) (kept_lines request logs requested)) }
+        ≡ positioned_bytes (unmoved_lines (page_outline request logs requested) (kept_lines request logs requested)) }
     ensures whole { (request : Request) (logs : List Log) (requested : List (List ℕ)) → request.max_bytes ≡ 0 →
         find_unknown logs requested ≡ None → kept_lines request logs requested ≡ page_lines request logs requested }
     ensures fitting { (request : Request) (logs : List Log) (requested : List (List ℕ)) →
@@ -213,9 +213,9 @@ pub fn lines_are_shown()
         (inside : List Part) × IsTree request logs requested inside }
     ensures inside { (request : Request) (logs : List Log) (requested : List (List ℕ)) (position : ℕ) (inside : List Part) →
         IsLog request logs requested position inside → flat_map log_text inside
-        ≡ positioned_bytes (unmoved_lines (page_build request logs requested) (kept_within request logs requested position)) }
+        ≡ positioned_bytes (unmoved_lines (page_outline request logs requested) (kept_within request logs requested position)) }
     ensures articles { (request : Request) (logs : List Log) (requested : List (List ℕ)) → find_unknown logs requested ≡ None →
-        (position : ℕ) → is_moved (page_build request logs requested) position ≡ true →
+        (position : ℕ) → is_moved_at (page_outline request logs requested) (Some position) ≡ true →
         (inside : List Part) → IsArticle request logs requested position inside →
         flat_map log_text inside ≡ positioned_bytes (lines_at position (page_lines request logs requested)) }
     ensures excerpts { (request : Request) (logs : List Log) (requested : List (List ℕ)) (position : ℕ) (inside : List Part) →
@@ -223,7 +223,7 @@ pub fn lines_are_shown()
         AreBeginnings (flat_map log_text inside)
         (map with_line_feed (printed_by logs (node_at (page_outline request logs requested) position))) }
     ensures has_articles { (request : Request) (logs : List Log) (requested : List (List ℕ)) →
-        (position : ℕ) → is_moved (page_build request logs requested) position ≡ true →
+        (position : ℕ) → is_moved_at (page_outline request logs requested) (Some position) ≡ true →
         (inside : List Part) × IsArticle request logs requested position inside }
 {
     positions_are_of_nodes();

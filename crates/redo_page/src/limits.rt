@@ -85,7 +85,7 @@ fn limit_at(cap: u64, bytes: u64) -> Limit
 }
 
 fn position_limit(build: &BuildRef<'_>, cap: u64, position: usize) -> Limit
-    ensures { result ≡ position_limit (build_value build.now) cap position }
+    ensures { result ≡ position_limit (build_value build.now).articles (build_value build.now).nodes cap position }
 {
     let bytes = build.node(position).bytes;
     if cap < bytes && !build.is_moved(position) {
@@ -96,7 +96,7 @@ fn position_limit(build: &BuildRef<'_>, cap: u64, position: usize) -> Limit
 }
 
 fn limit_if(build: &BuildRef<'_>, cap: u64, position: Option<usize>) -> Limit
-    ensures { result ≡ limit_if (build_value build.now) cap position }
+    ensures { result ≡ limit_if (build_value build.now).articles (build_value build.now).nodes cap position }
 {
     match position {
         None => NO_LIMIT,
@@ -110,7 +110,8 @@ pub fn limits_of(
     build: &BuildRef<'_>,
     cap: Option<u64>,
 ) -> Result<Vec<Limit>, AllocError>
-    ensures { IfOk result (λ limits. limits.items ≡ limits_of (build_value build.now) cap (length build.now.table.now)) }
+    ensures { IfOk result (λ limits. limits.items
+        ≡ limits_of (build_value build.now).articles (build_value build.now).nodes cap (length build.now.table.now)) }
 {
     let mut limits = Vec::new(alloc);
     let Some(cap) = cap else {

@@ -1,7 +1,7 @@
 //! How targets are shown: names, statuses and counts.
 ghost use Rattle.std.specs.Prelude.{◌≡◌, nat_abs};
 ghost use Rattle.redo_page.specs.Private.Writing.{WroteParts};
-ghost use Rattle.redo_page.specs.Targets.{article_link_parts, name_parts, sign, exit_parts, badge_parts, plural, lines_parts, warnings_parts, below_parts, warnings_below_parts, facts_parts, how_word, how_parts, linked_parts, took_parts};
+ghost use Rattle.redo_page.specs.Targets.{article_link_parts, name_parts, sign, exit_parts, badge_parts, plural, lines_parts, warnings_parts, below_parts, facts_parts, how_word, how_parts, linked_parts, took_parts};
 
 use crate::labels::{
     BELOW, EXIT, FACT_DOT, LINE, LINES, LOCKED, MADE, NOT_CLOSED, UNCHANGED, UNLOCKED, WAITING,
@@ -122,8 +122,13 @@ fn write_lines<W: Sink>(lines: u64, page: &mut PageWriter<'_, W>)
     ])
 }
 
-fn write_warnings<W: Sink>(warnings: u64, page: &mut PageWriter<'_, W>)
-    ensures { WroteParts W.written page.old page.new (warnings_parts warnings) }
+fn write_warnings<'a, W: Sink>(
+    warnings: u64,
+    one: &'a [u8],
+    many: &'a [u8],
+    page: &mut PageWriter<'_, W>,
+)
+    ensures { WroteParts W.written page.old page.new (warnings_parts warnings one.now many.now) }
 {
     if warnings == 0 {
         return;
@@ -134,7 +139,7 @@ fn write_warnings<W: Sink>(warnings: u64, page: &mut PageWriter<'_, W>)
         Piece::Text(FACT_DOT),
         Piece::Markup(Markup::Emphasis),
         Piece::Number(warnings),
-        Piece::Text(plural(warnings, WARNING, WARNINGS)),
+        Piece::Text(plural(warnings, one, many)),
         Piece::Markup(Markup::EndEmphasis),
         Piece::Markup(Markup::EndSmall),
     ])
@@ -152,24 +157,6 @@ fn write_below<W: Sink>(below: usize, page: &mut PageWriter<'_, W>)
         Piece::Text(FACT_DOT),
         Piece::Number(below as u64),
         Piece::Text(BELOW),
-        Piece::Markup(Markup::EndSmall),
-    ])
-}
-
-fn write_warnings_below<W: Sink>(warnings: u64, page: &mut PageWriter<'_, W>)
-    ensures { WroteParts W.written page.old page.new (warnings_below_parts warnings) }
-{
-    if warnings == 0 {
-        return;
-    }
-    page.put(&[
-        Piece::Text(b" "),
-        Piece::Markup(Markup::Small),
-        Piece::Text(FACT_DOT),
-        Piece::Markup(Markup::Emphasis),
-        Piece::Number(warnings),
-        Piece::Text(plural(warnings, WARNING_BELOW, WARNINGS_BELOW)),
-        Piece::Markup(Markup::EndEmphasis),
         Piece::Markup(Markup::EndSmall),
     ])
 }
@@ -196,9 +183,9 @@ pub fn write_facts<W: Sink>(node: &Node, page: &mut PageWriter<'_, W>)
     write_badge(node.status, page);
     write_took(node.took, page);
     write_lines(node.lines, page);
-    write_warnings(node.warnings, page);
+    write_warnings(node.warnings, WARNING, WARNINGS, page);
     write_below(node.below, page);
-    write_warnings_below(node.warnings_below, page)
+    write_warnings(node.warnings_below, WARNING_BELOW, WARNINGS_BELOW, page)
 }
 
 fn word_of(how: How) -> &'static [u8]

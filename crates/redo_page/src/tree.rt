@@ -356,7 +356,7 @@ pub fn write_tree<W: Sink>(
     requires outline { length outline.now ≡ log_count (contents_of (shown_events table.now options.now requested.now)) }
     requires articles { positions.now ≡ articles outline.now }
     ensures { FormWrites (W.written out.old) (W.written out.new) (flat_map part_html
-        (streamed_tree table.now options.now outline.now (trim (tree_limits table.now options.now outline.now budget) []
+        (streamed_tree table.now options.now outline.now (trim (tree_limits table.now outline.now budget) []
         (contents_of (shown_events table.now options.now requested.now))))) result }
 {
     events_are_in_contents();

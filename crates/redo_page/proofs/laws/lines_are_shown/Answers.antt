@@ -14,11 +14,10 @@ use Rattle.redo_outline.specs.Facts.{entries_at, target_status, texts_of}
 use Rattle.redo_view.specs.LogLines.{lines_left_after}
 use Rattle.redo_page.specs.Article.{printed_by}
 use Rattle.redo_page.specs.Laws as laws
-use Rattle.redo_page.specs.Laws.{AreBeginnings, budget_of_tree, event_lines, lines_at, log_text, page_lines, positioned_bytes, positioned_lines}
+use Rattle.redo_page.specs.Laws.{AreBeginnings, budget_of_tree, event_lines, is_moved_at, lines_at, log_text, page_lines, positioned_bytes, positioned_lines}
 use Rattle.redo_page.proofs.PartNames.{log_bytes}
-use Rattle.redo_page.specs.Page.{Request, options_of, page_build, page_contents, page_events, page_outline, run_times}
-use Rattle.redo_page.specs.Tree as tree
-use Rattle.redo_page.specs.Tree.{articles, is_moved, is_short, node_at}
+use Rattle.redo_page.specs.Page.{Request, options_of, page_contents, page_events, page_outline, run_times}
+use Rattle.redo_page.specs.Tree.{articles, is_among, is_short, node_at}
 use Rattle.redo_page.specs.Limits.{tree_limits}
 use Rattle.redo_trim.specs.declared.limit.Limit.{Limit}
 use Rattle.redo_trim.specs.Laws.{head_and_tail}
@@ -62,12 +61,12 @@ same_number times (node ∷ nodes) (suc position) = same_number times nodes posi
 -- An article shows the lines of its log, if these are moved to it.
 moved_text : (request : Request) (logs : List Log) (requested : List (List ℕ))
     → lines_left_after logs [] (page_events request logs requested) ≡ Some []
-    → (position : ℕ) → is_moved (page_build request logs requested) position ≡ true
+    → (position : ℕ) → is_moved_at (page_outline request logs requested) (Some position) ≡ true
     → log_bytes (page_article request logs requested position) ≡ positioned_bytes (lines_at position (page_lines request logs requested))
 moved_text request logs requested shown position moved =
     let events = page_events request logs requested in
     let nodes = page_outline request logs requested in
-    let parts = and_parts (tree.has_article (page_build request logs requested) position) (is_short (node_at nodes position)) moved in
+    let parts = and_parts (is_among (articles nodes) position) (is_short (node_at nodes position)) moved in
     article_text logs nodes request.recipes position parts.1
     ∙ ap (λ (number : ℕ). flat_map with_line_feed (texts_of (entries_at number logs)))
     (same_number (map run_times request.times) (outline_of logs events) position)
@@ -102,7 +101,7 @@ returns-clause-bounded c = λ request logs requested some small few known inside
     let events = page_events request logs requested in
     let nodes = page_outline request logs requested in
     let options = options_of request in
-    let limits = tree_limits logs options nodes request.max_bytes in
+    let limits = tree_limits logs nodes request.max_bytes in
     let left = c.logs_show_their_lines.ensures logs options requested known in
     let fit = limits_fit logs options nodes request.max_bytes small
     (bytes_small (map run_times request.times) (outline_of logs events)
@@ -124,7 +123,7 @@ returns-clause-has_tree c = λ request logs requested. (in_tree_section request 
 
 pub returns-clause-has_articles : goal.returns-clause-has_articles
 returns-clause-has_articles c = λ request logs requested position moved.
-    let parts = and_parts (tree.has_article (page_build request logs requested) position)
+    let parts = and_parts (is_among (articles (page_outline request logs requested)) position)
     (is_short (node_at (page_outline request logs requested) position)) moved in
     (in_article_of request logs requested position, has_article request logs requested position parts.0)
 
@@ -140,8 +139,8 @@ returns-clause-whole c = λ request logs requested no_limit known.
     let events = page_events request logs requested in
     let nodes = page_outline request logs requested in
     let same = c.events_are_in_contents.ensures logs (options_of request) requested known in
-    unlimited logs events (tree_limits logs (options_of request) nodes request.max_bytes)
-    (ap (tree_limits logs (options_of request) nodes) no_limit)
+    unlimited logs events (tree_limits logs nodes request.max_bytes)
+    (ap (tree_limits logs nodes) no_limit)
     (sym (c.trimmed_events_are_in_tree.ensures.tree [] events same) ∙ ap contents_of (c.unlimited_logs_are_whole.ensures [] events tt))
 
 pub returns-clause-fitting : goal.returns-clause-fitting
@@ -149,7 +148,7 @@ returns-clause-fitting c = λ request logs requested fit known.
     let events = page_events request logs requested in
     let nodes = page_outline request logs requested in
     let same = c.events_are_in_contents.ensures logs (options_of request) requested known in
-    unlimited logs events (tree_limits logs (options_of request) nodes request.max_bytes)
+    unlimited logs events (tree_limits logs nodes request.max_bytes)
     (fitting_limits logs (options_of request) nodes request.max_bytes fit)
     (sym (c.trimmed_events_are_in_tree.ensures.tree [] events same) ∙ ap contents_of (c.unlimited_logs_are_whole.ensures [] events tt))
 
@@ -159,7 +158,7 @@ returns-clause-cut c = λ request logs requested small known position below.
     let nodes = page_outline request logs requested in
     let options = options_of request in
     let status = target_status logs events in
-    let limits = tree_limits logs options nodes request.max_bytes in
+    let limits = tree_limits logs nodes request.max_bytes in
     let have = contents_have_lines logs events (c.logs_show_their_lines.ensures logs options requested known) in
     let fit = limits_fit logs options nodes request.max_bytes small
     (bytes_small (map run_times request.times) (outline_of logs events) (nodes_small logs status None 0 (contents_of events))) in

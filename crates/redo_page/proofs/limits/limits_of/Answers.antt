@@ -10,4 +10,5 @@ loop-number-preserved c =
     next_limit build c.in-Some.cap c.loop-number.number (length c.args.build.now.table.now)
     (omega (arith, c.loop-number-test.true, c.len-number-end.ensures.len)) c.loop-number.limits.items c.push.new.self.items
     c.limit_if.result
-    (c.limit_if.ensures ∙ ap (limit_if build c.in-Some.cap) c.position_of.ensures) c.in_ok-push.ensures.items c.loop-number.invariant
+    (c.limit_if.ensures ∙ ap (limit_if build.articles build.nodes c.in-Some.cap) c.position_of.ensures)
+    c.in_ok-push.ensures.items c.loop-number.invariant

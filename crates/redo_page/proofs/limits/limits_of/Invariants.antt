@@ -1,5 +1,5 @@
 use Rattle.std.proofs.Common.{◌≡◌, ◌-◌, ◌++◌, length}
-use Rattle.redo_page.specs.Limits.{limits_from}
+use Rattle.redo_page.proofs.LimitLemmas.{limits_from}
 use Rattle.redo_page.specs.Private.Referring.{build_value}
 use Rattle.redo_page.proofs.limits.limits_of.Given as goal
 

@@ -23,7 +23,7 @@ returns-in_err-write_section_start g c =
     let options = c.args.options.now in
     let outline = c.args.outline.now in
     let shown = shown_events table options c.args.requested.now in
-    let limits = tree_limits table options outline c.args.budget in
+    let limits = tree_limits table outline c.args.budget in
     let build : Build = record { logs = table; options = options; nodes = outline; articles = c.args.positions.now } in
     let splits = cut_tree table options outline c.args.positions.now c.trimmed_events_are_in_tree.ensures.in_tree
     c.trimmed_events_are_in_tree.ensures.tree c.trimmed_events_are_in_tree.ensures.logs
@@ -42,10 +42,10 @@ returns g c =
     let options = c.args.options.now in
     let outline = c.args.outline.now in
     let shown = shown_events table options c.args.requested.now in
-    let limits = tree_limits table options outline c.args.budget in
+    let limits = tree_limits table outline c.args.budget in
     let build : Build = record { logs = table; options = options; nodes = outline; articles = c.args.positions.now } in
     let limits_are : c.in_ok-limits.limits.items ≡ limits =
-    c.in_ok-limits.ensures ∙ (λ i. limits_of (record { logs = table; options = options; nodes = outline; articles = c.requires.articles i })
+    c.in_ok-limits.ensures ∙ (λ i. limits_of (c.requires.articles i) outline
     ((c.cap_for.ensures ∙ ap (cap_for c.args.budget) c.nodes.ensures) i) (length table)) in
     let splits = cut_tree table options outline c.args.positions.now c.trimmed_events_are_in_tree.ensures.in_tree
     c.trimmed_events_are_in_tree.ensures.tree c.trimmed_events_are_in_tree.ensures.logs
