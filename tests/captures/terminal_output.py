@@ -314,7 +314,7 @@ def failed_commands(checks, at):
     checks.expect("three lines of one shell", make(folder)[2].startswith("redo-log-capture: all (exit 1)\n: a\n: b\nfalse\nmake: ***"), True)
     folder = project(at("missing"), "all: ; @./missing x\n")
     text = "make: ./missing: No such file or directory\nmake: *** [Makefile:1: all] Error 127\n"
-    checks.expect("a command that isn't there", make(folder), (2, "", text + failed("all", is_empty=True)))
+    checks.expect("a command that isn't there", make(folder), (2, "", text + failed("all", is_unstarted=True)))
     checks.expect("a command that isn't there: its log", "@@ 127 all\n" in log_of(folder, "all"), True)
 
 
